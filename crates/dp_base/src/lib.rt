@@ -1,0 +1,21 @@
+//! What every other crate of the recorder speaks of: thread numbers, slices and answers, the limits, the
+//! fields of the journal, and the definitions of the journal's bytes (`specs/Journal.antt`).
+//!
+//! Promises: what a field writer adds is what the reader of the same width takes, and no byte more; a journal
+//! value has one spelling, and no spelling begins another. Stands on `byteorder` for numbers in bytes.
+#![tactic(auto)]
+
+mod answer;
+mod bytes;
+mod out_of_memory;
+mod slice;
+mod tid;
+
+/// The limits of a recording, each with its unit.
+pub mod limits;
+
+pub use answer::Answer;
+pub use bytes::Bytes;
+pub use out_of_memory::OutOfMemory;
+pub use slice::Slice;
+pub use tid::Tid;

@@ -1,0 +1,32 @@
+/// Bytes of one page of guest memory.
+pub const PAGE_BYTES: u32 = 4096;
+
+/// Pages that a guest may have mapped at once.
+pub const MAX_PAGES: u32 = 1024;
+
+/// The first page number that no guest may map: all pages lie below FFFFF000 (hexadecimal).
+pub const PAGE_NUMBERS: u32 = 0xfffff;
+
+/// Number of the first page of thread 1's stack, at 7FFF0000 (hexadecimal).
+pub const FIRST_STACK_PAGE: u32 = 0x7fff0;
+
+/// Pages of thread 1's stack.
+pub const STACK_PAGES: u32 = 16;
+
+/// Where thread 1's stack pointer (x2) starts.
+pub const STACK_POINTER: u32 = 0x7fff_ffe0;
+
+/// Threads that a guest may make in a run, the first included.
+pub const MAX_THREADS: usize = 1024;
+
+/// Bytes that one read or write call moves at most.
+pub const MAX_CALL_BYTES: u32 = 4096;
+
+/// Steps of one epoch at most.
+pub const MAX_EPOCH_STEPS: u32 = 1_000_000;
+
+/// Bytes of a journal record's body at most.
+pub const MAX_BODY_BYTES: u32 = 16_777_216;
+
+/// Bytes of a journal at most: the recorder's room, and as much of a file as is read.
+pub const MAX_JOURNAL_BYTES: u64 = 1 << 30;
