@@ -1,0 +1,9 @@
+pub mod Memory
+pub mod Register
+pub mod Instruction
+pub mod Operands
+pub mod Step
+pub mod Threads
+pub mod State
+pub mod Call
+pub mod Turn

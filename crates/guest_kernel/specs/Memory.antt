@@ -1,0 +1,54 @@
+-- Guest memory: pages of 4,096 bytes, each with its number and its flags (execute 1, write 2, read 4), in rising
+-- order of number. Words are little-endian (RISC-V Unprivileged ISA 20191213, 1.4 and 1.5); pages and their flags
+-- are this machine's own.
+use Rattle.std.specs.Prelude.{◌≡◌, ◌+◌, ◌-◌, ◌*◌, ◌/◌, ◌%◌, ◌^◌, ◌<◌, ◌≤◌, ℕ, List, [], ◌∷◌, ◌++◌, length, map, All, slice_index, replicate, Option, Some, None, ◌==◌, if◌then◌else◌}
+use Rattle.std.specs.List.{find}
+use Rattle.std.specs.List.Sorted.{IsStrictlyIncreasing}
+use Rattle.std.specs.Option.{option_map}
+use Rattle.dp_base.specs.Field.{◌>>=◌}
+use Rattle.dp_base.specs.declared.limits.TheConstants.{MAX_PAGES, PAGE_BYTES, PAGE_NUMBERS}
+use Rattle.guest_kernel.specs.declared.pages.Page.{Page}
+
+abbrev pub Memory : Type 0
+Memory = List Page
+
+pub record IsPage (p : Page) : Type 0 where
+  pub number : p.number < PAGE_NUMBERS
+  pub flags : p.flags < 8
+  pub bytes : length p.bytes ≡ PAGE_BYTES
+
+-- what the pages of a guest always are
+pub record ArePages (memory : Memory) : Type 0 where
+  pub each : All IsPage memory
+  pub rising : IsStrictlyIncreasing (map (λ p. p.number) memory)
+  pub few : length memory ≤ MAX_PAGES
+
+-- a page with these bytes at its front, and zeros behind them
+abbrev pub page_with : ℕ → ℕ → List ℕ → Page
+page_with number flags contents = record { number = number; flags = flags; bytes = contents ++ replicate (PAGE_BYTES - length contents) 0 }
+
+-- the page with this number
+abbrev pub page_at : Memory → ℕ → Option Page
+page_at memory number = find (λ p. p.number == number) memory
+
+-- the byte at an address, and the flags of its page
+abbrev pub byte_at : Memory → ℕ → Option ℕ
+byte_at memory address = option_map (λ p. slice_index p.bytes (address % PAGE_BYTES)) (page_at memory (address / PAGE_BYTES))
+
+abbrev pub flags_at : Memory → ℕ → Option ℕ
+flags_at memory address = option_map (λ p. p.flags) (page_at memory (address / PAGE_BYTES))
+
+-- the byte at an address, where it may be executed
+abbrev pub code_byte : Memory → ℕ → Option ℕ
+code_byte memory address = do
+  flags ← flags_at memory address
+  if flags % 2 == 1 then byte_at memory address else None
+
+-- the word at an address, the lowest byte first; none where some byte of it may not be executed
+unfoldable pub fetch : Memory → ℕ → Option ℕ
+fetch memory address = do
+  lowest ← code_byte memory address
+  second ← code_byte memory (address + 1)
+  third ← code_byte memory (address + 2)
+  highest ← code_byte memory (address + 3)
+  Some (lowest + 2 ^ 8 * second + 2 ^ 16 * third + 2 ^ 24 * highest)

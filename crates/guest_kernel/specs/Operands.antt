@@ -1,0 +1,9 @@
+-- What an instruction's operands always are.
+use Rattle.std.specs.Prelude.{◌<◌, ℕ}
+use Rattle.guest_kernel.specs.declared.step.Instr.{Instr}
+use Rattle.guest_kernel.specs.declared.step.Instr.TheVariants.{Addi, Ecall}
+
+-- each register is one of the 32
+abbrev pub AreOperands : Instr → Type 0
+AreOperands (Addi d s immediate) = (d < 32) × (s < 32)
+AreOperands Ecall = Unit {0}

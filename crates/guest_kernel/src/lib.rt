@@ -1,0 +1,31 @@
+//! The guest machine: an RV32 program with threads that take turns, and the kernel that answers its calls.
+//!
+//! Promises: `load` accepts exactly the files of the definition (`specs/Image.antt`), `start` makes their start
+//! state, and each turn and each run of slices is the one of the definitions (`specs/Turn.antt`,
+//! `specs/Slices.antt`); `laws` says what follows from the definitions alone. Stands on `dp_base`.
+//!
+//! ```text
+//! let image = load(alloc, file)?;
+//! let mut state = start(alloc, &image)?;
+//! let slices = [Slice { tid: Tid(1), steps: 3 }];
+//! let mut out = Vec::new(alloc);
+//! match state.run_slices(alloc, &slices, &[], &mut out)? {
+//!     SliceRun::Whole => ..,
+//!     SliceRun::Stops { slice, step } => ..,
+//! }
+//! ```
+#![tactic(auto)]
+
+mod hart;
+mod kernel;
+mod pages;
+mod state;
+mod step;
+mod thread;
+
+pub use hart::Hart;
+pub use kernel::Turn;
+pub use pages::{Page, Pages};
+pub use state::{End, State};
+pub use step::{Instr, Stepped, decode, exec};
+pub use thread::{Thread, Threads};

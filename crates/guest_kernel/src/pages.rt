@@ -1,0 +1,136 @@
+// Guest memory: a table of pages, seen as the list of its pages in rising order of number.
+ghost use Rattle.std.specs.Prelude.{◌≡◌, ◌^◌, ◌<◌, ◌≤◌, ◌++◌, [], ◌∷◌, All, OnOk, OnErr, length, replicate, ◌-◌};
+ghost use Rattle.std.specs.Option.{option_copied, option_map};
+ghost use Rattle.guest_kernel.specs.Memory.{fetch, code_byte, page_at, page_with, ArePages};
+
+use dp_base::OutOfMemory;
+use dp_base::limits::{MAX_PAGES, PAGE_BYTES, PAGE_NUMBERS};
+use std::alloc::Global;
+use std::marker::Model;
+
+/// One page: its number (its address divided by 4,096), who may use it (execute 1, write 2, read 4), and its
+/// bytes.
+#[derive(Drop)]
+pub struct Page {
+    pub number: u32,
+    pub flags: u8,
+    pub bytes: [u8; 4096],
+}
+
+// Bytes with zeros behind them, up to a page.
+fn padded(contents: &[u8]) -> [u8; 4096]
+    requires { length contents.now ≤ PAGE_BYTES }
+    ensures bytes { result ≡ contents.now ++ replicate (PAGE_BYTES - length contents.now) 0 }
+    ensures size { length result ≡ PAGE_BYTES }
+{
+    let mut bytes = [0; 4096];
+    bytes[..contents.len()].copy_from_slice(contents);
+    bytes
+}
+
+/// The pages that a guest has mapped.
+#[derive(Drop)]
+pub struct Pages {
+    table: Vec<Page>,
+}
+
+impl Model for Pages {
+    ghost use Rattle.std.specs.Prelude.{List};
+    ghost use Rattle.guest_kernel.specs.declared.pages.Page.{Page};
+
+    ghost Value = { List Page };
+
+    ghost use Rattle.guest_kernel.specs.Memory.{ArePages};
+
+    ghost view = { λ p. p.table.items };
+
+    ghost invariant = { λ p. ArePages p.table.items };
+}
+
+impl Pages {
+    /// No page.
+    pub fn new(alloc: Global) -> Self
+        ensures { result ≡ [] }
+    {
+        Pages {
+            table: Vec::new(alloc),
+        }
+    }
+
+    /// How many pages are mapped.
+    pub fn pages(&self) -> u32
+        ensures count { result ≡ length self.now }
+        ensures kept { ArePages self.now }
+    {
+        self.table.len() as u32
+    }
+
+    /// Maps a page behind all that are mapped, with these bytes at its front and zeros behind them. An `Err`
+    /// changes nothing.
+    pub fn map_above(&mut self, number: u32, flags: u8, contents: &[u8]) -> Result<(), OutOfMemory>
+        requires above { All (λ p. p.number < number) self.old }
+        requires mappable { number < PAGE_NUMBERS }
+        requires known_flags { flags < 8 }
+        requires fits { length contents.now ≤ PAGE_BYTES }
+        requires room { length self.old < MAX_PAGES }
+        ensures ok { OnOk result (self.new ≡ self.old ++ page_with number flags contents.now ∷ []) }
+        ensures err { OnErr result (self.new ≡ self.old) }
+    {
+        let page = Page {
+            number,
+            flags,
+            bytes: padded(contents),
+        };
+        self.table.push(page)?;
+        Ok(())
+    }
+
+    /// The flags of the page with this number, where one is mapped.
+    pub fn flags(&self, number: u32) -> Option<u8>
+        ensures { result ≡ option_map (λ p. p.flags) (page_at self.now number) }
+    {
+        self.page(u64::from(number)).map(|page| page.flags)
+    }
+
+    /// The 4,096 bytes of the page with this number, where one is mapped.
+    pub fn page_bytes(&self, number: u32) -> Option<&[u8]>
+        ensures { option_copied result ≡ option_map (λ p. p.bytes) (page_at self.now number) }
+    {
+        match self.page(u64::from(number)) {
+            Some(page) => Some(&page.bytes),
+            None => None,
+        }
+    }
+
+    /// The word at an address, the lowest byte first; none where some byte of it may not be executed.
+    #[tactic(auto, unfolding(crate::specs::Memory::fetch))]
+    pub fn fetch(&self, address: u32) -> Option<u32>
+        ensures { result ≡ fetch self.now address }
+    {
+        let address = u64::from(address);
+        let lowest = self.code_byte(address)?;
+        let second = self.code_byte(address + 1)?;
+        let third = self.code_byte(address + 2)?;
+        let highest = self.code_byte(address + 3)?;
+        Some(u32::from_le_bytes([lowest, second, third, highest]))
+    }
+
+    // The byte at an address, where it may be executed.
+    fn code_byte(&self, address: u64) -> Option<u8>
+        requires { address < 2 ^ 33 }
+        ensures { result ≡ code_byte self.now address }
+    {
+        let page = self.page(address / 4096)?;
+        if page.flags % 2 == 1 {
+            Some(page.bytes[(address % 4096) as usize])
+        } else {
+            None
+        }
+    }
+
+    fn page(&self, number: u64) -> Option<&Page>
+        ensures { option_copied result ≡ page_at self.now number }
+    {
+        self.table.iter().find(|page| u64::from(page.number) == number)
+    }
+}

@@ -1,0 +1,77 @@
+// The guest's threads, numbered from 1.
+ghost use Rattle.std.specs.Prelude.{◌≡◌, ◌≤◌, ◌<◌, ◌-◌, ◌++◌, [], ◌∷◌, OnOk, OnErr, IfOk, IfSome, length, slice_set};
+ghost use Rattle.std.specs.Option.{option_copied};
+ghost use Rattle.guest_kernel.specs.Threads.{thread_at};
+
+use crate::hart::Hart;
+use dp_base::limits::MAX_THREADS;
+use dp_base::{OutOfMemory, Tid};
+use std::alloc::Global;
+use std::marker::Model;
+
+/// One thread of a guest.
+#[derive(Clone, Copy, Debug, PartialEq, Eq)]
+pub enum Thread {
+    /// It runs. Where its clear address isn't 0, that word is cleared as it exits.
+    Runs { hart: Hart, clear: u32 },
+    /// It waits for a wake at an address.
+    Waits { addr: u32, hart: Hart, clear: u32 },
+    /// It has exited with a code.
+    Gone(u32),
+}
+
+/// The threads that a guest has made, in order of number. At most 1,024.
+#[derive(Drop)]
+pub struct Threads {
+    items: Vec<Thread>,
+}
+
+impl Model for Threads {
+    ghost use Rattle.std.specs.Prelude.{List, length, ◌≤◌};
+    ghost use Rattle.guest_kernel.specs.declared.thread.Thread.{Thread};
+    ghost use Rattle.dp_base.specs.declared.limits.TheConstants.{MAX_THREADS};
+
+    ghost Value = { List Thread };
+
+    ghost view = { λ t. t.items.items };
+
+    ghost invariant = { λ t. length t.items.items ≤ MAX_THREADS };
+}
+
+impl Threads {
+    /// The one thread that a guest starts with.
+    pub fn one(alloc: Global, thread: Thread) -> Result<Self, OutOfMemory>
+        ensures { IfOk result (λ threads. threads ≡ thread ∷ []) }
+    {
+        let mut items = Vec::new(alloc);
+        items.push(thread)?;
+        Ok(Threads { items })
+    }
+
+    /// How many threads were made.
+    pub fn len(&self) -> usize
+        ensures count { result ≡ length self.now }
+        ensures few { result ≤ MAX_THREADS }
+    {
+        self.items.len()
+    }
+
+    /// The thread with this number; none where no such thread was made.
+    pub fn get(&self, tid: Tid) -> Option<&Thread>
+        ensures { option_copied result ≡ thread_at self.now tid }
+    {
+        if tid.0 == 0 {
+            return None;
+        }
+        self.items.get(tid.0 as usize - 1)
+    }
+
+    /// Puts a thread in the place of the one with this number. No other changes.
+    pub fn set(&mut self, tid: Tid, thread: Thread)
+        requires made { tid.0 ≤ length self.old }
+        requires numbered { 0 < tid.0 }
+        ensures { self.new ≡ slice_set self.old (tid.0 - 1) thread }
+    {
+        self.items[tid.0 as usize - 1] = thread;
+    }
+}
