@@ -7,3 +7,6 @@ pub mod Threads
 pub mod State
 pub mod Call
 pub mod Turn
+pub mod Segment
+pub mod Image
+pub mod Start

@@ -16,16 +16,22 @@
 //! ```
 #![tactic(auto)]
 
+mod guest_file;
 mod hart;
+mod image;
 mod kernel;
 mod pages;
+mod start_state;
 mod state;
 mod step;
 mod thread;
 
+pub use guest_file::load;
 pub use hart::Hart;
+pub use image::{Image, ImageFault, Segment, Segments};
 pub use kernel::Turn;
 pub use pages::{Page, Pages};
+pub use start_state::start;
 pub use state::{End, State};
 pub use step::{Instr, Stepped, decode, exec};
 pub use thread::{Thread, Threads};

@@ -131,6 +131,8 @@ impl Pages {
     fn page(&self, number: u64) -> Option<&Page>
         ensures { option_copied result ≡ page_at self.now number }
     {
-        self.table.iter().find(|page| u64::from(page.number) == number)
+        self.table
+            .iter()
+            .find(|page| u64::from(page.number) == number)
     }
 }

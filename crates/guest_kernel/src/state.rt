@@ -52,11 +52,13 @@ impl State {
                 hart.held = None;
                 self.threads.set(tid, Thread::Runs { hart, clear });
             }
-            Some(&Thread::Waits {
-                addr,
-                mut hart,
-                clear,
-            }) => {
+            Some(
+                &Thread::Waits {
+                    addr,
+                    mut hart,
+                    clear,
+                },
+            ) => {
                 hart.held = None;
                 self.threads.set(tid, Thread::Waits { addr, hart, clear });
             }

@@ -29,7 +29,11 @@ fn immediate(word: u32) -> u32
     ensures value { result ≡ immediate_i word }
 {
     let bits = word >> 20;
-    if bits < 0x800 { bits } else { bits + 0xffff_f000 }
+    if bits < 0x800 {
+        bits
+    } else {
+        bits + 0xffff_f000
+    }
 }
 
 /// The instruction that a word spells; none exactly where it is illegal.
