@@ -1,1 +1,4 @@
 pub mod PageTable
+pub mod Turns
+pub mod SliceRuns
+pub mod TurnTaken

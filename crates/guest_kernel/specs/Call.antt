@@ -1,6 +1,6 @@
 -- The kernel's calls (environment calls: RISC-V Unprivileged ISA 20191213, 2.8; their numbers and meanings are this
 -- machine's own). a7 (x17) has the call's number, a0 (x10) its argument and its answer. A row for each call.
-use Rattle.std.specs.Prelude.{◌≡◌, ◌-◌, ◌^◌, ℕ, List, [], Result, Ok, ◌==◌, if◌then◌else◌}
+use Rattle.std.specs.Prelude.{◌-◌, ◌^◌, ℕ, List, [], Result, Ok, ◌==◌, if◌then◌else◌}
 use Rattle.dp_base.specs.declared.answer.Answer.{Answer}
 use Rattle.dp_base.specs.declared.tid.Tid.{Tid}
 use Rattle.guest_kernel.specs.declared.hart.Hart.{Hart}

@@ -1,6 +1,6 @@
 -- The instructions (RISC-V Unprivileged ISA 20191213, chapter 24's listings): which word spells which, and what
 -- each does. A row for each instruction. ADDI: 2.4; ECALL: 2.8; fields and immediates: 2.2 and 2.3.
-use Rattle.std.specs.Prelude.{◌≡◌, ◌+◌, ◌-◌, ◌/◌, ◌%◌, ◌^◌, ℕ, Bool, Option, Some, None, ◌==◌, ◌&&◌, nat_lt, if◌then◌else◌}
+use Rattle.std.specs.Prelude.{◌+◌, ◌-◌, ◌/◌, ◌%◌, ◌^◌, ℕ, Bool, Option, Some, None, ◌==◌, ◌&&◌, nat_lt, if◌then◌else◌}
 use Rattle.guest_kernel.specs.declared.step.Instr.{Instr}
 use Rattle.guest_kernel.specs.declared.step.Instr.TheVariants.{Addi, Ecall}
 use Rattle.guest_kernel.specs.declared.hart.Hart.{Hart}

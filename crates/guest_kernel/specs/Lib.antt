@@ -10,3 +10,5 @@ pub mod Turn
 pub mod Segment
 pub mod Image
 pub mod Start
+pub mod Slices
+pub mod Stops

@@ -1,7 +1,7 @@
 -- Guest memory: pages of 4,096 bytes, each with its number and its flags (execute 1, write 2, read 4), in rising
 -- order of number. Words are little-endian (RISC-V Unprivileged ISA 20191213, 1.4 and 1.5); pages and their flags
 -- are this machine's own.
-use Rattle.std.specs.Prelude.{◌≡◌, ◌+◌, ◌-◌, ◌*◌, ◌/◌, ◌%◌, ◌^◌, ◌<◌, ◌≤◌, ℕ, List, [], ◌∷◌, ◌++◌, length, map, All, slice_index, replicate, Option, Some, None, ◌==◌, if◌then◌else◌}
+use Rattle.std.specs.Prelude.{◌≡◌, ◌+◌, ◌-◌, ◌*◌, ◌/◌, ◌%◌, ◌^◌, ◌<◌, ◌≤◌, ℕ, List, ◌++◌, length, map, All, slice_index, replicate, Option, Some, None, ◌==◌, if◌then◌else◌}
 use Rattle.std.specs.List.{find}
 use Rattle.std.specs.List.Sorted.{IsStrictlyIncreasing}
 use Rattle.std.specs.Option.{option_map}

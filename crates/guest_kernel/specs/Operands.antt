@@ -1,5 +1,5 @@
 -- What an instruction's operands always are.
-use Rattle.std.specs.Prelude.{◌<◌, ℕ}
+use Rattle.std.specs.Prelude.{◌<◌}
 use Rattle.guest_kernel.specs.declared.step.Instr.{Instr}
 use Rattle.guest_kernel.specs.declared.step.Instr.TheVariants.{Addi, Ecall}
 

@@ -1,5 +1,5 @@
 -- The state in which a guest starts. This machine's own.
-use Rattle.std.specs.Prelude.{◌≡◌, ◌/◌, ℕ, List, [], ◌∷◌, ◌++◌, map, replicate, None}
+use Rattle.std.specs.Prelude.{◌/◌, ℕ, List, [], ◌∷◌, ◌++◌, map, replicate, None}
 use Rattle.std.specs.List.{range_with_len}
 use Rattle.dp_base.specs.declared.limits.TheConstants.{PAGE_BYTES, FIRST_STACK_PAGE, STACK_PAGES, STACK_POINTER}
 use Rattle.guest_kernel.specs.declared.hart.Hart.{Hart}
@@ -8,7 +8,6 @@ use Rattle.guest_kernel.specs.declared.image.Segment.{Segment}
 use Rattle.guest_kernel.specs.declared.pages.Page.{Page}
 use Rattle.guest_kernel.specs.declared.state.State.{State}
 use Rattle.guest_kernel.specs.declared.state.End.TheVariants as ends
-use Rattle.guest_kernel.specs.declared.thread.Thread.{Thread}
 use Rattle.guest_kernel.specs.declared.thread.Thread.TheVariants.{Runs}
 use Rattle.guest_kernel.specs.Memory.{Memory, page_with}
 use Rattle.guest_kernel.specs.Register.{with_register}

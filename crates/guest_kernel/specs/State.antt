@@ -1,5 +1,5 @@
 -- The guest between two turns: memory, threads, heap start, break, input place, step count, end. This machine's own.
-use Rattle.std.specs.Prelude.{◌≡◌, ◌-◌, ◌+◌, ℕ, Bool, true, false, Option, Some, None, slice_set}
+use Rattle.std.specs.Prelude.{◌-◌, ◌+◌, Bool, true, false, Option, Some, None, slice_set}
 use Rattle.dp_base.specs.declared.tid.Tid.{Tid}
 use Rattle.guest_kernel.specs.declared.hart.Hart.{Hart}
 use Rattle.guest_kernel.specs.declared.thread.Thread.{Thread}

@@ -1,6 +1,6 @@
 -- One step of a hart: the first trap that applies, or its instruction. Their order, causes and values are this
 -- machine's own; the causes' numbers are those of the RISC-V privileged architecture.
-use Rattle.std.specs.Prelude.{◌≡◌, ◌%◌, ℕ, Option, Some, None, ◌==◌, if◌then◌else◌}
+use Rattle.std.specs.Prelude.{◌%◌, ℕ, Option, Some, None, ◌==◌, if◌then◌else◌}
 use Rattle.guest_kernel.specs.declared.step.Instr.{Instr}
 use Rattle.guest_kernel.specs.declared.step.Stepped.{Stepped}
 use Rattle.guest_kernel.specs.declared.step.Stepped.TheVariants as answers

@@ -1,5 +1,5 @@
 -- The threads of a guest, numbered from 1 in the order in which they were made. This machine's own.
-use Rattle.std.specs.Prelude.{◌≡◌, ◌-◌, ℕ, List, Option, None, slice_get, ◌==◌, if◌then◌else◌}
+use Rattle.std.specs.Prelude.{◌-◌, List, Option, None, slice_get, ◌==◌, if◌then◌else◌}
 use Rattle.dp_base.specs.declared.tid.Tid.{Tid}
 use Rattle.guest_kernel.specs.declared.thread.Thread.{Thread}
 

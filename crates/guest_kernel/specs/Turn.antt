@@ -1,5 +1,5 @@
 -- One turn of a thread. This machine's own.
-use Rattle.std.specs.Prelude.{◌≡◌, ℕ, Bool, List, [], ◌++◌, length, Option, Some, None, Result, Ok, Err, nat_lt, if◌then◌else◌}
+use Rattle.std.specs.Prelude.{ℕ, List, ◌++◌, length, Option, Some, None, Result, Ok, Err, nat_lt, if◌then◌else◌}
 use Rattle.std.specs.Option.{option_copied, option_to_list}
 use Rattle.std.specs.Borrow.{Bor}
 use Rattle.dp_base.specs.declared.answer.Answer.{Answer}

@@ -1,4 +1,4 @@
-use Rattle.std.proofs.Common.{◌≡◌, ◌<◌, ◌+◌, ◌-◌, ◌++◌, [], ◌∷◌, ℕ, All, length, map, sym, ap, ◌∙◌, append_assoc, arith}
+use Rattle.std.proofs.Common.{◌≡◌, ◌<◌, ◌+◌, ◌-◌, ◌++◌, [], ◌∷◌, ℕ, length, map, sym, ap, ◌∙◌, append_assoc, arith}
 use Rattle.std.specs.List.{range_with_len}
 use Rattle.std.proofs.lemmas.List.{length_push}
 use Rattle.std.proofs.lemmas.List.Elements.{All-push, All-weaker}
@@ -26,7 +26,7 @@ loop-number-preserved c =
     let grown : c.map_above.new.self ≡ pages ++ stack_page k ∷ [] = c.in_ok-map_above.ensures.ok in
     record {
       mapped = grown ∙ ap (λ (m : Memory). m ++ stack_page k ∷ []) so_far.mapped ∙ with_stack_more first (k - FIRST_STACK_PAGE) k (omega arith)
-      ∙ ap (with_stack first) (let e : k - FIRST_STACK_PAGE + 1 ≡ k + 1 - FIRST_STACK_PAGE = omega arith in e);
+          ∙ ap (with_stack first) (let e : k - FIRST_STACK_PAGE + 1 ≡ k + 1 - FIRST_STACK_PAGE = omega arith in e);
       below = rw grown (All-push (λ p. p.number < k + 1) pages (stack_page k) (All-weaker (λ p. p.number < k) (λ p. p.number < k + 1) (λ p h. omega arith) pages so_far.below) (omega arith));
       count = omega (arith, ap length grown, length_push pages (stack_page k));
     }

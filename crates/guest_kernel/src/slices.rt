@@ -1,0 +1,81 @@
+// Runs of slices, as a journal has them.
+ghost use Rattle.std.specs.Prelude.{◌≡◌, ◌+◌, ◌<◌, ◌≤◌, ◌^◌, ℕ, List, IfOk, OnErr, length, drop, sum_by};
+ghost use Rattle.dp_base.specs.Journal.{steps_of};
+ghost use Rattle.guest_kernel.specs.Slices.{at, turns, run};
+ghost use Rattle.guest_kernel.specs.Stops.{at_step, told_run, IsAfterSome, IsAfterTurns};
+
+use crate::kernel::Turn;
+use crate::state::State;
+use dp_base::{Answer, OutOfMemory, Slice};
+use std::alloc::Global;
+
+/// Where a run of slices came to.
+#[derive(Clone, Copy, Debug, PartialEq, Eq)]
+pub enum SliceRun {
+    /// Each turn was taken, and each answer was used.
+    Whole,
+    /// The first turn that isn't defined: so many slices were done before it, and so many steps of its own. Where
+    /// answers are left over: behind the last slice, at step 0.
+    Stops { slice: usize, step: u32 },
+}
+
+impl State {
+    /// Runs slices one after another, with a log of answers. What the guest writes is added to `out`. After `Stops`
+    /// and after an `Err` the state and `out` are those behind the turns before.
+    pub fn run_slices(
+        &mut self,
+        alloc: Global,
+        slices: &[Slice],
+        answers: &[Answer],
+        out: &mut Vec<u8>,
+    ) -> Result<SliceRun, OutOfMemory>
+        requires few_steps { self.old.steps < 2 ^ 63 + 2 ^ 47 }
+        requires little_input { self.old.input < 2 ^ 63 + 2 ^ 47 }
+        requires few_more { steps_of slices.now < 2 ^ 62 }
+        ensures run { IfOk result (λ told. told_run told self.new out.new.items (run slices.now (at self.old out.old.items answers.now))) }
+        ensures err { OnErr result (IsAfterSome slices.now (at self.old out.old.items answers.now) self.new out.new.items) }
+    {
+        let mut taken = 0;
+        for (index, slice) in slices.iter().enumerate() {
+            if let Some(step) = self.run_slice(alloc, *slice, answers, &mut taken, out)? {
+                return Ok(SliceRun::Stops { slice: index, step });
+            }
+            self.end_slice(slice.tid);
+        }
+        if taken < answers.len() {
+            return Ok(SliceRun::Stops {
+                slice: slices.len(),
+                step: 0,
+            });
+        }
+        Ok(SliceRun::Whole)
+    }
+
+    // The turns of one slice. `taken` counts the answers that were used. Answers at which step it stops, if it does.
+    fn run_slice(
+        &mut self,
+        alloc: Global,
+        slice: Slice,
+        answers: &[Answer],
+        taken: &mut usize,
+        out: &mut Vec<u8>,
+    ) -> Result<Option<u32>, OutOfMemory>
+        requires within { taken.old ≤ length answers.now }
+        requires few_steps { self.old.steps + slice.steps < 2 ^ 64 }
+        ensures within { taken.new ≤ length answers.now }
+        ensures turns { IfOk result (λ stop. turns 0 slice.steps slice.tid (at self.old out.old.items (drop taken.old answers.now))
+            ≡ at_step stop (at self.new out.new.items (drop taken.new answers.now))) }
+        ensures steps { self.new.steps ≤ self.old.steps + slice.steps }
+        ensures err { OnErr result (IsAfterTurns slice.steps slice.tid (at self.old out.old.items (drop taken.old answers.now)) self.new out.new.items) }
+    {
+        for step in 0..slice.steps {
+            let Turn::Stepped { used } = self.turn(alloc, slice.tid, answers.get(*taken), out)? else {
+                return Ok(Some(step));
+            };
+            if used {
+                *taken += 1;
+            }
+        }
+        Ok(None)
+    }
+}
