@@ -19,7 +19,7 @@ either-either (Ok x) f g h k = refl
 either-either (Err e) f g h k = refl
 
 -- two ways to go on that are one
-either-alike : {X E Y : Type 0} (r : Result X E) (f : E → Y) (g h : X → Y) → ((x : X) → g x ≡ h x) → either r f g ≡ either r f h
+pub either-alike : {X E Y : Type 0} (r : Result X E) (f : E → Y) (g h : X → Y) → ((x : X) → g x ≡ h x) → either r f g ≡ either r f h
 either-alike (Ok x) f g h same = same x
 either-alike (Err e) f g h same = refl
 

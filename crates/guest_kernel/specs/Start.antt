@@ -2,6 +2,7 @@
 use Rattle.std.specs.Prelude.{◌/◌, ℕ, List, [], ◌∷◌, ◌++◌, map, replicate, None}
 use Rattle.std.specs.List.{range_with_len}
 use Rattle.dp_base.specs.declared.limits.TheConstants.{PAGE_BYTES, FIRST_STACK_PAGE, STACK_PAGES, STACK_POINTER}
+use Rattle.dp_base.specs.declared.tid.Tid.{Tid}
 use Rattle.guest_kernel.specs.declared.hart.Hart.{Hart}
 use Rattle.guest_kernel.specs.declared.image.Image.{Image}
 use Rattle.guest_kernel.specs.declared.image.Segment.{Segment}
@@ -26,6 +27,10 @@ start_memory segments = map segment_page segments ++ map stack_page (range_with_
 -- thread 1 at the entry, x2 the stack's pointer, all else 0
 abbrev pub start_hart : ℕ → Hart
 start_hart entry = with_register (record { pc = entry; x = replicate 31 0; held = None }) 2 STACK_POINTER
+
+-- the thread that a guest starts with
+abbrev pub first_thread : Tid
+first_thread = record { 0 = 1 }
 
 abbrev pub start_of : Image → State
 start_of image = record {
