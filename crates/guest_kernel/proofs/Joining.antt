@@ -8,7 +8,7 @@ use Rattle.dp_base.specs.Journal.{Epoch}
 use Rattle.guest_kernel.specs.declared.state.State.{State}
 use Rattle.guest_kernel.specs.Call.{After, Refusal}
 use Rattle.guest_kernel.specs.Turn.{turn}
-use Rattle.guest_kernel.specs.Slices.{Stop, at, either, turns, slices, slice_ended, joined, run, used_up, chain}
+use Rattle.guest_kernel.specs.Slices.{Stop, at, either, turns, slices, slice_ended, joined, run, used_up, chain, onto, chained}
 use Rattle.guest_kernel.proofs.Turns.{relogged, turn-log}
 use Rattle.guest_kernel.proofs.SliceRuns.{either-either, either-alike, slices-append}
 
@@ -83,20 +83,12 @@ run-append s xs ys first second mid end front back =
     let end_is : shifted mid.output [] end ≡ joined mid end = ap (at end.state (mid.output ++ end.output)) (append-nil end.rest) in
     run_whole (xs ++ ys) (at s [] (first ++ second)) (joined mid end) (record {
       ran = slices-append 0 xs ys (at s [] (first ++ second))
-      ∙ ap (λ (r : Result After (Stop × After)). either r Err (λ there. slices (0 + length xs) ys there)) to_mid
-      ∙ ap (slices (0 + length xs) ys) start_is ∙ from_mid ∙ ap (λ (x : After). Ok x) end_is;
+          ∙ ap (λ (r : Result After (Stop × After)). either r Err (λ there. slices (0 + length xs) ys there)) to_mid
+          ∙ ap (slices (0 + length xs) ys) start_is ∙ from_mid ∙ ap (λ (x : After). Ok x) end_is;
       empty = b.empty;
     })
 
 -- ---- chains
-
--- a chain's end, with this output before its own
-abbrev pub onto : List ℕ → State × List ℕ → Result (State × List ℕ) ℕ
-onto output end = Ok (end.0, output ++ end.1)
-
--- behind a chain that ends here with this output
-abbrev pub chained : ℕ → List ℕ → Result (State × List ℕ) ℕ → Result (State × List ℕ) ℕ
-chained count output r = either r (λ n. Err (count + n)) (onto output)
 
 again : (r : Result (State × List ℕ) ℕ) (count : ℕ) (a b : List ℕ) → chained 1 a (chained count b r) ≡ chained (1 + count) (a ++ b) r
 again (Ok end) count a b = ap (λ (o : List ℕ). Ok (end.0, o)) (sym (append_assoc a b end.1))
@@ -114,7 +106,7 @@ one_before (Err n) output = ap (λ k. Err k) (omega arith)
 behind_one : (output : List ℕ) (bs : List Epoch) (count : ℕ) (r : Result (State × List ℕ) ℕ) (tail : Result (State × List ℕ) ℕ)
     → tail ≡ either r Err (λ mid. chained count mid.1 (chain mid.0 bs))
     → either tail (λ n. Err (n + 1)) (onto output)
-      ≡ either (either r (λ n. Err (n + 1)) (onto output)) Err (λ mid. chained (suc count) mid.1 (chain mid.0 bs))
+    ≡ either (either r (λ n. Err (n + 1)) (onto output)) Err (λ mid. chained (suc count) mid.1 (chain mid.0 bs))
 behind_one output bs count (Err n) tail is = ap (λ (t : Result (State × List ℕ) ℕ). either t (λ n. Err (n + 1)) (onto output)) is
 behind_one output bs count (Ok mid) tail is =
     let one : 1 + count ≡ suc count = omega arith in
@@ -128,7 +120,7 @@ unfolding chain
 chain-append s [] bs = sym (none_before (chain s bs))
 chain-append s (e ∷ es) bs =
     either-alike (run e.slices (at s [] e.answers)) (λ stop. Err 0)
-      (λ here. either (chain here.state (es ++ bs)) (λ n. Err (n + 1)) (onto here.output))
-      (λ here. either (either (chain here.state es) (λ n. Err (n + 1)) (onto here.output)) Err (λ mid. chained (suc (length es)) mid.1 (chain mid.0 bs)))
-      (λ here. behind_one here.output bs (length es) (chain here.state es) (chain here.state (es ++ bs)) (chain-append here.state es bs))
+    (λ here. either (chain here.state (es ++ bs)) (λ n. Err (n + 1)) (onto here.output))
+    (λ here. either (either (chain here.state es) (λ n. Err (n + 1)) (onto here.output)) Err (λ mid. chained (suc (length es)) mid.1 (chain mid.0 bs)))
+    (λ here. behind_one here.output bs (length es) (chain here.state es) (chain here.state (es ++ bs)) (chain-append here.state es bs))
     ∙ sym (either-either (run e.slices (at s [] e.answers)) (λ stop. Err 0) (λ here. either (chain here.state es) (λ n. Err (n + 1)) (onto here.output)) Err (λ mid. chained (suc (length es)) mid.1 (chain mid.0 bs)))

@@ -6,7 +6,7 @@ use Rattle.dp_base.specs.declared.slice.Slice.{Slice}
 use Rattle.dp_base.specs.declared.tid.Tid.{Tid}
 use Rattle.guest_kernel.specs.Call.{After}
 use Rattle.guest_kernel.specs.Turn.{turn}
-use Rattle.guest_kernel.specs.Slices.{Stop, either, turns, slices, slice_ended, joined, run, used_up}
+use Rattle.guest_kernel.specs.Slices.{Stop, either, turns, slices, slice_ended, joined, run, used_up, one_slice}
 use Rattle.guest_kernel.specs.declared.state.State.{State}
 use Rattle.guest_kernel.specs.declared.thread.Thread.{Thread}
 use Rattle.guest_kernel.specs.declared.thread.Thread.TheVariants.{Runs, Waits, Gone}
@@ -33,8 +33,8 @@ turns-add taken (suc n) m tid here =
     let one : suc n + m ≡ suc (n + m) = omega arith in
     let moved : taken + suc n ≡ (taken + 1) + n = omega arith in
     rw (one, moved) (either-alike (turn here.state tid here.rest) (λ refusal. Err (taken, here)) (λ after. turns (taken + 1) (n + m) tid (joined here after))
-      (λ after. either (turns (taken + 1) n tid (joined here after)) Err (λ there. turns ((taken + 1) + n) m tid there))
-      (λ after. turns-add (taken + 1) n m tid (joined here after))
+    (λ after. either (turns (taken + 1) n tid (joined here after)) Err (λ there. turns ((taken + 1) + n) m tid there))
+    (λ after. turns-add (taken + 1) n m tid (joined here after))
     ∙ sym (either-either (turn here.state tid here.rest) (λ refusal. Err (taken, here)) (λ after. turns (taken + 1) n tid (joined here after)) Err (λ there. turns ((taken + 1) + n) m tid there)))
 
 pub slices-append : (done : ℕ) (xs ys : List Slice) (here : After) → slices done (xs ++ ys) here ≡ either (slices done xs here) Err (λ there. slices (done + length xs) ys there)
@@ -43,8 +43,8 @@ slices-append done [] ys here = let same : done + zero ≡ done = omega arith in
 slices-append done (x ∷ xs) ys here =
     let moved : done + suc (length xs) ≡ (done + 1) + length xs = omega arith in
     rw moved (either-alike (turns 0 x.steps x.tid here) (λ stop. Err (record { slice = done; step = stop.0 }, stop.1)) (λ after. slices (done + 1) (xs ++ ys) (slice_ended x.tid after))
-      (λ after. either (slices (done + 1) xs (slice_ended x.tid after)) Err (λ there. slices ((done + 1) + length xs) ys there))
-      (λ after. slices-append (done + 1) xs ys (slice_ended x.tid after))
+    (λ after. either (slices (done + 1) xs (slice_ended x.tid after)) Err (λ there. slices ((done + 1) + length xs) ys there))
+    (λ after. slices-append (done + 1) xs ys (slice_ended x.tid after))
     ∙ sym (either-either (turns 0 x.steps x.tid here) (λ stop. Err (record { slice = done; step = stop.0 }, stop.1)) (λ after. slices (done + 1) xs (slice_ended x.tid after)) Err (λ there. slices ((done + 1) + length xs) ys there)))
 
 -- ---- behind the slices so far
@@ -97,3 +97,20 @@ dropping-steps s tid (Some (Gone code)) = refl
 
 pub without_reservation-steps : (s : State) (tid : Tid) → (without_reservation s tid).steps ≡ s.steps
 without_reservation-steps s tid = dropping-steps s tid (thread_at s.threads tid)
+
+dropping-end : (s : State) (tid : Tid) (t : Option Thread) → (dropping s tid t).end ≡ s.end
+dropping-end s tid None = refl
+dropping-end s tid (Some (Runs hart clear)) = refl
+dropping-end s tid (Some (Waits addr hart clear)) = refl
+dropping-end s tid (Some (Gone code)) = refl
+
+pub without_reservation-end : (s : State) (tid : Tid) → (without_reservation s tid).end ≡ s.end
+without_reservation-end s tid = dropping-end s tid (thread_at s.threads tid)
+
+-- the turns of one thread as a run of one slice
+pub run-one_slice : (tid : Tid) (steps : ℕ) (start there : After) → turns 0 steps tid start ≡ Ok there → there.rest ≡ [] → run (one_slice tid steps) start ≡ Ok (slice_ended tid there)
+unfolding slices
+run-one_slice tid steps start there ran empty =
+    let sliced : slices 0 (one_slice tid steps) start ≡ Ok (slice_ended tid there) =
+    ap (λ (r : Result After (ℕ × After)). either r (λ stop. Err (record { slice = 0; step = stop.0 }, stop.1)) (λ after. slices (0 + 1) [] (slice_ended tid after))) ran in
+    ap (λ (r : Result After (Stop × After)). either r Err (λ after. used_up 1 after after.rest)) sliced ∙ ap (used_up 1 (slice_ended tid there)) empty

@@ -45,7 +45,7 @@ by_result_taken s tid front log out used s' out' (Ok after) by_log by_front coun
     record {
       unused = tested ∙ ap (λ (l : List Answer). nat_lt (length l) (length front)) rest ∙ le-ltb (length front) (length front) (omega arith);
       one = λ taken. ap (λ (q : Result After Refusal). either q (λ refusal. Err (taken, at s out log)) (λ (b : After). turns (taken + 1) 0 tid (joined (at s out log) b))) by_log
-      ∙ ap (λ (p : State × List ℕ). Ok (at p.0 p.1 log)) (let e : (after.state, out ++ after.output) ≡ (s', out') = cc in e);
+          ∙ ap (λ (p : State × List ℕ). Ok (at p.0 p.1 log)) (let e : (after.state, out ++ after.output) ≡ (s', out') = cc in e);
       counts = ap (λ (t : State). t.steps) state ∙ counts;
     }
 

@@ -24,7 +24,7 @@ relogged log (Err refusal) = Err refusal
 called-log : (s : State) (tid : Tid) (hart : Hart) (clear : ℕ) (log other : List Answer) → called s tid hart clear log ≡ relogged log (called s tid hart clear other)
 called-log s tid hart clear log other =
     elim (number_of hart == 1) as (λ b. cond b (silent (exits_all s tid hart clear) log) (silent (unknown s tid hart clear) log) ≡ relogged log (cond b (silent (exits_all s tid hart clear) other) (silent (unknown s tid hart clear) other)))
-      [ true ↦ refl | false ↦ refl ]
+    [ true ↦ refl | false ↦ refl ]
 
 by_effect-log : (s : State) (tid : Tid) (hart : Hart) (clear : ℕ) (log other : List Answer) (e : Effect) → by_effect s tid hart clear log e ≡ relogged log (by_effect s tid hart clear other e)
 by_effect-log s tid hart clear log other (goes after) = refl
@@ -41,7 +41,7 @@ pub turn-log : (s : State) (tid : Tid) (log other : List Answer) → turn s tid 
 unfolding turn
 turn-log s tid log other =
     elim (has_ended s.end) as (λ b. cond b (Err not_runnable) (by_thread s tid log (thread_at s.threads tid)) ≡ relogged log (cond b (Err not_runnable) (by_thread s tid other (thread_at s.threads tid))))
-      [ true ↦ refl | false ↦ by_thread-log s tid log other (thread_at s.threads tid) ]
+    [ true ↦ refl | false ↦ by_thread-log s tid log other (thread_at s.threads tid) ]
 
 -- ---- a turn counts as one step
 
@@ -68,4 +68,4 @@ pub turn_counts_once : (s : State) (tid : Tid) (log : List Answer) → CountsOnc
 unfolding turn
 turn_counts_once s tid log =
     elim (has_ended s.end) as (λ b. CountsOnce s (cond b (Err not_runnable) (by_thread s tid log (thread_at s.threads tid))))
-      [ true ↦ tt | false ↦ by_thread_counts s tid log (thread_at s.threads tid) ]
+    [ true ↦ tt | false ↦ by_thread_counts s tid log (thread_at s.threads tid) ]

@@ -57,6 +57,10 @@ used_up count here (answer ∷ others) = Err (record { slice = count; step = 0 }
 abbrev pub run : List Slice → After → Result After (Stop × After)
 run slices_of here = either (slices 0 slices_of here) Err (λ after. used_up (length slices_of) after after.rest)
 
+-- so many steps of one thread
+abbrev pub one_slice : Tid → ℕ → List Slice
+one_slice tid steps = record { tid = tid; steps = steps } ∷ []
+
 -- ---- chains
 
 -- Epochs, each from the state in which the one before ended: the last state and the whole output. Err: how many ran before the first
@@ -66,3 +70,11 @@ chain s [] = Ok (s, [])
 chain s (epoch ∷ epochs) = either (run epoch.slices (at s [] epoch.answers))
     (λ stop. Err 0)
     (λ here. either (chain here.state epochs) (λ count. Err (count + 1)) (λ end. Ok (end.0, here.output ++ end.1)))
+
+-- a chain's end, with this output before its own
+abbrev pub onto : List ℕ → State × List ℕ → Result (State × List ℕ) ℕ
+onto output end = Ok (end.0, output ++ end.1)
+
+-- behind a chain that ends here with this output
+abbrev pub chained : ℕ → List ℕ → Result (State × List ℕ) ℕ → Result (State × List ℕ) ℕ
+chained count output r = either r (λ n. Err (count + n)) (onto output)

@@ -69,7 +69,8 @@ impl State {
         ensures err { OnErr result (IsAfterTurns slice.steps slice.tid (at self.old out.old.items (drop taken.old answers.now)) self.new out.new.items) }
     {
         for step in 0..slice.steps {
-            let Turn::Stepped { used } = self.turn(alloc, slice.tid, answers.get(*taken), out)? else {
+            let Turn::Stepped { used } = self.turn(alloc, slice.tid, answers.get(*taken), out)?
+            else {
                 return Ok(Some(step));
             };
             if used {

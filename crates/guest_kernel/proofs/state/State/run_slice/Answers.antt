@@ -26,7 +26,7 @@ pub returns-in_default : goal.returns-in_default
 returns-in_default c =
     let log = drop c.loop-step.taken c.args.answers.now in
     let refused = turn_refused c.loop-step.self c.args.slice.tid (log_of c.get.result) log c.loop-step.out.items c.in_ok-used.field-0 c.turn.new.self c.turn.new.out.items
-      c.in_ok-used.ensures.answer c.in_default.not-Stepped c.in_ok-used.ensures.state c.in_ok-used.ensures.output in
+    c.in_ok-used.ensures.answer c.in_default.not-Stepped c.in_ok-used.ensures.state c.in_ok-used.ensures.output in
     record {
       within = c.loop-step.invariant.within;
       turns = stops_here _ c.loop-step.step c.args.slice.steps c.loop-step.self c.args.slice.tid log c.loop-step.out.items c.turn.new.self c.turn.new.out.items c.loop-step-test.true c.loop-step.invariant.so_far refused;
@@ -38,7 +38,7 @@ pub loop-step-preserved : goal.loop-step-preserved
 loop-step-preserved c =
     let log = drop c.loop-step.taken c.args.answers.now in
     let taken = turn_taken c.loop-step.self c.args.slice.tid (log_of c.get.result) log c.loop-step.out.items c.in-Stepped.used c.turn.new.self c.turn.new.out.items
-      (sym c.in-Stepped.is ∙ c.in_ok-used.ensures.answer) c.in_ok-used.ensures.state c.in_ok-used.ensures.output in
+    (sym c.in-Stepped.is ∙ c.in_ok-used.ensures.answer) c.in_ok-used.ensures.state c.in_ok-used.ensures.output in
     elim c.if-used.branch [
       | then-used w ↦ let yes = w.if-used.true in let no = taken.unused in absurd cc
       | else-used w ↦ rw w.taken-is (record {

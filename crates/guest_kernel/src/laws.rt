@@ -1,0 +1,64 @@
+//! What follows from the definitions alone. Each function's contract is a law over all guests, states, slices and
+//! logs; a call of it costs nothing and hands the law to the caller's proof.
+
+ghost use Rattle.std.specs.Prelude.{◌≡◌, ◌≢◌, ◌+◌, ◌<◌, ◌≤◌, ◌++◌, ℕ, List, [], ◌∷◌, length, true, false, Ok, Err, IsTrue, IsOk};
+ghost use Rattle.dp_base.specs.declared.answer.Answer.{Answer};
+ghost use Rattle.dp_base.specs.declared.slice.Slice.{Slice};
+ghost use Rattle.dp_base.specs.declared.tid.Tid.{Tid};
+ghost use Rattle.dp_base.specs.Journal.{Epoch};
+ghost use Rattle.guest_kernel.specs.declared.hart.Hart.{Hart};
+ghost use Rattle.guest_kernel.specs.declared.image.Image.{Image};
+ghost use Rattle.guest_kernel.specs.declared.state.State.{State};
+ghost use Rattle.guest_kernel.specs.Call.{After, Refusal, not_runnable};
+ghost use Rattle.guest_kernel.specs.Image.{IsGuestFile, IsImageOf};
+ghost use Rattle.guest_kernel.specs.Register.{register, with_register};
+ghost use Rattle.guest_kernel.specs.Slices.{at, either, joined, turns, run, chain, chained, one_slice};
+ghost use Rattle.guest_kernel.specs.Start.{start_of, first_thread};
+ghost use Rattle.guest_kernel.specs.State.{has_ended};
+ghost use Rattle.guest_kernel.specs.Turn.{turn, state_after};
+
+/// x0 reads 0 in every hart, so in every state that a run reaches, and a write to it changes nothing.
+pub fn zero_register()
+    ensures reads_zero { (hart : Hart) → register hart 0 ≡ 0 }
+    ensures keeps_all { (hart : Hart) (value : ℕ) → with_register hart 0 value ≡ hart }
+{}
+
+/// A turn that is defined raises the step count by one; one that isn't leaves the state as it is.
+pub fn a_turn_is_one_step()
+    ensures counts { (s : State) (tid : Tid) (log : List Answer) (after : After) → turn s tid log ≡ Ok after → after.state.steps ≡ s.steps + 1 }
+    ensures keeps { (s : State) (tid : Tid) (log : List Answer) (why : Refusal) → turn s tid log ≡ Err why → state_after s (turn s tid log) ≡ s }
+{}
+
+/// A guest that has ended has no turn.
+pub fn an_ended_guest_has_no_turn()
+    ensures { (s : State) (tid : Tid) (log : List Answer) → has_ended s.end ≡ true → turn s tid log ≡ Err not_runnable }
+{}
+
+/// Running slices and then others, each with a log of its own, is running all of them with both logs.
+pub fn runs_join()
+    ensures { (s : State) (xs ys : List Slice) (first second : List Answer) (mid end : After) →
+        run xs (at s [] first) ≡ Ok mid → run ys (at mid.state [] second) ≡ Ok end →
+        run (xs ++ ys) (at s [] (first ++ second)) ≡ Ok (joined mid end) }
+{}
+
+/// A chain of joined epochs is the chain over the first ones, and from its end the chain over the others.
+pub fn chains_join()
+    ensures { (s : State) (first second : List Epoch) → chain s (first ++ second)
+        ≡ either (chain s first) Err (λ mid. chained (length first) mid.1 (chain mid.0 second)) }
+{}
+
+/// A guest of the one form that is built ends within 980 steps of its thread.
+pub fn a_guest_ends_within_980_steps()
+    ensures { (file : List ℕ) (image : Image) → IsGuestFile file → IsImageOf file image →
+        (steps : ℕ) × (steps ≤ 980) × (there : After)
+        × (run (one_slice first_thread steps) (at (start_of image) [] []) ≡ Ok there) × (has_ended there.state.end ≡ true) }
+{}
+
+/// While such a guest hasn't ended, it has taken fewer than 980 steps and has a next one, which writes nothing and
+/// takes no answer.
+pub fn a_guest_goes_on_until_it_ends()
+    ensures { (file : List ℕ) (image : Image) (steps : ℕ) (here : After) → IsGuestFile file → IsImageOf file image →
+        turns 0 steps first_thread (at (start_of image) [] []) ≡ Ok here → has_ended here.state.end ≡ false →
+        (steps < 980) × (after : After)
+        × (turn here.state first_thread here.rest ≡ Ok after) × (after.output ≡ []) × (after.rest ≡ here.rest) }
+{}

@@ -1,0 +1,58 @@
+// The slices of an epoch, in order.
+ghost use Rattle.std.specs.Prelude.{◌≡◌, ◌+◌, ◌++◌, [], ◌∷◌, IsNone, IsSome, OnOk, OnErr, slice_get, if◌then◌else◌, is_some};
+ghost use Rattle.std.specs.Option.{option_copied};
+
+use dp_base::{OutOfMemory, Slice};
+use std::alloc::Global;
+use std::marker::Model;
+
+/// The slices of an epoch, in order.
+#[derive(Debug, Drop)]
+pub struct SliceLog {
+    items: Vec<Slice>,
+}
+
+impl Model for SliceLog {
+    ghost use Rattle.std.specs.Prelude.{List};
+    ghost use Rattle.dp_base.specs.declared.slice.Slice.{Slice};
+
+    ghost Value = { List Slice };
+
+    ghost view = { λ log. log.items.items };
+}
+
+impl SliceLog {
+    /// An empty log.
+    pub fn new(alloc: Global) -> Self
+        ensures { result ≡ [] }
+    {
+        SliceLog {
+            items: Vec::new(alloc),
+        }
+    }
+
+    /// Adds one at the end. An `Err` changes nothing.
+    pub fn put(&mut self, item: Slice) -> Result<(), OutOfMemory>
+        ensures ok { OnOk result (self.new ≡ self.old ++ item ∷ []) }
+        ensures err { OnErr result (self.new ≡ self.old) }
+    {
+        self.items.push(item)?;
+        Ok(())
+    }
+
+    /// The one at a place, which moves on by one; none exactly where the place is past the end, and then it stays.
+    pub fn next(&self, at: &mut usize) -> Option<&Slice>
+        ensures item { option_copied result ≡ slice_get self.now at.old }
+        ensures place { at.new ≡ at.old + (if is_some result then 1 else 0) }
+    {
+        let item = self.items.get(*at)?;
+        *at += 1;
+        Some(item)
+    }
+
+    pub fn as_slice(&self) -> &[Slice]
+        ensures { result.now ≡ self.now }
+    {
+        &self.items
+    }
+}
