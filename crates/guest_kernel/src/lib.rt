@@ -44,3 +44,6 @@ pub use start_state::start;
 pub use state::{End, State};
 pub use step::{Instr, Stepped, decode, exec};
 pub use thread::{Thread, Threads};
+
+#[cfg(test)]
+mod tests;

@@ -9,7 +9,10 @@ use Rattle.guest_kernel.proofs.laws.a_guest_ends_within_980_steps.Goals as goal
 pub returns : goal.returns
 returns c = λ file image accepted is.
     let e = ends file image accepted.not_long is in
-    let way = on_its_way file image accepted.not_long is e.steps e.there e.ran in
-    (e.steps, e.few, slice_ended first_thread e.there,
+    let way = on_its_way file image accepted.not_long is e.steps e.there e.ran in (
+      e.steps,
+      e.few,
+      slice_ended first_thread e.there,
       run-one_slice first_thread e.steps (start file image accepted.not_long is) e.there e.ran way.nothing_left,
-      ap has_ended (without_reservation-end e.there.state first_thread) ∙ e.ended)
+      ap has_ended (without_reservation-end e.there.state first_thread) ∙ e.ended,
+    )
