@@ -11,6 +11,7 @@ mod out_of_memory;
 mod slice;
 mod tid;
 
+pub mod field;
 /// The limits of a recording, each with its unit.
 pub mod limits;
 
