@@ -10,3 +10,7 @@ pub record HasOneSpelling {X : Type 0} (item : List ℕ → Option (X × List �
   pub spelled : (bytes : List ℕ) (x : X) (rest : List ℕ) → AreBytes bytes → item bytes ≡ Some (x, rest) → (bytes ≡ spell x ++ rest) × Is x × AreBytes rest
   -- no spelling begins another
   pub one : (x y : X) (more others : List ℕ) → Is x → Is y → spell x ++ more ≡ spell y ++ others → (x ≡ y) × (more ≡ others)
+
+-- these bytes are still the front
+abbrev pub IsFrontOf : List ℕ → List ℕ → Type 0
+IsFrontOf front bytes = (more : List ℕ) × (bytes ≡ front ++ more)

@@ -12,6 +12,7 @@ mod slice;
 mod tid;
 
 pub mod field;
+pub mod journal;
 pub mod laws;
 /// The limits of a recording, each with its unit.
 pub mod limits;
