@@ -35,7 +35,7 @@ slice_taken bytes x fits e =
     let steps = number_taken 4 a.0.1 b.0 tid.0.rest_fits b.1 in
     let whole = Takes-then bytes (little_bytes 2 a.0.0) a.0.1 (little_bytes 4 b.0.0) b.0.1 tid.0 steps.0 in
     subst (λ (y : Slice × List ℕ). Takes bytes (slice y.0) y.1 × IsSlice y.0) g.1
-        (whole, (ltb-true _ _ tests.0, omega (arith, tid.1), ltb-true _ _ tests.1, omega (arith, steps.1)))
+    (whole, (ltb-true _ _ tests.0, omega (arith, tid.1), ltb-true _ _ tests.1, omega (arith, steps.1)))
 
 slice_again : (s : Slice) (rest : List ℕ) → IsSlice s → slice_at (slice s ++ rest) ≡ Some (s, rest)
 unfolding slice_at
@@ -46,7 +46,7 @@ slice_again s rest fits =
     let tid-is : number_at 2 (slice s ++ rest) ≡ Some tid = ap (number_at 2) (append_assoc (little_bytes 2 s.tid.0) (little_bytes 4 s.steps) rest) ∙ number_again 2 s.tid.0 tid.1 (omega (arith, fits.1)) in
     let last : slice_end tid steps ≡ Some found = cond-true _ _ _ (and_from _ _ (lt-ltb _ _ fits.0) (lt-ltb _ _ fits.2)) in
     bind_at (number_at 2 (slice s ++ rest)) slice_tid tid (Some found) tid-is
-        (bind_at (number_at 4 tid.1) (slice_end tid) steps (Some found) (number_again 4 s.steps rest (omega (arith, fits.3))) last)
+    (bind_at (number_at 4 tid.1) (slice_end tid) steps (Some found) (number_again 4 s.steps rest (omega (arith, fits.3))) last)
 
 pub slice_spelling : HasOneSpelling slice_at slice IsSlice
 slice_spelling = record {
@@ -124,7 +124,7 @@ read_again bytes rest fits =
     let found : Answer × List ℕ = (Read bytes, rest) in
     let last : read_end size taken ≡ Some found = cond-true _ _ _ (le-leb _ _ fits.0) in
     bind_at (number_at 2 ((little_bytes 2 (length bytes) ++ bytes) ++ rest)) read_size size (Some found) (measured_again 2 bytes rest (omega (arith, fits.0)))
-        (bind_at (bytes_at size.0 size.1) (read_end size) taken (Some found) (bytes_again bytes rest) last)
+    (bind_at (bytes_at size.0 size.1) (read_end size) taken (Some found) (bytes_again bytes rest) last)
 
 clock_again : (reading : ℕ) (rest : List ℕ) → reading < 2 ^ 64 → clock_at (little_bytes 8 reading ++ rest) ≡ Some (Clock reading, rest)
 unfolding clock_at
@@ -176,8 +176,8 @@ many_again {X} item spell Is laws (x ∷ xs) rest fits =
     let others : List X × List ℕ = (xs, rest) in
     let found : List X × List ℕ = (x ∷ xs, rest) in
     ap (many_at item (suc (length xs))) parts
-        ∙ bind_at (item (spell x ++ behind)) (λ y. many_at item (length xs) y.1 >>= λ ys. Some (y.0 ∷ ys.0, ys.1)) first (Some found) (laws.read x behind fits.0)
-        (bind_at (many_at item (length xs) behind) (λ ys. Some (x ∷ ys.0, ys.1)) others (Some found) (many_again item spell Is laws xs rest fits.1) refl)
+    ∙ bind_at (item (spell x ++ behind)) (λ y. many_at item (length xs) y.1 >>= λ ys. Some (y.0 ∷ ys.0, ys.1)) first (Some found) (laws.read x behind fits.0)
+    (bind_at (many_at item (length xs) behind) (λ ys. Some (x ∷ ys.0, ys.1)) others (Some found) (many_again item spell Is laws xs rest fits.1) refl)
 
 -- ---- epoch bodies
 
@@ -246,8 +246,8 @@ epoch_again e rest fits =
     let answers : List Answer × List ℕ = (e.answers, rest) in
     let found : Epoch × List ℕ = (e, rest) in
     let split : counted_slices e.slices (counted_answers e.answers) ++ rest ≡ little_bytes 4 (length e.slices) ++ slice_count.1
-        = append_assoc (little_bytes 4 (length e.slices)) (flat_map slice e.slices ++ counted_answers e.answers) rest
-        ∙ ap (λ (t : List ℕ). little_bytes 4 (length e.slices) ++ t) (append_assoc (flat_map slice e.slices) (counted_answers e.answers) rest) in
+    = append_assoc (little_bytes 4 (length e.slices)) (flat_map slice e.slices ++ counted_answers e.answers) rest
+    ∙ ap (λ (t : List ℕ). little_bytes 4 (length e.slices) ++ t) (append_assoc (flat_map slice e.slices) (counted_answers e.answers) rest) in
     let slice_count-is : number_at 4 kind.1 ≡ Some slice_count = ap (number_at 4) split ∙ number_again 4 (length e.slices) slice_count.1 (omega (arith, fits.slice_count)) in
     let slices-are = many_again slice_at slice IsSlice slice_spelling e.slices slices.1 fits.slices in
     let answer_count-is : number_at 4 slices.1 ≡ Some answer_count = ap (number_at 4) (append_assoc (little_bytes 4 (length e.answers)) (flat_map answer e.answers) rest) ∙ number_again 4 (length e.answers) answer_count.1 (omega (arith, fits.answer_count)) in
@@ -256,10 +256,10 @@ epoch_again e rest fits =
     let few : leb (steps_of e.slices) MAX_EPOCH_STEPS ≡ true = le-leb _ _ fits.steps in
     let last : epoch_end kind slice_count slices answers ≡ Some found = cond-true _ _ _ (and_from _ _ some few) in
     bind_at (number_at 1 (epoch_body e ++ rest)) epoch_kind kind (Some found) (number_again 1 0 kind.1 (omega arith))
-        (bind_at (number_at 4 kind.1) (epoch_slices kind) slice_count (Some found) slice_count-is
-        (bind_at (many_at slice_at slice_count.0 slice_count.1) (epoch_count kind slice_count) slices (Some found) slices-are
-        (bind_at (number_at 4 slices.1) (epoch_answers kind slice_count slices) answer_count (Some found) answer_count-is
-        (bind_at (many_at answer_at answer_count.0 answer_count.1) (epoch_end kind slice_count slices) answers (Some found) answers-are last))))
+    (bind_at (number_at 4 kind.1) (epoch_slices kind) slice_count (Some found) slice_count-is
+    (bind_at (many_at slice_at slice_count.0 slice_count.1) (epoch_count kind slice_count) slices (Some found) slices-are
+    (bind_at (number_at 4 slices.1) (epoch_answers kind slice_count slices) answer_count (Some found) answer_count-is
+    (bind_at (many_at answer_at answer_count.0 answer_count.1) (epoch_end kind slice_count slices) answers (Some found) answers-are last))))
 
 pub epoch_spelling : HasOneSpelling epoch_body_at epoch_body IsEpoch
 epoch_spelling = record {

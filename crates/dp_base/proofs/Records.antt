@@ -37,7 +37,7 @@ record_taken bytes x fits e =
     let body = measured_taken 4 a.0.1 b.0 c.0 gate.rest_fits b.1 c.1 in
     let whole = Takes-then bytes (open_gate ∷ []) a.0.1 (measured c.0.0) c.0.1 gate body.0 in
     subst (λ (y : List ℕ × List ℕ). Takes bytes (record_of y.0) y.1 × IsBody y.0) g.1
-        (whole, (subst (λ (k : ℕ). 0 < k) (sym body.1) some, subst (λ (k : ℕ). k ≤ MAX_BODY_BYTES) (sym body.1) few, body.3))
+    (whole, (subst (λ (k : ℕ). 0 < k) (sym body.1) some, subst (λ (k : ℕ). k ≤ MAX_BODY_BYTES) (sym body.1) few, body.3))
 
 record_again : (body rest : List ℕ) → IsBody body → record_at (record_of body ++ rest) ≡ Some (body, rest)
 unfolding record_at
@@ -50,8 +50,8 @@ record_again body rest fits =
     let size-is = measured_again 4 body rest (omega (arith, fits.1)) in
     let last : record_end gate size found ≡ Some found = cond-true _ _ _ (and_from _ _ some few) in
     bind_at (number_at 1 (record_of body ++ rest)) record_gate gate (Some found) (number_again 1 open_gate (measured body ++ rest) (omega arith))
-        (bind_at (number_at 4 gate.1) (record_size gate) size (Some found) size-is
-        (bind_at (bytes_at size.0 size.1) (record_end gate size) found (Some found) (bytes_again body rest) last))
+    (bind_at (number_at 4 gate.1) (record_size gate) size (Some found) size-is
+    (bind_at (bytes_at size.0 size.1) (record_end gate size) found (Some found) (bytes_again body rest) last))
 
 pub record_spelling : HasOneSpelling record_at record_of IsBody
 record_spelling = record {
@@ -113,9 +113,9 @@ header_again guest rest fits =
     let found : List ℕ × List ℕ = (guest, rest) in
     let size-is = measured_again 4 guest rest (omega (arith, fits.0)) in
     bind_at (number_at 1 (header guest ++ rest)) header_gate gate (Some found) (number_again 1 open_gate (header_body guest ++ rest) (omega arith))
-        (bind_at (bytes_at 4 gate.1) (header_word gate) word (Some found) (bytes_again magic (measured guest ++ rest))
-        (bind_at (number_at 4 word.1) (header_size gate word) size (Some found) size-is
-        (bind_at (bytes_at size.0 size.1) (header_end gate word) found (Some found) (bytes_again guest rest) refl)))
+    (bind_at (bytes_at 4 gate.1) (header_word gate) word (Some found) (bytes_again magic (measured guest ++ rest))
+    (bind_at (number_at 4 word.1) (header_size gate word) size (Some found) size-is
+    (bind_at (bytes_at size.0 size.1) (header_end gate word) found (Some found) (bytes_again guest rest) refl)))
 
 pub header_spelling : HasOneSpelling header_at header IsGuest
 header_spelling = record {

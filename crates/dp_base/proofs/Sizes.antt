@@ -44,9 +44,9 @@ pub AreBytes-header : (guest : List ℕ) → IsGuest guest → AreBytes (header 
 AreBytes-header guest fits =
     let size = AreBytes-measured 4 guest fits.1 in
     let word : AreBytes (header_body guest) = AreBytes-cons 0x44 (0x50 ∷ 0x4a ∷ 0x31 ∷ measured guest) (omega arith)
-        (AreBytes-cons 0x50 (0x4a ∷ 0x31 ∷ measured guest) (omega arith)
-        (AreBytes-cons 0x4a (0x31 ∷ measured guest) (omega arith)
-        (AreBytes-cons 0x31 (measured guest) (omega arith) size))) in
+    (AreBytes-cons 0x50 (0x4a ∷ 0x31 ∷ measured guest) (omega arith)
+    (AreBytes-cons 0x4a (0x31 ∷ measured guest) (omega arith)
+    (AreBytes-cons 0x31 (measured guest) (omega arith) size))) in
     AreBytes-cons open_gate (header_body guest) (omega arith) word
 
 pub AreBytes-record_of : (body : List ℕ) → IsBody body → AreBytes (record_of body)

@@ -148,4 +148,4 @@ epoch_body_at bytes = do
   answer_count ← number_at 4 slices.1
   answers ← many_at answer_at answer_count.0 answer_count.1
   if (kind.0 == 0) && nat_lt 0 slice_count.0 && nat_le (steps_of slices.0) MAX_EPOCH_STEPS
-    then Some (record { slices = slices.0; answers = answers.0 }, answers.1) else None
+      then Some (record { slices = slices.0; answers = answers.0 }, answers.1) else None

@@ -13,44 +13,37 @@ use crate::limits::{MAX_BODY_BYTES, MAX_EPOCH_STEPS};
 /// A number below 256 to the power n has one spelling in n bytes, and n bytes spell one number.
 pub fn numbers()
     ensures { (n : ℕ) → HasOneSpelling (number_at n) (little_bytes n) (λ x. x < 256 ^ n) }
-{
-}
+{}
 
 /// A guest file has one header, and a header holds one guest file.
 pub fn headers()
     ensures { HasOneSpelling header_at header IsGuest }
-{
-}
+{}
 
 /// A body has one record, and a record holds one body.
 pub fn records()
     ensures { HasOneSpelling record_at record_of IsBody }
-{
-}
+{}
 
 /// What an append writes tells the body and all that stands behind it.
 pub fn frames()
     ensures { (a b x y : List ℕ) → IsBody a → IsBody b → frame a ++ x ≡ frame b ++ y → (a ≡ b) × (x ≡ y) }
-{
-}
+{}
 
 /// A slice has one spelling.
 pub fn slices()
     ensures { HasOneSpelling slice_at slice IsSlice }
-{
-}
+{}
 
 /// An answer has one spelling.
 pub fn answers()
     ensures { HasOneSpelling answer_at answer IsAnswer }
-{
-}
+{}
 
 /// An epoch has one body, and a body tells one epoch.
 pub fn epochs()
     ensures { HasOneSpelling epoch_body_at epoch_body IsEpoch }
-{
-}
+{}
 
 /// How many bytes each spelling has.
 pub fn lengths()
@@ -58,19 +51,16 @@ pub fn lengths()
     ensures record { (body : List ℕ) → length (record_of body) ≡ 5 + length body }
     ensures frame { (body : List ℕ) → length (frame body) ≡ 5 + length body }
     ensures epoch { (e : Epoch) → length (epoch_body e) ≡ 9 + 6 * length e.slices + length (flat_map answer e.answers) }
-{
-}
+{}
 
 /// The body of an epoch is the body of a record, where it is short enough.
 pub fn epochs_fit_records()
     ensures { (e : Epoch) → IsEpoch e → length (epoch_body e) ≤ MAX_BODY_BYTES → IsBody (epoch_body e) }
-{
-}
+{}
 
 /// The body of one slice and no answers has 15 bytes, and is the body of an epoch and of a record.
 pub fn lone_slices()
     ensures length { (s : Slice) → length (epoch_body (record { slices = s ∷ []; answers = [] })) ≡ 15 }
     ensures epoch { (s : Slice) → IsSlice s → s.steps ≤ MAX_EPOCH_STEPS → IsEpoch (record { slices = s ∷ []; answers = [] }) }
     ensures body { (s : Slice) → IsSlice s → s.steps ≤ MAX_EPOCH_STEPS → IsBody (epoch_body (record { slices = s ∷ []; answers = [] })) }
-{
-}
+{}

@@ -7,13 +7,12 @@
 
 mod answer;
 mod bytes;
-mod out_of_memory;
-mod slice;
-mod tid;
-
 pub mod field;
 pub mod journal;
 pub mod laws;
+mod out_of_memory;
+mod slice;
+mod tid;
 /// The limits of a recording, each with its unit.
 pub mod limits;
 
@@ -22,3 +21,6 @@ pub use bytes::Bytes;
 pub use out_of_memory::OutOfMemory;
 pub use slice::Slice;
 pub use tid::Tid;
+
+#[cfg(test)]
+mod tests;
