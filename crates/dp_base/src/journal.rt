@@ -10,6 +10,17 @@ use crate::field::{write_bytes, write_u8, write_u16, write_u32, write_u64};
 use crate::limits::MAX_BODY_BYTES;
 use crate::{Answer, OutOfMemory, Slice};
 
+/// Before a header or a record that counts.
+pub const OPEN_GATE: u8 = 1;
+
+/// Behind the last record that counts: nothing from here on does.
+pub const CLOSED_GATE: u8 = 0;
+
+// The first byte of a record's body, and of an answer.
+const EPOCH_KIND: u8 = 0;
+const READ_KIND: u8 = 0;
+const CLOCK_KIND: u8 = 1;
+
 /// Adds what stands behind the header's gate: the format's name, and the guest file behind its length.
 pub fn write_header_body(out: &mut Vec<u8>, guest: &[u8]) -> Result<(), OutOfMemory>
     requires { length guest.now < 2 ^ 32 }
@@ -31,7 +42,7 @@ pub fn write_frame(out: &mut Vec<u8>, body: &[u8]) -> Result<(), OutOfMemory>
 {
     write_u32(out, body.len() as u32)?;
     write_bytes(out, body)?;
-    write_u8(out, 0)?;
+    write_u8(out, CLOSED_GATE)?;
     Ok(())
 }
 
@@ -45,7 +56,7 @@ pub fn write_epoch_body(
     ensures added { OnOk result (out.new.items ≡ out.old.items ++ epoch_body (record { slices = slices.now; answers = answers.now })) }
     ensures kept { OnErr result (IsFrontOf out.old.items out.new.items) }
 {
-    write_u8(out, 0)?;
+    write_u8(out, EPOCH_KIND)?;
     write_slices(out, slices)?;
     write_answers(out, answers)?;
     Ok(())
@@ -101,7 +112,7 @@ fn write_read(out: &mut Vec<u8>, bytes: &[u8]) -> Result<(), OutOfMemory>
     ensures added { OnOk result (out.new.items ≡ out.old.items ++ (little_bytes 1 0 ++ (little_bytes 2 (length bytes.now) ++ bytes.now))) }
     ensures kept { OnErr result (IsFrontOf out.old.items out.new.items) }
 {
-    write_u8(out, 0)?;
+    write_u8(out, READ_KIND)?;
     write_u16(out, bytes.len() as u16)?;
     write_bytes(out, bytes)?;
     Ok(())
@@ -111,7 +122,7 @@ fn write_clock(out: &mut Vec<u8>, reading: u64) -> Result<(), OutOfMemory>
     ensures added { OnOk result (out.new.items ≡ out.old.items ++ (little_bytes 1 1 ++ little_bytes 8 reading)) }
     ensures kept { OnErr result (IsFrontOf out.old.items out.new.items) }
 {
-    write_u8(out, 1)?;
+    write_u8(out, CLOCK_KIND)?;
     write_u64(out, reading)?;
     Ok(())
 }
