@@ -34,7 +34,7 @@ slice_taken bytes x fits e =
     let tid = number_taken 2 bytes a.0 fits a.1 in
     let steps = number_taken 4 a.0.1 b.0 tid.0.rest_fits b.1 in
     let whole = Takes-then bytes (little_bytes 2 a.0.0) a.0.1 (little_bytes 4 b.0.0) b.0.1 tid.0 steps.0 in
-    subst (λ (y : Slice × List ℕ). Takes bytes (slice y.0) y.1 × IsSlice y.0) g.1
+    subst (λ (y : Slice × List ℕ). Takes bytes (slice y.0) y.1 × IsSlice y.0) {x = made} g.1
     (whole, (ltb-true _ _ tests.0, omega (arith, tid.1), ltb-true _ _ tests.1, omega (arith, steps.1)))
 
 slice_again : (s : Slice) (rest : List ℕ) → IsSlice s → slice_at (slice s ++ rest) ≡ Some (s, rest)
@@ -233,8 +233,8 @@ epoch_taken bytes x fits e =
     let regrouped = append_assoc (little_bytes 4 (length c.0.0)) (flat_map slice c.0.0) (counted_answers f.0.0) in
     let flat : Takes a.0.1 (counted_slices c.0.0 (counted_answers f.0.0)) f.0.1 = subst (λ (t : List ℕ). Takes a.0.1 t f.0.1) regrouped behind in
     let whole = Takes-then bytes (0 ∷ []) a.0.1 (counted_slices c.0.0 (counted_answers f.0.0)) f.0.1 kind flat in
-    let is-epoch : IsEpoch made.0 = record { some_slice = subst (λ (k : ℕ). 0 < k) (sym slices.1) some; slice_count = slices.2; slices = slices.3; steps = leb-true _ _ tests.1; answer_count = answers.2; answers = answers.3 } in
-    subst (λ (y : Epoch × List ℕ). Takes bytes (epoch_body y.0) y.1 × IsEpoch y.0) g.1 (whole, is-epoch)
+    let is-epoch : IsEpoch made.0 = record { some_slice = subst (λ (k : ℕ). 0 < k) {x = b.0.0} {y = length c.0.0} (sym slices.1) some; slice_count = slices.2; slices = slices.3; steps = leb-true _ _ tests.1; answer_count = answers.2; answers = answers.3 } in
+    subst (λ (y : Epoch × List ℕ). Takes bytes (epoch_body y.0) y.1 × IsEpoch y.0) {x = made} g.1 (whole, is-epoch)
 
 epoch_again : (e : Epoch) (rest : List ℕ) → IsEpoch e → epoch_body_at (epoch_body e ++ rest) ≡ Some (e, rest)
 unfolding epoch_body_at

@@ -40,6 +40,11 @@ bind_some None f y e = absurd cc
 pub bind_at : {A B : Type 0} (r : Option A) (f : A → Option B) (x : A) (y : Option B) → r ≡ Some x → f x ≡ y → (r >>= f) ≡ y
 bind_at r f x y given then = ap (λ o. o >>= f) given ∙ then
 
+-- steps that lead to nothing
+pub none_after : {A B : Type 0} (r : Option A) (f : A → Option B) → ((x : A) → f x ≡ None) → (r >>= f) ≡ None
+none_after (Some x) f none = none x
+none_after None f none = refl
+
 -- a test for too few that did not stop
 pub enough : {A : Type 0} (short : Bool) (x y : A) → cond short None (Some x) ≡ Some y → (short ≡ false) × (x ≡ y)
 enough true x y e = absurd cc

@@ -9,7 +9,7 @@ use Rattle.dp_base.specs.declared.limits.TheConstants.{MAX_BODY_BYTES}
 use Rattle.dp_base.specs.Field.{AreBytes, ◌>>=◌, bytes_at, number_at}
 use Rattle.dp_base.specs.Journal.{IsBody, IsGuest, open_gate, closed_gate, magic, header_body, header, measured, frame, record_of, header_at, record_at}
 use Rattle.dp_base.specs.Spelling.{HasOneSpelling}
-use Rattle.dp_base.proofs.Fields.{bind_some, Takes, Takes-then, bytes_taken, bytes_again, byte_taken, measured_taken, measured_again, number_again, bind_at, one_from_read}
+use Rattle.dp_base.proofs.Fields.{bind_some, Takes, Takes-then, bytes_taken, bytes_again, byte_taken, measured_taken, measured_again, number_again, bind_at, none_after, one_from_read}
 
 -- ---- records
 
@@ -36,7 +36,7 @@ record_taken bytes x fits e =
     let gate = byte_taken open_gate bytes a.0 fits a.1 (eqb-true _ _ front.0) in
     let body = measured_taken 4 a.0.1 b.0 c.0 gate.rest_fits b.1 c.1 in
     let whole = Takes-then bytes (open_gate ∷ []) a.0.1 (measured c.0.0) c.0.1 gate body.0 in
-    subst (λ (y : List ℕ × List ℕ). Takes bytes (record_of y.0) y.1 × IsBody y.0) g.1
+    subst (λ (y : List ℕ × List ℕ). Takes bytes (record_of y.0) y.1 × IsBody y.0) {x = c.0} g.1
     (whole, (subst (λ (k : ℕ). 0 < k) (sym body.1) some, subst (λ (k : ℕ). k ≤ MAX_BODY_BYTES) (sym body.1) few, body.3))
 
 record_again : (body rest : List ℕ) → IsBody body → record_at (record_of body ++ rest) ≡ Some (body, rest)
@@ -102,7 +102,7 @@ header_taken bytes x fits e =
     let guest = measured_taken 4 b.0.1 c.0 d.0 word.0.rest_fits c.1 d.1 in
     let behind = Takes-then a.0.1 magic b.0.1 (measured d.0.0) d.0.1 magical guest.0 in
     let whole = Takes-then bytes (open_gate ∷ []) a.0.1 (header_body d.0.0) d.0.1 gate behind in
-    subst (λ (y : List ℕ × List ℕ). Takes bytes (header y.0) y.1 × IsGuest y.0) g.1 (whole, (guest.2, guest.3))
+    subst (λ (y : List ℕ × List ℕ). Takes bytes (header y.0) y.1 × IsGuest y.0) {x = d.0} g.1 (whole, (guest.2, guest.3))
 
 header_again : (guest rest : List ℕ) → IsGuest guest → header_at (header guest ++ rest) ≡ Some (guest, rest)
 unfolding header_at
@@ -123,3 +123,19 @@ header_spelling = record {
   spelled = λ bytes x rest fits e. let t = header_taken bytes (x, rest) fits e in (t.0.parts, t.1, t.0.rest_fits);
   one = one_from_read header_at header IsGuest header_again;
 }
+
+-- ---- a closed gate
+
+pub record_behind_closed : (rest : List ℕ) → record_at (closed_gate ∷ rest) ≡ None
+unfolding record_at
+record_behind_closed rest =
+    let gate : ℕ × List ℕ = (closed_gate, rest) in
+    bind_at (number_at 1 (closed_gate ∷ rest)) record_gate gate None (number_again 1 closed_gate rest (omega arith))
+    (none_after (number_at 4 rest) (record_size gate) (λ size. none_after (bytes_at size.0 size.1) (record_end gate size) (λ body. refl)))
+
+pub header_behind_closed : (rest : List ℕ) → header_at (closed_gate ∷ rest) ≡ None
+unfolding header_at
+header_behind_closed rest =
+    let gate : ℕ × List ℕ = (closed_gate, rest) in
+    bind_at (number_at 1 (closed_gate ∷ rest)) header_gate gate None (number_again 1 closed_gate rest (omega arith))
+    (none_after (bytes_at 4 rest) (header_word gate) (λ word. none_after (number_at 4 word.1) (header_size gate word) (λ size. none_after (bytes_at size.0 size.1) (header_end gate word) (λ guest. refl))))

@@ -18,7 +18,9 @@ pub const CLOSED_GATE: u8 = 0;
 
 // The first byte of a record's body, and of an answer.
 const EPOCH_KIND: u8 = 0;
+
 const READ_KIND: u8 = 0;
+
 const CLOCK_KIND: u8 = 1;
 
 /// Adds what stands behind the header's gate: the format's name, and the guest file behind its length.

@@ -4,7 +4,7 @@ ghost use Rattle.std.specs.Prelude.{◌≡◌, ◌++◌, ◌∷◌, [], ℕ, ◌
 ghost use Rattle.std.specs.List.{flat_map};
 ghost use Rattle.byteorder.specs.Endian.{little_bytes};
 ghost use Rattle.dp_base.specs.Field.{number_at};
-ghost use Rattle.dp_base.specs.Journal.{Epoch, IsGuest, IsBody, IsSlice, IsAnswer, IsEpoch, header, header_at, record_of, record_at, frame, slice, slice_at, answer, answer_at, epoch_body, epoch_body_at};
+ghost use Rattle.dp_base.specs.Journal.{Epoch, IsGuest, IsBody, IsSlice, IsAnswer, IsEpoch, header, header_at, record_of, record_at, frame, closed_gate, slice, slice_at, answer, answer_at, epoch_body, epoch_body_at};
 ghost use Rattle.dp_base.specs.declared.slice.Slice.{Slice};
 ghost use Rattle.dp_base.specs.Spelling.{HasOneSpelling};
 
@@ -28,6 +28,12 @@ pub fn records()
 /// What an append writes tells the body and all that stands behind it.
 pub fn frames()
     ensures { (a b x y : List ℕ) → IsBody a → IsBody b → frame a ++ x ≡ frame b ++ y → (a ≡ b) × (x ≡ y) }
+{}
+
+/// What stands behind a closed gate is no header and no record.
+pub fn closed_gates()
+    ensures header { (rest : List ℕ) → header_at (closed_gate ∷ rest) ≡ None }
+    ensures record { (rest : List ℕ) → record_at (closed_gate ∷ rest) ≡ None }
 {}
 
 /// A slice has one spelling.
