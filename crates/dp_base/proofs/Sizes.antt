@@ -1,16 +1,15 @@
 -- How long spellings are, and that they are bytes.
-use Rattle.std.proofs.Common.{◌≡◌, ℕ, zero, suc, ◌+◌, ◌*◌, ◌/◌, ◌%◌, ◌^◌, ◌<◌, ◌≤◌, List, [], ◌∷◌, ◌++◌, length, refl, sym, ap, ◌∙◌, arith}
+use Rattle.std.proofs.Common.{◌≡◌, ℕ, zero, suc, ◌+◌, ◌*◌, ◌<◌, ◌≤◌, List, [], ◌∷◌, ◌++◌, length, refl, arith}
 use Rattle.std.specs.List.{flat_map, AllByRecursion}
 use Rattle.std.specs.Int.{byte_at, bytes_low_first}
 use Rattle.std.proofs.lemmas.List.{length-append}
 use Rattle.byteorder.specs.Endian.{little_bytes}
-use Rattle.byteorder.specs.Numbers.{length-bytes_low_first}
 use Rattle.dp_base.specs.declared.limits.TheConstants.{MAX_BODY_BYTES, MAX_EPOCH_STEPS}
 use Rattle.dp_base.specs.declared.answer.Answer.{Answer}
 use Rattle.dp_base.specs.declared.answer.Answer.TheVariants.{Read, Clock}
 use Rattle.dp_base.specs.declared.slice.Slice.{Slice}
 use Rattle.dp_base.specs.Field.{AreBytes}
-use Rattle.dp_base.specs.Journal.{Epoch, IsSlice, IsAnswer, IsEpoch, IsBody, IsGuest, open_gate, closed_gate, magic, header_body, header, measured, frame, record_of, slice, answer, epoch_body}
+use Rattle.dp_base.specs.Journal.{Epoch, IsSlice, IsAnswer, IsEpoch, IsBody, IsGuest, open_gate, closed_gate, header_body, header, measured, frame, record_of, slice, answer, epoch_body}
 use Rattle.dp_base.proofs.Fields.{AreBytes-append}
 
 -- ---- bytes
