@@ -1,4 +1,5 @@
-//! The plain writers of the journal's bytes. `specs/Journal.antt` has what they add.
+//! The plain writers of the journal's bytes: each adds at the end what `specs/Journal.antt` spells. Where memory
+//! runs out, what was there is still the front, and a caller cuts off the rest or drops all.
 
 ghost use Rattle.std.specs.Prelude.{◌≡◌, ◌++◌, ◌<◌, ◌≤◌, ◌^◌, length, OnOk, OnErr};
 ghost use Rattle.std.specs.List.{flat_map, AllByRecursion};
@@ -16,11 +17,13 @@ pub const OPEN_GATE: u8 = 1;
 /// Behind the last record that counts: nothing from here on does.
 pub const CLOSED_GATE: u8 = 0;
 
-// The first byte of a record's body, and of an answer.
+// The first byte of an epoch's body.
 const EPOCH_KIND: u8 = 0;
 
+// The first byte of an answer to a read.
 const READ_KIND: u8 = 0;
 
+// The first byte of an answer to a call of the clock.
 const CLOCK_KIND: u8 = 1;
 
 /// Adds what stands behind the header's gate: the format's name, and the guest file behind its length.
