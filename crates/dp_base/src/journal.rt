@@ -114,7 +114,7 @@ fn write_answer(out: &mut Vec<u8>, given: &Answer) -> Result<(), OutOfMemory>
 
 fn write_read(out: &mut Vec<u8>, bytes: &[u8]) -> Result<(), OutOfMemory>
     requires { length bytes.now < 2 ^ 16 }
-    ensures added { OnOk result (out.new.items ≡ out.old.items ++ (little_bytes 1 0 ++ (little_bytes 2 (length bytes.now) ++ bytes.now))) }
+    ensures added { OnOk result (out.new.items ≡ out.old.items ++ answer (Answer.Read bytes.now)) }
     ensures kept { OnErr result (IsFrontOf out.old.items out.new.items) }
 {
     write_u8(out, READ_KIND)?;
@@ -124,7 +124,7 @@ fn write_read(out: &mut Vec<u8>, bytes: &[u8]) -> Result<(), OutOfMemory>
 }
 
 fn write_clock(out: &mut Vec<u8>, reading: u64) -> Result<(), OutOfMemory>
-    ensures added { OnOk result (out.new.items ≡ out.old.items ++ (little_bytes 1 1 ++ little_bytes 8 reading)) }
+    ensures added { OnOk result (out.new.items ≡ out.old.items ++ answer (Answer.Clock reading)) }
     ensures kept { OnErr result (IsFrontOf out.old.items out.new.items) }
 {
     write_u8(out, CLOCK_KIND)?;
