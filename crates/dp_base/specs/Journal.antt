@@ -1,7 +1,7 @@
 -- The bytes of a journal, format DPJ1. This project's own; docs/JOURNAL.md shows them.
 -- Each value has a spelling (`header`, `record_of`, `epoch_body`), and beside it stands what a reader accepts
 -- at the front of bytes (`header_at`, `record_at`, `epoch_body_at`): the value, and the bytes behind it.
-use Rattle.std.specs.Prelude.{◌≡◌, ◌+◌, ◌^◌, ◌<◌, ◌≤◌, ℕ, zero, suc, List, [], ◌∷◌, ◌++◌, length, sum_by, Option, Some, None, ◌==◌, ◌&&◌, nat_lt, nat_le, if◌then◌else◌}
+use Rattle.std.specs.Prelude.{◌^◌, ◌<◌, ◌≤◌, ℕ, zero, suc, List, [], ◌∷◌, ◌++◌, length, sum_by, Option, Some, None, ◌==◌, ◌&&◌, nat_lt, nat_le, if◌then◌else◌}
 use Rattle.std.specs.List.{flat_map, AllByRecursion}
 use Rattle.std.specs.Str.{bytes_eq}
 use Rattle.byteorder.specs.Endian.{little_bytes}
@@ -148,4 +148,4 @@ epoch_body_at bytes = do
   answer_count ← number_at 4 slices.1
   answers ← many_at answer_at answer_count.0 answer_count.1
   if (kind.0 == 0) && nat_lt 0 slice_count.0 && nat_le (steps_of slices.0) MAX_EPOCH_STEPS
-    then Some (record { slices = slices.0; answers = answers.0 }, answers.1) else None
+      then Some (record { slices = slices.0; answers = answers.0 }, answers.1) else None

@@ -3,19 +3,33 @@
 //!
 //! Promises: what a field writer adds is what the reader of the same width takes, and no byte more; a journal
 //! value has one spelling, and no spelling begins another. Stands on `byteorder` for numbers in bytes.
+//!
+//! An epoch becomes the bytes that an append writes behind the closed gate:
+//!
+//! ```text
+//! let mut body = Vec::new(alloc);
+//! journal::write_epoch_body(&mut body, &slices, &answers)?;
+//! if body.len() <= MAX_BODY_BYTES as usize {
+//!     journal::write_frame(&mut out, &body)?;
+//! }
+//! ```
 #![tactic(auto)]
 
 mod answer;
 mod bytes;
+pub mod field;
+pub mod journal;
+pub mod laws;
+pub mod limits;
 mod out_of_memory;
 mod slice;
 mod tid;
-
-/// The limits of a recording, each with its unit.
-pub mod limits;
 
 pub use answer::Answer;
 pub use bytes::Bytes;
 pub use out_of_memory::OutOfMemory;
 pub use slice::Slice;
 pub use tid::Tid;
+
+#[cfg(test)]
+mod tests;

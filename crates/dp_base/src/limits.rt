@@ -1,3 +1,5 @@
+//! The limits of a recording, each with its unit.
+
 /// Bytes of one page of guest memory.
 pub const PAGE_BYTES: u32 = 4096;
 

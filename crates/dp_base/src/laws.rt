@@ -1,0 +1,72 @@
+//! Laws of the fields and of the journal's spellings, over all values and all bytes.
+
+ghost use Rattle.std.specs.Prelude.{◌≡◌, ◌++◌, ◌∷◌, [], ℕ, ◌+◌, ◌*◌, ◌<◌, ◌≤◌, ◌^◌, List, length};
+ghost use Rattle.std.specs.List.{flat_map};
+ghost use Rattle.byteorder.specs.Endian.{little_bytes};
+ghost use Rattle.dp_base.specs.Field.{number_at};
+ghost use Rattle.dp_base.specs.Journal.{Epoch, IsGuest, IsBody, IsSlice, IsAnswer, IsEpoch, header, header_at, record_of, record_at, frame, closed_gate, slice, slice_at, answer, answer_at, epoch_body, epoch_body_at};
+ghost use Rattle.dp_base.specs.declared.slice.Slice.{Slice};
+ghost use Rattle.dp_base.specs.Spelling.{HasOneSpelling};
+
+use crate::limits::{MAX_BODY_BYTES, MAX_EPOCH_STEPS};
+
+/// A number below 256 to the power n has one spelling in n bytes, and n bytes spell one number.
+pub fn numbers()
+    ensures { (n : ℕ) → HasOneSpelling (number_at n) (little_bytes n) (λ x. x < 256 ^ n) }
+{}
+
+/// A guest file has one header, and a header holds one guest file.
+pub fn headers()
+    ensures { HasOneSpelling header_at header IsGuest }
+{}
+
+/// A body has one record, and a record holds one body.
+pub fn records()
+    ensures { HasOneSpelling record_at record_of IsBody }
+{}
+
+/// What an append writes tells the body and all that stands behind it.
+pub fn frames()
+    ensures { (a b x y : List ℕ) → IsBody a → IsBody b → frame a ++ x ≡ frame b ++ y → (a ≡ b) × (x ≡ y) }
+{}
+
+/// What stands behind a closed gate is no header and no record.
+pub fn closed_gates()
+    ensures header { (rest : List ℕ) → header_at (closed_gate ∷ rest) ≡ None }
+    ensures record { (rest : List ℕ) → record_at (closed_gate ∷ rest) ≡ None }
+{}
+
+/// A slice has one spelling.
+pub fn slices()
+    ensures { HasOneSpelling slice_at slice IsSlice }
+{}
+
+/// An answer has one spelling.
+pub fn answers()
+    ensures { HasOneSpelling answer_at answer IsAnswer }
+{}
+
+/// An epoch has one body, and a body tells one epoch.
+pub fn epochs()
+    ensures { HasOneSpelling epoch_body_at epoch_body IsEpoch }
+{}
+
+/// How many bytes each spelling has.
+pub fn lengths()
+    ensures header { (guest : List ℕ) → length (header guest) ≡ 9 + length guest }
+    ensures record { (body : List ℕ) → length (record_of body) ≡ 5 + length body }
+    ensures frame { (body : List ℕ) → length (frame body) ≡ 5 + length body }
+    ensures epoch { (e : Epoch) → length (epoch_body e) ≡ 9 + 6 * length e.slices + length (flat_map answer e.answers) }
+{}
+
+/// The body of an epoch is the body of a record, where it is short enough.
+pub fn epochs_fit_records()
+    ensures { (e : Epoch) → IsEpoch e → length (epoch_body e) ≤ MAX_BODY_BYTES → IsBody (epoch_body e) }
+{}
+
+/// The body of one slice and no answers has 15 bytes, and is the body of an epoch and of a record.
+pub fn lone_slices()
+    ensures length { (s : Slice) → length (epoch_body (record { slices = s ∷ []; answers = [] })) ≡ 15 }
+    ensures epoch { (s : Slice) → IsSlice s → s.steps ≤ MAX_EPOCH_STEPS → IsEpoch (record { slices = s ∷ []; answers = [] }) }
+    ensures body { (s : Slice) → IsSlice s → s.steps ≤ MAX_EPOCH_STEPS → IsBody (epoch_body (record { slices = s ∷ []; answers = [] })) }
+{}
