@@ -1,0 +1,22 @@
+//! The disk under a recorder: `World` is the outside with its one disk, and `MemWorld` a world in memory.
+//!
+//! Promises: a call answers `Failed` only where the world's own count of faults rises; one that answers Ok does
+//! what the clauses say to the bytes that a read of the disk gives, where the world tells them. In memory it is
+//! known of each call whether it fails, and what stands after it. Stands on `dp_base` for a refused growth.
+//!
+//!     let mut world = MemWorld::new(alloc, Fails::At(CallNumbers::from_vec(numbers)))?;
+//!     world.attach("journal", true)?;                  // call 1
+//!     let end = world.len()?;                          // call 2
+//!     if world.write_at(end, &record).is_err() {       // call 3
+//!         return Err(world.disk_fault_count());        // not one byte of it was written
+//!     }
+//!     world.sync()?;                                   // call 4
+#![tactic(auto)]
+
+mod fails;
+mod mem_world;
+mod world;
+
+pub use fails::{CallNumbers, Fails};
+pub use mem_world::MemWorld;
+pub use world::{Failed, World};
