@@ -15,6 +15,8 @@
 
 mod fails;
 mod mem_world;
+#[cfg(test)]
+mod tests;
 mod world;
 
 pub use fails::{CallNumbers, Fails};

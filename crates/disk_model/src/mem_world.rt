@@ -147,6 +147,7 @@ impl World for MemWorld {
         ensures after { self.new ≡ after_call (is_err result) self.old }
         ensures never { self.old.fails ≡ Never → IsOk result }
     {
+        // The disk is there from the start.
         self.count_call()
     }
 
@@ -159,8 +160,7 @@ impl World for MemWorld {
         ensures after { self.new ≡ after_call (is_err result) self.old }
         ensures never { self.old.fails ≡ Never → IsOk result }
     {
-        self.count_call()?;
-        Ok(self.bytes.len() as u64)
+        self.count_call().and(Ok(self.bytes.len() as u64))
     }
 
     fn write_at(&mut self, at: u64, bytes: &[u8]) -> Result<(), Failed>
@@ -189,6 +189,7 @@ impl World for MemWorld {
         ensures after { self.new ≡ after_call (is_err result) self.old }
         ensures never { self.old.fails ≡ Never → IsOk result }
     {
+        // What was written is there already.
         self.count_call()
     }
 }
