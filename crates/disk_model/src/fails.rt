@@ -1,7 +1,6 @@
 // Which calls on a disk in memory fail.
-ghost use Rattle.std.specs.Prelude.{◌≡◌};
+ghost use Rattle.std.specs.Prelude.{◌≡◌, ◌==◌};
 ghost use Rattle.std.specs.List.{list_any};
-ghost use Rattle.std.specs.Prelude.{◌==◌};
 ghost use Rattle.disk_model.specs.Fails.{fails_at};
 
 use std::marker::Model;

@@ -4,13 +4,13 @@
 //! what the clauses say to the bytes that a read of the disk gives, where the world tells them. In memory it is
 //! known of each call whether it fails, and what stands after it. Stands on `dp_base` for a refused growth.
 //!
-//!     let mut world = MemWorld::new(alloc, Fails::At(CallNumbers::from_vec(numbers)))?;
-//!     world.attach("journal", true)?;                  // call 1
-//!     let end = world.len()?;                          // call 2
-//!     if world.write_at(end, &record).is_err() {       // call 3
-//!         return Err(world.disk_fault_count());        // not one byte of it was written
+//!     let mut world = MemWorld::new(alloc, Fails::At(numbers))?;
+//!     world.attach("journal", true)?;                // call 1
+//!     let end = world.len()?;                        // call 2
+//!     if world.write_at(end, record).is_err() {      // call 3: not one byte of it was written
+//!         return Ok(world.disk_fault_count());
 //!     }
-//!     world.sync()?;                                   // call 4
+//!     world.sync()?;                                 // call 4
 #![tactic(auto)]
 
 mod fails;

@@ -1,7 +1,7 @@
 // A world in memory, for tests and for the program.
-ghost use Rattle.std.specs.Prelude.{◌≡◌, ◌+◌, ◌≤◌, ◌⊎◌, Some, List, ℕ, Option, ◌++◌, length, replicate, IsErr, IsOk, IfOk, OnOk, OnErr, IsTrue, is_err};
+ghost use Rattle.std.specs.Prelude.{◌≡◌, ◌+◌, ◌≤◌, Some, length, IsErr, IsOk, IfOk, OnOk, OnErr, IsTrue, is_err};
 ghost use Rattle.disk_model.specs.declared.fails.Fails.TheVariants.{Never};
-ghost use Rattle.disk_model.specs.Disk.{overwritten, IsLength, IsWritten, Rose};
+ghost use Rattle.disk_model.specs.Disk.{overwritten, IsWritten, Rose};
 ghost use Rattle.disk_model.specs.MemWorld.{fresh, fails_next, filled, after_call, after_write, after_failed_write};
 
 use crate::{Failed, Fails, World};
@@ -12,7 +12,8 @@ use std::marker::Model;
 /// A world whose disk is in memory: there from the start, empty, whatever name it is attached by.
 ///
 /// It counts the calls on the disk together, from 1, and those fail whose numbers its `Fails` says. Beside
-/// them a write fails where the memory that it has to grow by is refused. A call that fails leaves the bytes.
+/// them a write past the end fails where the memory to grow by is refused. A call that fails leaves the bytes.
+/// A write that begins past the end fills the gap with zero bytes.
 #[derive(Drop)]
 pub struct MemWorld {
     bytes: Vec<u8>,
@@ -106,6 +107,7 @@ impl MemWorld {
 fn overwrite(content: &mut Vec<u8>, at: u64, bytes: &[u8]) -> Result<(), OutOfMemory>
     ensures ok { OnOk result (content.new.items ≡ overwritten at bytes.now (filled at content.old.items)) }
     ensures err { OnErr result (content.new.items ≡ content.old.items) }
+    ensures within { at + length bytes.now ≤ length content.old.items → IsOk result }
 {
     let start = at as usize;
     let Some(end) = start.checked_add(bytes.len()) else {
@@ -120,6 +122,7 @@ fn overwrite(content: &mut Vec<u8>, at: u64, bytes: &[u8]) -> Result<(), OutOfMe
 fn fill_up(content: &mut Vec<u8>, count: usize) -> Result<(), OutOfMemory>
     ensures ok { OnOk result (content.new.items ≡ filled count content.old.items) }
     ensures err { OnErr result (content.new.items ≡ content.old.items) }
+    ensures within { count ≤ length content.old.items → IsOk result }
 {
     if content.len() < count {
         content.resize(count, 0)?;
@@ -134,6 +137,7 @@ fn write_within(content: &mut Vec<u8>, start: usize, bytes: &[u8])
     content[start..start + bytes.len()].copy_from_slice(bytes);
 }
 
+// Behind the trait's clauses stands what is known in memory: which call fails, and what each one leaves.
 impl World for MemWorld {
     ghost disk = { λ m. Some m.bytes };
 
@@ -168,6 +172,7 @@ impl World for MemWorld {
         ensures cause { IsErr result → Rose self.old.faults self.new.faults }
         ensures count { self.old.faults ≤ self.new.faults }
         ensures planned { IsTrue (fails_next self.old) → IsErr result }
+        ensures within { at + length bytes.now ≤ length self.old.bytes → is_err result ≡ fails_next self.old }
         ensures ok { OnOk result (self.new ≡ after_write at bytes.now self.old) }
         ensures err { OnErr result (self.new ≡ after_failed_write self.old) }
         ensures never { self.old.fails ≡ Never → IsErr result → IsTrue self.new.refused }

@@ -17,9 +17,9 @@ pub trait World {
     /// How often a call on the disk has failed; at most 2^64 - 1, where it stays.
     ghost disk_faults: { Self → ℕ };
 
-    /// Names the disk that the other calls mean, with `make` also one that isn't there yet.
+    /// Names the disk that the other calls mean; with `make` it is made where there is none.
     ///
-    /// `Failed` where it can't be had: in a world of files without `make`, also where there is no file.
+    /// `Failed` where it can't be had, which is a fault also where without `make` there is none.
     fn attach(&mut self, name: &str, make: bool) -> Result<(), Failed>
         ensures content { OnOk result (disk self.new ≡ disk self.old) }
         ensures cause { IsErr result → Rose (disk_faults self.old) (disk_faults self.new) }
@@ -32,8 +32,8 @@ pub trait World {
         ensures cause { IsErr result → Rose (disk_faults self.old) (disk_faults self.new) }
         ensures count { disk_faults self.old ≤ disk_faults self.new };
 
-    /// Writes bytes over those from offset `at` on, and on past the end. At most to the end, in bytes, may
-    /// `at` be: of a write that begins past it nothing is said.
+    /// Writes bytes over those from offset `at` on, in bytes, and on past the end. Of a write that begins
+    /// past the end nothing is said.
     fn write_at(&mut self, at: u64, bytes: &[u8]) -> Result<(), Failed>
         ensures written { OnOk result (IsWritten (disk self.old) at bytes.now (disk self.new)) }
         ensures cause { IsErr result → Rose (disk_faults self.old) (disk_faults self.new) }
