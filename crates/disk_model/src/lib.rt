@@ -1,8 +1,9 @@
 //! The disk under a recorder: `World` is the outside with its one disk, and `MemWorld` a world in memory.
 //!
-//! Promises: a call answers `Failed` only where the world's own count of faults rises; one that answers Ok does
-//! what the clauses say to the bytes that a read of the disk gives, where the world tells them. In memory it is
-//! known of each call whether it fails, and what stands after it. Stands on `dp_base` for a refused growth.
+//! Promises: a call answers `Failed` only where the world's own count of faults rises, or is at its end; one
+//! that answers Ok does what the clauses say to the bytes that a read of the disk gives, where the world tells
+//! them. In memory a call fails by its number alone, but for a write that has to grow, and it is known what each
+//! call leaves. Stands on `dp_base` for a refused growth.
 //!
 //!     let mut world = MemWorld::new(alloc, Fails::At(numbers))?;
 //!     world.attach("journal", true)?;                // call 1
