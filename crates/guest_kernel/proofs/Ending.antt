@@ -8,17 +8,19 @@ use Rattle.dp_base.specs.declared.answer.Answer.{Answer}
 use Rattle.dp_base.specs.declared.tid.Tid.{Tid}
 use Rattle.guest_kernel.specs.declared.hart.Hart.{Hart}
 use Rattle.guest_kernel.specs.declared.image.Image.{Image}
+use Rattle.guest_kernel.specs.declared.image.Segment.{Segment}
+use Rattle.guest_kernel.specs.Segment.{heap_start}
 use Rattle.guest_kernel.specs.declared.step.Instr.{Instr}
 use Rattle.guest_kernel.specs.declared.step.Instr.TheVariants.{Addi, Ecall}
 use Rattle.guest_kernel.specs.declared.state.State.{State}
 use Rattle.guest_kernel.specs.declared.thread.Thread.{Thread}
 use Rattle.guest_kernel.specs.declared.thread.Thread.TheVariants.{Runs}
 use Rattle.guest_kernel.specs.Call.{After, Refusal, not_runnable, silent, called, number_of, exits_all, unknown}
-use Rattle.guest_kernel.specs.Image.{IsGuestFile, IsImageOf, mapped_whole}
+use Rattle.guest_kernel.specs.Image.{IsImageOf, entry, mapped_whole}
 use Rattle.guest_kernel.specs.Instruction.{Effect, goes, calls, traps, decoded, executed}
 use Rattle.guest_kernel.specs.Memory.{Memory, page_at, code_byte, fetch}
 use Rattle.guest_kernel.specs.Register.{register, with_register, wrapped, next}
-use Rattle.guest_kernel.specs.Start.{start_memory, start_hart, start_of, first_thread}
+use Rattle.guest_kernel.specs.Start.{start_memory, start_hart, started, start_of, start_state, first_thread}
 use Rattle.guest_kernel.specs.State.{has_ended}
 use Rattle.guest_kernel.specs.Step.{effect, of_word, of_instruction}
 use Rattle.guest_kernel.specs.Threads.{thread_at}
@@ -68,13 +70,13 @@ pub record StillRuns (file : List ℕ) (k : ℕ) (s : State) : Type 0 where
   pub few : k < 980
   pub going : has_ended s.end ≡ false
 
-pub starts : (file : List ℕ) (image : Image) → IsImageOf file image → StillRuns file 0 (start_of image)
-starts file image is = record {
-  pages = ap start_memory is.segments_are;
-  hart = start_hart image.entry;
+pub starts : (file : List ℕ) → StillRuns file 0 (start_state file)
+starts file = record {
+  pages = refl;
+  hart = start_hart entry;
   clear = 0;
   threads = refl;
-  pc = is.entry_is;
+  pc = refl;
   few = omega arith;
   going = refl;
 }
@@ -194,9 +196,9 @@ pub record IsOnItsWay (file : List ℕ) (k : ℕ) (there : After) : Type 0 where
   pub nothing_written : there.output ≡ []
   pub nothing_left : there.rest ≡ []
 
-module _ (file : List ℕ) (image : Image) (short : length file ≤ 4000) (is : IsImageOf file image) where
+module _ (file : List ℕ) (short : length file ≤ 4000) where
   abbrev pub start : After
-  start = at (start_of image) [] []
+  start = at (start_state file) [] []
 
   step_on : (k : ℕ) (here after there : After) → IsOnItsWay file k here → turn here.state first_thread here.rest ≡ Ok after → there ≡ joined here after → IsOnItsWay file (k + 1) there
   step_on k here after there before turned joins =
@@ -216,8 +218,8 @@ module _ (file : List ℕ) (image : Image) (short : length file ≤ 4000) (is : 
   pub on_its_way : (k : ℕ) (there : After) → turns 0 k first_thread start ≡ Ok there → IsOnItsWay file k there
   unfolding turns
   on_its_way zero there ran =
-      let here : at (start_of image) [] [] ≡ there = cc in
-      subst (IsOnItsWay file 0) here (record { where_ = inl (starts file image is); nothing_written = refl; nothing_left = refl })
+      let here : at (start_state file) [] [] ≡ there = cc in
+      subst (IsOnItsWay file 0) here (record { where_ = inl (starts file); nothing_written = refl; nothing_left = refl })
   on_its_way (suc k) there ran =
       let same : suc k ≡ k + 1 = omega arith in
       let last = last_of k first_thread start there (ap (λ n. turns 0 n first_thread start) (sym same) ∙ ran) in
@@ -255,3 +257,10 @@ module _ (file : List ℕ) (image : Image) (short : length file ≤ 4000) (is : 
   pub ends : Ends
   unfolding turns
   ends = ends_from 980 0 start (omega arith) refl refl
+
+-- an image of a file starts as the file does
+pub image_starts : (file : List ℕ) (image : Image) → IsImageOf file image → start_of image ≡ start_state file
+image_starts file image is =
+    ap (λ (segments : List Segment). started image.entry segments image.heap) is.segments_are
+    ∙ ap (λ n. started n (mapped_whole file ∷ []) image.heap) is.entry_is
+    ∙ ap (λ n. started entry (mapped_whole file ∷ []) n) (is.heap_is ∙ ap heap_start is.segments_are)

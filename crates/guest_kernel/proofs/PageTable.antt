@@ -1,10 +1,11 @@
 -- A table of pages stays one when a page is mapped above all others.
-use Rattle.std.proofs.Common.{◌≡◌, ◌<◌, ◌+◌, ℕ, List, [], ◌∷◌, ◌++◌, length, All, sym, subst, arith, inl, inr}
-use Rattle.std.specs.Prelude.{map}
+use Rattle.std.proofs.Common.{◌≡◌, ◌<◌, ◌+◌, ℕ, Bool, true, false, cond, Some, List, [], ◌∷◌, ◌++◌, length, All, sym, subst, arith, inl, inr}
+use Rattle.std.specs.Prelude.{map, IfSome}
+use Rattle.std.specs.List.{find}
 use Rattle.std.specs.List.Sorted.{IsStrictlyIncreasing}
 use Rattle.std.proofs.lemmas.Bool.{cases_lt}
 use Rattle.std.proofs.lemmas.List.{map_push, length_push, get_or_append_left, get_or_push}
-use Rattle.std.proofs.lemmas.List.Elements.{All-push, All-map, All-get_or}
+use Rattle.std.proofs.lemmas.List.Elements.{All-push, All-map, All-get_or, All-head, All-tail}
 use Rattle.dp_base.specs.declared.limits.TheConstants.{MAX_PAGES}
 use Rattle.guest_kernel.specs.declared.pages.Page.{Page}
 use Rattle.guest_kernel.specs.Memory.{IsPage, ArePages}
@@ -32,3 +33,12 @@ ArePages-push memory p table page below few = record {
   rising = subst IsStrictlyIncreasing (sym (map_push (λ (q : Page). q.number) memory p)) (IsStrictlyIncreasing-push (map (λ (q : Page). q.number) memory) p.number table.rising (All-map (λ m. m < p.number) (λ (q : Page). q.number) memory below));
   few = omega (arith, length_push memory p);
 }
+
+-- what holds of each holds of the one that is found
+pub IfSome-find : {X : Type 0} (P : X → Type 0) (p : X → Bool) (xs : List X) → All P xs → IfSome (find p xs) P
+IfSome-find P p [] all = tt
+IfSome-find P p (x ∷ xs) all =
+    elim (p x) as (λ b. IfSome (cond b (Some x) (find p xs)) P) [
+      | true ↦ All-head P x xs all
+      | false ↦ IfSome-find P p xs (All-tail P x xs all)
+    ]

@@ -10,6 +10,8 @@ use Rattle.guest_kernel.specs.declared.pages.Page.{Page}
 use Rattle.guest_kernel.specs.declared.state.State.{State}
 use Rattle.guest_kernel.specs.declared.state.End.TheVariants as ends
 use Rattle.guest_kernel.specs.declared.thread.Thread.TheVariants.{Runs}
+use Rattle.guest_kernel.specs.Image.{entry, mapped_whole}
+use Rattle.guest_kernel.specs.Segment.{heap_start}
 use Rattle.guest_kernel.specs.Memory.{Memory, page_with}
 use Rattle.guest_kernel.specs.Register.{with_register}
 
@@ -32,13 +34,21 @@ start_hart entry = with_register (record { pc = entry; x = replicate 31 0; held 
 abbrev pub first_thread : Tid
 first_thread = record { 0 = 1 }
 
-abbrev pub start_of : Image → State
-start_of image = record {
-  pages = start_memory image.segments;
-  heap = image.heap;
-  brk = image.heap;
-  threads = Runs (start_hart image.entry) 0 ∷ [];
+-- with these segments, this entry and this start of the heap
+abbrev pub started : ℕ → List Segment → ℕ → State
+started entry segments heap = record {
+  pages = start_memory segments;
+  heap = heap;
+  brk = heap;
+  threads = Runs (start_hart entry) 0 ∷ [];
   input = 0;
   steps = 0;
   end = ends.None;
 }
+
+abbrev pub start_of : Image → State
+start_of image = started image.entry image.segments image.heap
+
+-- the state in which the guest of a file starts
+abbrev pub start_state : List ℕ → State
+start_state file = started entry (mapped_whole file ∷ []) (heap_start (mapped_whole file ∷ []))

@@ -12,8 +12,8 @@ ghost use Rattle.guest_kernel.specs.declared.state.State.{State};
 ghost use Rattle.guest_kernel.specs.Call.{After, Refusal, not_runnable};
 ghost use Rattle.guest_kernel.specs.Image.{IsGuestFile, IsImageOf};
 ghost use Rattle.guest_kernel.specs.Register.{register, with_register};
-ghost use Rattle.guest_kernel.specs.Slices.{at, either, joined, turns, run, chain, chained, one_slice};
-ghost use Rattle.guest_kernel.specs.Start.{start_of, first_thread};
+ghost use Rattle.guest_kernel.specs.Slices.{at, either, joined, turns, run, chain, chained, one_slice, slice_ended};
+ghost use Rattle.guest_kernel.specs.Start.{start_of, start_state, first_thread};
 ghost use Rattle.guest_kernel.specs.State.{has_ended};
 ghost use Rattle.guest_kernel.specs.Turn.{turn, state_after};
 
@@ -47,18 +47,35 @@ pub fn chains_join()
         ≡ either (chain s first) Err (λ mid. chained (length first) mid.1 (chain mid.0 second)) }
 {}
 
+/// The image of a guest's file starts in the file's start state.
+pub fn an_image_starts_as_its_file()
+    ensures { (file : List ℕ) (image : Image) → IsImageOf file image → start_of image ≡ start_state file }
+{}
+
 /// A guest of the one form that is built ends within 980 steps of its thread.
 pub fn a_guest_ends_within_980_steps()
-    ensures { (file : List ℕ) (image : Image) → IsGuestFile file → IsImageOf file image →
-        (steps : ℕ) × (steps ≤ 980) × (there : After)
-        × (run (one_slice first_thread steps) (at (start_of image) [] []) ≡ Ok there) × (has_ended there.state.end ≡ true) }
+    ensures { (file : List ℕ) → IsGuestFile file → (steps : ℕ) × (steps ≤ 980) × (there : After)
+        × (run (one_slice first_thread steps) (at (start_state file) [] []) ≡ Ok there) × (has_ended there.state.end ≡ true) }
 {}
 
 /// While such a guest hasn't ended, it has taken fewer than 980 steps and has a next one, which writes nothing and
 /// takes no answer.
 pub fn a_guest_goes_on_until_it_ends()
-    ensures { (file : List ℕ) (image : Image) (steps : ℕ) (here : After) → IsGuestFile file → IsImageOf file image →
-        turns 0 steps first_thread (at (start_of image) [] []) ≡ Ok here → has_ended here.state.end ≡ false →
+    ensures { (file : List ℕ) (steps : ℕ) (here : After) → IsGuestFile file →
+        turns 0 steps first_thread (at (start_state file) [] []) ≡ Ok here → has_ended here.state.end ≡ false →
         (steps < 980) × (after : After)
         × (turn here.state first_thread here.rest ≡ Ok after) × (after.output ≡ []) × (after.rest ≡ here.rest) }
+{}
+
+/// A turn behind some turns of its thread is one turn more.
+pub fn turns_count_on()
+    ensures { (tid : Tid) (steps : ℕ) (start here after : After) → turns 0 steps tid start ≡ Ok here →
+        turn here.state tid here.rest ≡ Ok after → turns 0 (steps + 1) tid start ≡ Ok (joined here after) }
+{}
+
+/// The turns of a thread that use the log up are a run of one slice, and the end of a slice ends no guest.
+pub fn turns_are_a_slice()
+    ensures run { (tid : Tid) (steps : ℕ) (start there : After) → turns 0 steps tid start ≡ Ok there →
+        there.rest ≡ [] → run (one_slice tid steps) start ≡ Ok (slice_ended tid there) }
+    ensures end { (tid : Tid) (there : After) → (slice_ended tid there).state.end ≡ there.state.end }
 {}

@@ -1,7 +1,7 @@
 // Guest memory: a table of pages, seen as the list of its pages in rising order of number.
-ghost use Rattle.std.specs.Prelude.{◌≡◌, ◌^◌, ◌<◌, ◌≤◌, ◌++◌, [], ◌∷◌, All, OnOk, OnErr, length, replicate, ◌-◌};
+ghost use Rattle.std.specs.Prelude.{◌≡◌, ◌^◌, ◌<◌, ◌≤◌, ◌++◌, [], ◌∷◌, All, OnOk, OnErr, IfSome, length, replicate, ◌-◌};
 ghost use Rattle.std.specs.Option.{option_copied, option_map};
-ghost use Rattle.guest_kernel.specs.Memory.{fetch, code_byte, page_at, page_with, ArePages};
+ghost use Rattle.guest_kernel.specs.Memory.{fetch, code_byte, page_at, page_with, ArePages, IsPage};
 
 use dp_base::OutOfMemory;
 use dp_base::limits::{MAX_PAGES, PAGE_BYTES, PAGE_NUMBERS};
@@ -94,7 +94,8 @@ impl Pages {
 
     /// The 4,096 bytes of the page with this number, where one is mapped.
     pub fn page_bytes(&self, number: u32) -> Option<&[u8]>
-        ensures { option_copied result ≡ option_map (λ p. p.bytes) (page_at self.now number) }
+        ensures bytes { option_copied result ≡ option_map (λ p. p.bytes) (page_at self.now number) }
+        ensures whole { IfSome result (λ bytes. length bytes.now ≡ PAGE_BYTES) }
     {
         match self.page(u64::from(number)) {
             Some(page) => Some(&page.bytes),
@@ -129,7 +130,8 @@ impl Pages {
     }
 
     fn page(&self, number: u64) -> Option<&Page>
-        ensures { option_copied result ≡ page_at self.now number }
+        ensures found { option_copied result ≡ page_at self.now number }
+        ensures kept { IfSome result (λ page. IsPage page.now) }
     {
         self.table
             .iter()

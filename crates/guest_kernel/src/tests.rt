@@ -66,25 +66,26 @@ fn hart_of(state: &State) -> Option<&Hart> {
 fn guests_end(rt: HostRuntime) -> Result<(), Fail> {
     let alloc = rt.alloc();
     let longest = vec![in alloc; ADDI_TO_X0; 979]?;
-    let cases: [(&[u32], u32, End); 5] = [
-        (&EXIT_SEVEN, 3, End::Exit(7)),
+    // how many steps come before the last one
+    let cases: [(&[u32], u16, End); 5] = [
+        (&EXIT_SEVEN, 2, End::Exit(7)),
         // EBREAK isn't known here
         (
             &[0x0010_0073, 0x0010_0893, 0x0000_0073],
-            1,
+            0,
             trap(2, 0x0010_0073),
         ),
         // no word at all: the zeros behind the headers
-        (&[], 1, trap(2, 0)),
-        (longest.as_slice(), 980, trap(2, 0)),
+        (&[], 0, trap(2, 0)),
+        (longest.as_slice(), 979, trap(2, 0)),
         // x17 is 0, which is no call; the next word is no instruction
-        (&[0x0000_0073], 2, trap(2, 0)),
+        (&[0x0000_0073], 1, trap(2, 0)),
     ];
-    for (words, steps, end) in cases {
+    for (words, before, end) in cases {
+        let steps = u32::from(before) + 1;
         let (state, run) = after(alloc, words, steps)?;
         assert_eq!(rt; run, SliceRun::Whole, "{steps} steps");
-        assert_eq!(rt; state.end, end, "after {steps} steps");
-        assert_eq!(rt; state.steps, u64::from(steps));
+        assert_eq!(rt; (state.end, state.steps), (end, u64::from(steps)));
         assert!(rt; state.ended());
         let (_, more) = after(alloc, words, steps + 1)?;
         assert_eq!(rt;
@@ -94,8 +95,8 @@ fn guests_end(rt: HostRuntime) -> Result<(), Fail> {
                 step: steps
             }
         );
-        let (before, _) = after(alloc, words, steps - 1)?;
-        assert!(rt; !before.ended(), "before {steps} steps");
+        let (running, _) = after(alloc, words, steps - 1)?;
+        assert!(rt; !running.ended(), "before {steps} steps");
     }
     Ok(())
 }
@@ -108,6 +109,7 @@ fn starts(rt: HostRuntime) -> Result<(), Fail> {
     assert_eq!(rt; state.pages.pages(), 17);
     assert_eq!(rt; state.pages.flags(0x10), Some(5));
     let page = state.pages.page_bytes(0x10).ok_or("the file's page")?;
+    assert_eq!(rt; (page.len(), file.len()), (4096, 96));
     assert_eq!(rt; &page[..96], file.as_slice());
     assert!(rt; page[96..].iter().all(|byte| *byte == 0));
     for number in 0x7fff0..0x80000 {
@@ -173,9 +175,11 @@ fn files(rt: HostRuntime) -> Result<(), Fail> {
     if other_machine.len() > 18 {
         other_machine[18] = 0xf2;
     }
+    let mut short = guest(alloc, &[])?;
+    short.truncate(83);
     let refused = [
         Vec::new(alloc),
-        guest(alloc, &[])?[..83].to_vec(alloc)?,
+        short,
         longest,
         too_long,
         guest_of(alloc, 97, 96, &EXIT_SEVEN)?,
@@ -234,22 +238,16 @@ fn runs_that_stop(rt: HostRuntime) -> Result<(), Fail> {
         SliceRun::Stops { slice: 1, step: 0 },
         "an answer is left"
     );
-    assert_eq!(rt;
-        state.turn(alloc, Tid(0), None, &mut out)?,
-        Turn::NotRunnable
-    );
-    assert_eq!(rt;
-        state.turn(alloc, Tid(2), None, &mut out)?,
-        Turn::NotRunnable
-    );
-    assert_eq!(rt;
-        state.turn(alloc, Tid(1), None, &mut out)?,
-        Turn::Stepped { used: false }
-    );
-    assert_eq!(rt;
-        state.turn(alloc, Tid(1), None, &mut out)?,
-        Turn::NotRunnable
-    );
+    let turns = [
+        (0, Turn::NotRunnable),
+        (2, Turn::NotRunnable),
+        (1, Turn::Stepped { used: false }),
+        (1, Turn::NotRunnable),
+    ];
+    for (tid, told) in turns {
+        assert!(rt; state.steps < 9);
+        assert_eq!(rt; state.turn(alloc, Tid(tid), None, &mut out)?, told);
+    }
     assert_eq!(rt; (state.end, out.len()), (End::Exit(7), 0));
     Ok(())
 }
