@@ -109,7 +109,8 @@ fn starts(rt: HostRuntime) -> Result<(), Fail> {
     assert_eq!(rt; state.pages.pages(), 17);
     assert_eq!(rt; state.pages.flags(0x10), Some(5));
     let page = state.pages.page_bytes(0x10).ok_or("the file's page")?;
-    assert_eq!(rt; (page.len(), file.len()), (4096, 96));
+    assert_eq!(rt; page.len(), 4096);
+    assert_eq!(rt; file.len(), 96);
     assert_eq!(rt; &page[..96], file.as_slice());
     assert!(rt; page[96..].iter().all(|byte| *byte == 0));
     for number in 0x7fff0..0x80000 {
