@@ -1,0 +1,4 @@
+pub mod Command
+pub mod Recording
+pub mod StatusNumber
+pub mod Fresh

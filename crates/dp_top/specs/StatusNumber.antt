@@ -1,0 +1,11 @@
+-- The numbers with which the program ends, a row for each status.
+use Rattle.std.specs.Prelude.{ℕ}
+use Rattle.dp_top.specs.declared.status.Status.{Status}
+use Rattle.dp_top.specs.declared.status.Status.TheVariants as statuses
+
+abbrev pub status_number : Status → ℕ
+status_number statuses.Ok = 0
+status_number statuses.Usage = 2
+status_number (statuses.BadImage fault) = 4
+status_number statuses.DiskFault = 6
+status_number statuses.OutOfMemory = 13
