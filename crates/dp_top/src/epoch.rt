@@ -1,6 +1,7 @@
 // One epoch: a guest's whole run.
 ghost use Rattle.std.specs.Prelude.{◌≡◌, [], ◌∷◌, IfOk};
-ghost use Rattle.dp_base.specs.Journal.{IsEpoch};
+ghost use Rattle.dp_base.specs.Journal.{IsBody, IsEpoch, epoch_body};
+ghost use Rattle.dp_top.specs.EpochRecord.{epoch_of};
 ghost use Rattle.dp_top.specs.Recording.{RunsToItsEnd};
 ghost use Rattle.dp_top.specs.Fresh.{IsFresh, EndsAfter};
 
@@ -20,10 +21,11 @@ const FIRST_THREAD: Tid = Tid(1);
 /// The run of a guest from its start state to its end, in one slice.
 pub fn run_epoch(alloc: Global, state: State) -> Result<Epoch, OutOfMemory>
     requires { IsFresh state }
-    ensures epoch { IfOk result (λ e. IsEpoch (record { slices = e.slices; answers = e.answers })) }
-    ensures runs { IfOk result (λ e. RunsToItsEnd state (record { slices = e.slices; answers = e.answers } ∷ [])) }
-    ensures lone { IfOk result (λ e. (steps : _) × (e.slices ≡ record { tid = record { 0 = 1 }; steps = steps } ∷ []) × (e.answers ≡ [])) }
+    ensures epoch { IfOk result (λ e. IsEpoch (epoch_of e)) }
+    ensures fits { IfOk result (λ e. IsBody (epoch_body (epoch_of e))) }
+    ensures runs { IfOk result (λ e. RunsToItsEnd state (epoch_of e ∷ [])) }
 {
+    dp_base::laws::lone_slices();
     laws::turns_are_a_slice();
     let steps = steps_to_the_end(alloc, state)?;
     let mut slices = SliceLog::new(alloc);

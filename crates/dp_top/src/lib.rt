@@ -13,6 +13,9 @@
 mod command;
 mod epoch;
 mod journal;
+mod recorder;
 mod status;
+mod top;
 
 pub use status::Status;
+pub use top::run;

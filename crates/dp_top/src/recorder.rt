@@ -1,16 +1,17 @@
 // A recording: begin, one epoch, append.
 ghost use Rattle.std.specs.Prelude.{◌≡◌, ◌≤◌, [], IfOk, IfSome, OnOk, IsErrOf};
 ghost use Rattle.disk_model.specs.Disk.{Rose};
-ghost use Rattle.dp_base.specs.Journal.{epoch_body, frame, IsEpoch};
+ghost use Rattle.dp_base.specs.Journal.{epoch_body, frame, IsBody, IsEpoch};
 ghost use Rattle.guest_kernel.specs.Image.{IsGuestFile};
 ghost use Rattle.guest_kernel.specs.Start.{start_state};
-ghost use Rattle.dp_top.specs.Recording.{IsRecording, Reads, LoneSlice};
+ghost use Rattle.dp_top.specs.EpochRecord.{epoch_of};
+ghost use Rattle.dp_top.specs.Recording.{IsRecording, Reads};
 
 use crate::epoch::{Epoch, run_epoch};
 use crate::journal::{Frame, Journal, JournalFault};
 use disk_model::World;
+use dp_base::OutOfMemory;
 use dp_base::journal::write_epoch_body;
-use dp_base::{OutOfMemory, laws};
 use guest_kernel::State;
 use std::alloc::Global;
 
@@ -39,10 +40,10 @@ pub fn record_guest<W: World>(
 
 // The frame of an epoch's record.
 fn frame_of(alloc: Global, epoch: &Epoch) -> Result<Frame, OutOfMemory>
-    requires { LoneSlice epoch.now.slices epoch.now.answers }
-    ensures frame { IfOk result (λ f. f ≡ frame (epoch_body (record { slices = epoch.now.slices; answers = epoch.now.answers }))) }
+    requires epoch { IsEpoch (epoch_of epoch.now) }
+    requires fits { IsBody (epoch_body (epoch_of epoch.now)) }
+    ensures { IfOk result (λ f. f ≡ frame (epoch_body (epoch_of epoch.now))) }
 {
-    laws::lone_slices();
     let mut body = Vec::new(alloc);
     write_epoch_body(&mut body, epoch.slices.as_slice(), epoch.answers.as_slice())?;
     Frame::of(alloc, &body)

@@ -7,13 +7,12 @@ ghost use Rattle.dp_top.specs.Command.{takes};
 ghost use Rattle.dp_top.specs.Recording.{IsRecording, Reads};
 
 use crate::command::journal_name;
-use crate::epoch::{Epoch, run_epoch};
-use crate::journal::{Frame, Journal, JournalFault};
+use crate::journal::JournalFault;
+use crate::recorder::record_guest;
 use crate::status::Status;
 use disk_model::World;
 use dp_base::OutOfMemory;
-use dp_base::journal::write_epoch_body;
-use guest_kernel::{ImageFault, State, load, start};
+use guest_kernel::{ImageFault, laws, load, start};
 use std::alloc::Global;
 
 /// Does what the words say: `NAME record GUEST JOURNAL` records the guest whose file is given into the journal
@@ -48,13 +47,14 @@ pub fn run<R, W: World>(
     let Some(journal) = journal_name(words) else {
         return (world, Status::Usage);
     };
+    laws::an_image_starts_as_its_file();
     let image = match load(alloc, guest) {
         Ok(image) => image,
         Err(ImageFault::NotBuilt) => return (world, Status::BadImage(0)),
         Err(ImageFault::OutOfMemory) => return (world, Status::OutOfMemory),
     };
     let status = match start(alloc, &image) {
-        Ok(state) => match record(alloc, &mut world, journal, guest, state) {
+        Ok(state) => match record_guest(alloc, &mut world, journal, guest, state) {
             Ok(()) => Status::Ok,
             Err(JournalFault::DiskFault) => Status::DiskFault,
             Err(JournalFault::OutOfMemory) => Status::OutOfMemory,
