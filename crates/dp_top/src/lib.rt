@@ -19,3 +19,6 @@ mod top;
 
 pub use status::Status;
 pub use top::run;
+
+#[cfg(test)]
+mod tests;
