@@ -12,7 +12,7 @@ use Rattle.dp_base.specs.declared.slice.Slice.{Slice}
 use Rattle.dp_base.specs.Field.{AreBytes, ◌>>=◌, bytes_at, number_at}
 use Rattle.dp_base.specs.Journal.{Epoch, IsSlice, IsAnswer, IsEpoch, steps_of, slice, answer, epoch_body, slice_at, read_at, clock_at, answer_at, many_at, epoch_body_at}
 use Rattle.dp_base.specs.Spelling.{HasOneSpelling}
-use Rattle.dp_base.proofs.Fields.{bind_some, bind_at, Splits, Splits-then, Splits-regroup, bytes_found, number_taken, number_found, byte_taken, measured_taken, measured_found, one_from_read}
+use Rattle.dp_base.proofs.Fields.{bind_some, bind_at, Splits, Splits-then, Splits-regroup, bytes_found, number_taken, number_found, byte_taken, measured_taken, measured_found, spelling_from}
 
 -- ---- slices
 
@@ -48,11 +48,7 @@ slice_found s rest fits =
     (bind_at (number_at 4 tid.1) (slice_end tid) steps (Some found) (number_found 4 s.steps rest (omega (arith, fits.3))) last)
 
 pub slice_spelling : HasOneSpelling slice_at slice IsSlice
-slice_spelling = record {
-  read = slice_found;
-  spelled = λ bytes x rest fits e. let t = slice_taken bytes (x, rest) fits e in (t.0.joined, t.1, t.0.left);
-  one = one_from_read slice_at slice IsSlice slice_found;
-}
+slice_spelling = spelling_from slice_at slice IsSlice slice_found slice_taken
 
 -- ---- answers
 
@@ -141,11 +137,7 @@ answer_found (Clock reading) rest fits =
     bind_at (number_at 1 (1 ∷ kind.1)) answer_kind kind (Some (Clock reading, rest)) (number_found 1 1 kind.1 (omega arith)) (clock_found reading rest fits)
 
 pub answer_spelling : HasOneSpelling answer_at answer IsAnswer
-answer_spelling = record {
-  read = answer_found;
-  spelled = λ bytes x rest fits e. let t = answer_taken bytes (x, rest) fits e in (t.0.joined, t.1, t.0.left);
-  one = one_from_read answer_at answer IsAnswer answer_found;
-}
+answer_spelling = spelling_from answer_at answer IsAnswer answer_found answer_taken
 
 -- ---- so many of a kind
 
@@ -260,8 +252,4 @@ epoch_found e rest fits =
     (bind_at (many_at answer_at answer_count.0 answer_count.1) (epoch_end kind slice_count slices) answers (Some found) answers-are last))))
 
 pub epoch_spelling : HasOneSpelling epoch_body_at epoch_body IsEpoch
-epoch_spelling = record {
-  read = epoch_found;
-  spelled = λ bytes x rest fits e. let t = epoch_taken bytes (x, rest) fits e in (t.0.joined, t.1, t.0.left);
-  one = one_from_read epoch_body_at epoch_body IsEpoch epoch_found;
-}
+epoch_spelling = spelling_from epoch_body_at epoch_body IsEpoch epoch_found epoch_taken

@@ -126,19 +126,23 @@ number_found n x rest lt =
 -- ---- what follows for whatever is read and spelled
 
 -- no spelling begins another, since reading finds both
-pub one_from_read : {X : Type 0} (item : List ℕ → Option (X × List ℕ)) (spell : X → List ℕ) (Is : X → Type 0) → ((x : X) (rest : List ℕ) → Is x → item (spell x ++ rest) ≡ Some (x, rest))
+one_from_read : {X : Type 0} (item : List ℕ → Option (X × List ℕ)) (spell : X → List ℕ) (Is : X → Type 0) → ((x : X) (rest : List ℕ) → Is x → item (spell x ++ rest) ≡ Some (x, rest))
     → (x y : X) (more others : List ℕ) → Is x → Is y → spell x ++ more ≡ spell y ++ others → (x ≡ y) × (more ≡ others)
 one_from_read {X} item spell Is read x y more others x-is y-is e =
     let both : ◌≡◌ {A = Option (X × List ℕ)} (Some (x, more)) (Some (y, others)) = sym (read x more x-is) ∙ ap item e ∙ read y others y-is in
     let same : ◌≡◌ {A = X × List ℕ} (x, more) (y, others) = same_Some _ _ both in
     (ap (λ (p : X × List ℕ). p.0) same, ap (λ (p : X × List ℕ). p.1) same)
 
-pub number_spelling : (n : ℕ) → HasOneSpelling (number_at n) (little_bytes n) (λ x. x < 256 ^ n)
-number_spelling n = record {
-  read = λ x rest lt. number_found n x rest lt;
-  spelled = λ bytes x rest fits e. let t = number_taken n bytes (x, rest) fits e in (t.0.joined, t.1, t.0.left);
-  one = one_from_read (number_at n) (little_bytes n) (λ x. x < 256 ^ n) (λ x rest lt. number_found n x rest lt);
+pub spelling_from : {X : Type 0} (item : List ℕ → Option (X × List ℕ)) (spell : X → List ℕ) (Is : X → Type 0) → ((x : X) (rest : List ℕ) → Is x → item (spell x ++ rest) ≡ Some (x, rest))
+    → ((bytes : List ℕ) (x : X × List ℕ) → AreBytes bytes → item bytes ≡ Some x → Splits bytes (spell x.0) x.1 × Is x.0) → HasOneSpelling item spell Is
+spelling_from item spell Is found taken = record {
+  read = found;
+  spelled = λ bytes x rest fits e. let t = taken bytes (x, rest) fits e in (t.0.joined, t.1, t.0.left);
+  one = one_from_read item spell Is found;
 }
+
+pub number_spelling : (n : ℕ) → HasOneSpelling (number_at n) (little_bytes n) (λ x. x < 256 ^ n)
+number_spelling n = spelling_from (number_at n) (little_bytes n) (λ x. x < 256 ^ n) (number_found n) (number_taken n)
 
 -- ---- bytes behind their length
 

@@ -8,7 +8,7 @@ use Rattle.dp_base.specs.declared.limits.TheConstants.{MAX_BODY_BYTES}
 use Rattle.dp_base.specs.Field.{AreBytes, ◌>>=◌, bytes_at, number_at}
 use Rattle.dp_base.specs.Journal.{IsBody, IsGuest, open_gate, closed_gate, magic, header_body, header, measured, frame, record_of, header_at, record_at}
 use Rattle.dp_base.specs.Spelling.{HasOneSpelling}
-use Rattle.dp_base.proofs.Fields.{bind_some, Splits, Splits-then, bytes_taken, bytes_found, byte_taken, measured_taken, measured_found, number_found, bind_at, none_after, one_from_read}
+use Rattle.dp_base.proofs.Fields.{bind_some, Splits, Splits-then, bytes_taken, bytes_found, byte_taken, measured_taken, measured_found, number_found, bind_at, none_after, spelling_from}
 
 -- ---- records
 
@@ -53,11 +53,7 @@ record_found body rest fits =
     (bind_at (bytes_at size.0 size.1) (record_end gate size) found (Some found) (bytes_found body rest) last))
 
 pub record_spelling : HasOneSpelling record_at record_of IsBody
-record_spelling = record {
-  read = record_found;
-  spelled = λ bytes x rest fits e. let t = record_taken bytes (x, rest) fits e in (t.0.joined, t.1, t.0.left);
-  one = one_from_read record_at record_of IsBody record_found;
-}
+record_spelling = spelling_from record_at record_of IsBody record_found record_taken
 
 -- ---- frames, which are records with the gate moved behind them
 
@@ -117,11 +113,7 @@ header_found guest rest fits =
     (bind_at (bytes_at size.0 size.1) (header_end gate word) found (Some found) (bytes_found guest rest) refl)))
 
 pub header_spelling : HasOneSpelling header_at header IsGuest
-header_spelling = record {
-  read = header_found;
-  spelled = λ bytes x rest fits e. let t = header_taken bytes (x, rest) fits e in (t.0.joined, t.1, t.0.left);
-  one = one_from_read header_at header IsGuest header_found;
-}
+header_spelling = spelling_from header_at header IsGuest header_found header_taken
 
 -- ---- a closed gate
 

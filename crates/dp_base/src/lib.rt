@@ -33,3 +33,5 @@ pub use tid::Tid;
 
 #[cfg(test)]
 mod tests;
+#[cfg(test)]
+mod worked_bytes;

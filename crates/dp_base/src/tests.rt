@@ -1,5 +1,6 @@
 use crate::field::*;
 use crate::journal::*;
+use crate::limits::*;
 use crate::*;
 use std::test::*;
 
@@ -98,5 +99,53 @@ fn header(rt: HostRuntime) -> Result<(), Fail> {
     write_header_body(&mut out, &guest)?;
     assert_eq!(rt; out.len(), 104);
     assert_eq!(rt; &out[..8], b"DPJ1\x60\x00\x00\x00".as_slice());
+    Ok(())
+}
+
+// Each limit in other words than those that make it.
+#[test]
+fn limits_in_other_words(rt: HostRuntime) {
+    assert_eq!(rt; MAX_PAGES * PAGE_BYTES, 4 << 20);
+    assert_eq!(rt; PAGE_NUMBERS * PAGE_BYTES, 0xffff_f000);
+    assert_eq!(rt; FIRST_STACK_PAGE * PAGE_BYTES, 0x7fff_0000);
+    assert_eq!(rt;
+        (FIRST_STACK_PAGE + STACK_PAGES) * PAGE_BYTES,
+        STACK_POINTER + 32
+    );
+    assert_eq!(rt; MAX_THREADS, 1 << 10);
+    assert_eq!(rt; MAX_CALL_BYTES, PAGE_BYTES);
+    assert_eq!(rt; MAX_EPOCH_STEPS, 10u32.pow(6));
+    assert_eq!(rt; MAX_BODY_BYTES, 16 << 20);
+    assert_eq!(rt; MAX_JOURNAL_BYTES, 64 * MAX_BODY_BYTES as u64);
+}
+
+// Where memory runs out, a field leaves all as it was, and a longer spelling what stood before it.
+#[test]
+fn refused_growth(rt: HostRuntime) -> Result<(), Fail> {
+    let alloc = rt.alloc();
+    let turns = [Slice {
+        tid: Tid(2),
+        steps: 9,
+    }];
+    let given = [Answer::Clock(5), Answer::Clock(6)];
+    let mut out = Vec::from_slice(alloc, b"ab")?;
+    if write_u64(&mut out, 7).is_err() {
+        assert_eq!(rt; out.as_slice(), b"ab".as_slice());
+    }
+    let mut out = Vec::from_slice(alloc, b"ab")?;
+    match write_epoch_body(&mut out, &turns, &given) {
+        Ok(()) => assert_eq!(rt; out.len(), 2 + 33),
+        Err(OutOfMemory) => assert!(rt; out.starts_with(b"ab")),
+    }
+    let mut out = Vec::from_slice(alloc, b"ab")?;
+    match write_frame(&mut out, b"0123456789") {
+        Ok(()) => assert_eq!(rt; out.len(), 2 + 15),
+        Err(OutOfMemory) => assert!(rt; out.starts_with(b"ab")),
+    }
+    let mut out = Vec::from_slice(alloc, b"ab")?;
+    match write_header_body(&mut out, b"0123456789") {
+        Ok(()) => assert_eq!(rt; out.len(), 2 + 18),
+        Err(OutOfMemory) => assert!(rt; out.starts_with(b"ab")),
+    }
     Ok(())
 }
