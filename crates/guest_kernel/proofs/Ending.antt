@@ -1,6 +1,6 @@
 -- A guest of the one form ends within 980 steps: each step that doesn't end it moves its one thread to the next word, and behind the
 -- file's words there are only zeros, which are no instruction.
-use Rattle.std.proofs.Common.{◌≡◌, ◌+◌, ◌-◌, ◌*◌, ◌/◌, ◌%◌, ◌^◌, ◌<◌, ◌≤◌, ◌⊎◌, inl, inr, ℕ, zero, suc, Bool, true, false, cond, eqb, List, [], ◌∷◌, ◌++◌, length, get_or, replicate, Option, Some, None, Result, Ok, Err, refl, sym, ap, subst, ◌∙◌, arith}
+use Rattle.std.proofs.Common.{◌≡◌, ◌+◌, ◌-◌, ◌*◌, ◌%◌, ◌^◌, ◌<◌, ◌≤◌, ◌⊎◌, inl, inr, ℕ, zero, suc, true, false, cond, List, [], ◌∷◌, ◌++◌, length, replicate, Option, Some, None, Result, Ok, Err, refl, sym, ap, subst, ◌∙◌, arith}
 use Rattle.std.specs.Prelude.{◌==◌, slice_index, slice_set}
 use Rattle.std.proofs.lemmas.Bool.{cases_eq}
 use Rattle.std.proofs.lemmas.List.{get_or-append_right}
@@ -13,12 +13,11 @@ use Rattle.guest_kernel.specs.Segment.{heap_start}
 use Rattle.guest_kernel.specs.declared.step.Instr.{Instr}
 use Rattle.guest_kernel.specs.declared.step.Instr.TheVariants.{Addi, Ecall}
 use Rattle.guest_kernel.specs.declared.state.State.{State}
-use Rattle.guest_kernel.specs.declared.thread.Thread.{Thread}
 use Rattle.guest_kernel.specs.declared.thread.Thread.TheVariants.{Runs}
 use Rattle.guest_kernel.specs.Call.{After, Refusal, not_runnable, silent, called, number_of, exits_all, unknown}
 use Rattle.guest_kernel.specs.Image.{IsImageOf, entry, mapped_whole}
 use Rattle.guest_kernel.specs.Instruction.{Effect, goes, calls, traps, decoded, executed}
-use Rattle.guest_kernel.specs.Memory.{Memory, page_at, code_byte, fetch}
+use Rattle.guest_kernel.specs.Memory.{Memory, fetch}
 use Rattle.guest_kernel.specs.Register.{register, with_register, wrapped, next}
 use Rattle.guest_kernel.specs.Start.{start_memory, start_hart, started, start_of, start_state, first_thread}
 use Rattle.guest_kernel.specs.State.{has_ended}

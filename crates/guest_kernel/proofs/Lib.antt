@@ -1,6 +1,6 @@
-pub mod PageTable
-pub mod Turns
-pub mod SliceRuns
-pub mod TurnTaken
-pub mod Ending
-pub mod Joining
+mod PageTable
+mod Turns
+mod SliceRuns
+mod TurnTaken
+mod Ending
+mod Joining

@@ -19,7 +19,7 @@ abbrev pub relogged : List Answer → Result After Refusal → Result After Refu
 relogged log (Ok after) = Ok (record after { rest = log })
 relogged log (Err refusal) = Err refusal
 
--- ---- no call of today's takes an answer, so a turn leaves its log as it is and doesn't depend on it
+-- ---- no call takes an answer, so a turn leaves its log as it is and doesn't depend on it
 
 called-log : (s : State) (tid : Tid) (hart : Hart) (clear : ℕ) (log other : List Answer) → called s tid hart clear log ≡ relogged log (called s tid hart clear other)
 called-log s tid hart clear log other =

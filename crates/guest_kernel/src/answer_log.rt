@@ -50,6 +50,7 @@ impl AnswerLog {
         Some(item)
     }
 
+    /// The answers, first to last.
     pub fn as_slice(&self) -> &[Answer]
         ensures { result.now ≡ self.now }
     {

@@ -48,6 +48,7 @@ impl Segments {
         Ok(Segments { items })
     }
 
+    /// The segments, first to last.
     pub fn as_slice(&self) -> &[Segment]
         ensures segments { result.now ≡ self.now }
         ensures kept { AreSegments self.now }

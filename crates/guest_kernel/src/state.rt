@@ -66,3 +66,103 @@ impl State {
         }
     }
 }
+
+#[cfg(test)]
+mod tests {
+    use super::*;
+    use crate::hart::Hart;
+    use crate::kernel::Turn;
+    use std::alloc::Global;
+    use std::test::Fail;
+
+    fn state_of(alloc: Global, thread: Thread) -> Result<State, Fail> {
+        Ok(State {
+            pages: Pages::new(alloc),
+            heap: 0,
+            brk: 0,
+            threads: Threads::one(alloc, thread)?,
+            input: 0,
+            steps: 0,
+            end: End::None,
+        })
+    }
+
+    #[test]
+    fn a_slices_end(rt: HostRuntime) -> Result<(), Fail> {
+        let hart = Hart {
+            pc: 4,
+            x: [7; 31],
+            held: Some(4),
+        };
+        let free = Hart {
+            pc: 4,
+            x: [7; 31],
+            held: None,
+        };
+        let runs = |hart| Thread::Runs { hart, clear: 3 };
+        let waits = |hart| Thread::Waits {
+            addr: 8,
+            hart,
+            clear: 3,
+        };
+        let cases = [
+            (runs(hart), 1, runs(free)),
+            (waits(hart), 1, waits(free)),
+            (runs(hart), 2, runs(hart)),
+            (runs(hart), 0, runs(hart)),
+            (Thread::Gone(6), 1, Thread::Gone(6)),
+        ];
+        for (before, tid, left) in cases {
+            let mut state = state_of(rt.alloc(), before)?;
+            state.end_slice(Tid(tid));
+            assert!(rt;
+                state
+                    .threads
+                    .get(Tid(1))
+                    .is_some_and(|thread| *thread == left)
+            );
+            assert!(rt; !state.ended());
+        }
+        Ok(())
+    }
+
+    // Where the guest ended, no such thread was made or the thread doesn't run, there is no turn.
+    #[test]
+    fn no_turn(rt: HostRuntime) -> Result<(), Fail> {
+        let hart = Hart {
+            pc: 4,
+            x: [7; 31],
+            held: None,
+        };
+        let runs = Thread::Runs { hart, clear: 0 };
+        let waits = Thread::Waits {
+            addr: 4,
+            hart,
+            clear: 0,
+        };
+        let trap = End::Trap {
+            tid: Tid(1),
+            cause: 2,
+            value: 0,
+        };
+        let cases = [
+            (runs, End::None, 0),
+            (runs, End::None, 2),
+            (waits, End::None, 1),
+            (Thread::Gone(0), End::None, 1),
+            (runs, End::Exit(0), 1),
+            (runs, trap, 1),
+            (runs, End::Deadlock, 1),
+        ];
+        for (thread, end, tid) in cases {
+            let mut state = state_of(rt.alloc(), thread)?;
+            assert_eq!(rt; state.steps, 0);
+            state.end = end;
+            assert_eq!(rt; state.ended(), end != End::None);
+            let mut out = Vec::new(rt.alloc());
+            let told = state.turn(rt.alloc(), Tid(tid), None, &mut out)?;
+            assert_eq!(rt; (told, state.end, state.steps), (Turn::NotRunnable, end, 0));
+        }
+        Ok(())
+    }
+}

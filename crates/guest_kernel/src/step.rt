@@ -87,3 +87,76 @@ pub fn exec(hart: &mut Hart, pages: &Pages) -> Stepped
         },
     }
 }
+
+#[cfg(test)]
+mod tests {
+    use super::*;
+    use std::test::Fail;
+
+    #[test]
+    fn words(rt: HostRuntime) {
+        let addi = |rd, rs1, imm| Some(Instr::Addi { rd, rs1, imm });
+        let cases = [
+            (0x0070_0513, addi(10, 0, 7)),
+            // the opcode ends at bit 6, and rd begins at bit 7
+            (0x0000_0093, addi(1, 0, 0)),
+            (0x7fff_8f93, addi(31, 31, 0x7ff)),
+            (0x8000_0013, addi(0, 0, 0xffff_f800)),
+            (0x0000_0073, Some(Instr::Ecall)),
+            // EBREAK, ECALL with rd 1, SLLI, ANDI, ADD, C.NOP, zeros and ones
+            (0x0010_0073, None),
+            (0x0000_00f3, None),
+            (0x0000_1013, None),
+            (0x0000_7013, None),
+            (0x0000_0033, None),
+            (0x0000_0001, None),
+            (0x0000_0000, None),
+            (0xffff_ffff, None),
+        ];
+        for (word, instruction) in cases {
+            assert_eq!(rt; decode(word), instruction, "{word:x}");
+        }
+    }
+
+    #[test]
+    fn steps(rt: HostRuntime) -> Result<(), Fail> {
+        let mut pages = Pages::new(rt.alloc());
+        // page 10 may only be executed: ecall; addi x31, x1, -1; a word that is no instruction. Page 11 may be read
+        // and written.
+        pages.map_above(
+            0x10,
+            1,
+            &[0x73, 0, 0, 0, 0x93, 0x8f, 0xf0, 0xff, 4, 3, 2, 1],
+        )?;
+        pages.map_above(0x11, 6, &[0x73])?;
+        let trap = |cause, value| Stepped::Trap { cause, value };
+        let cases = [
+            (0x10000, Stepped::Ecall),
+            (0x10004, Stepped::Went),
+            (0x10008, trap(2, 0x0102_0304)),
+            (0x10002, trap(0, 0x10002)),
+            // where nothing is mapped, and no multiple of 4
+            (0x0ffff, trap(0, 0x0ffff)),
+            (0x10ffc, trap(2, 0)),
+            (0x11000, trap(1, 0x11000)),
+            (0x0fffc, trap(1, 0x0fffc)),
+            (0xffff_fffc, trap(1, 0xffff_fffc)),
+        ];
+        for (pc, stepped) in cases {
+            let mut hart = Hart {
+                pc,
+                x: [9; 31],
+                held: Some(8),
+            };
+            let mut left = hart;
+            if stepped == Stepped::Went {
+                left.set_register(31, 8);
+                left.pc = 0x10008;
+            }
+            assert_eq!(rt; exec(&mut hart, &pages), stepped, "at {pc:x}");
+            assert_eq!(rt; hart, left, "at {pc:x}");
+        }
+        assert_eq!(rt; pages.fetch(0x10ffe), None, "half of it on page 11");
+        Ok(())
+    }
+}

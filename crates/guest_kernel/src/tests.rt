@@ -1,5 +1,8 @@
+ghost use Rattle.std.specs.Prelude.{◌≡◌, ◌<◌, ◌^◌, IfOk};
+ghost use Rattle.dp_base.specs.Journal.{steps_of};
+
 use super::*;
-use dp_base::{Answer, Slice, Tid};
+use dp_base::{Answer, Bytes, Slice, Tid};
 use std::alloc::{AllocError, Global};
 use std::test::Fail;
 
@@ -37,14 +40,24 @@ fn guest(alloc: Global, words: &[u32]) -> Result<Vec<u8>, AllocError> {
     guest_of(alloc, size, size, words)
 }
 
+fn started(alloc: Global, words: &[u32]) -> Result<State, Fail>
+    ensures steps { IfOk result (λ state. state.steps ≡ 0) }
+    ensures input { IfOk result (λ state. state.input ≡ 0) }
+{
+    let image = load(alloc, &guest(alloc, words)?)?;
+    Ok(start(alloc, &image)?)
+}
+
 // A guest after a run of one slice of thread 1, and what the run came to.
 fn after(alloc: Global, words: &[u32], steps: u32) -> Result<(State, SliceRun), Fail> {
-    let image = load(alloc, &guest(alloc, words)?)?;
-    let mut state = start(alloc, &image)?;
-    let slices = [Slice { tid: Tid(1), steps }];
+    let mut state = started(alloc, words)?;
     let mut out = Vec::new(alloc);
-    let run = state.run_slices(alloc, &slices, &[], &mut out)?;
+    let run = state.run_slices(alloc, &[slice(1, steps)], &[], &mut out)?;
     Ok((state, run))
+}
+
+fn stops(slice: usize, step: u32) -> SliceRun {
+    SliceRun::Stops { slice, step }
 }
 
 fn trap(cause: u8, value: u32) -> End {
@@ -63,192 +76,252 @@ fn hart_of(state: &State) -> Option<&Hart> {
 }
 
 #[test]
-fn guests_end(rt: HostRuntime) -> Result<(), Fail> {
+fn files(rt: HostRuntime) -> Result<(), Fail> {
     let alloc = rt.alloc();
-    let longest = vec![in alloc; ADDI_TO_X0; 979]?;
-    // how many steps come before the last one
-    let cases: [(&[u32], u16, End); 5] = [
-        (&EXIT_SEVEN, 2, End::Exit(7)),
-        // EBREAK isn't known here
-        (
-            &[0x0010_0073, 0x0010_0893, 0x0000_0073],
-            0,
-            trap(2, 0x0010_0073),
-        ),
-        // no word at all: the zeros behind the headers
-        (&[], 0, trap(2, 0)),
-        (longest.as_slice(), 979, trap(2, 0)),
-        // x17 is 0, which is no call; the next word is no instruction
-        (&[0x0000_0073], 1, trap(2, 0)),
+    // p_filesz, p_memsz, the file's length, and whether it is a guest
+    let cases = [
+        (84, 84, 84, true),
+        (96, 96, 96, true),
+        (4000, 4000, 4000, true),
+        (0, 0, 0, false),
+        (84, 84, 83, false),
+        (83, 83, 83, false),
+        (4000, 4000, 4001, false),
+        (4001, 4001, 4001, false),
+        (97, 96, 96, false),
+        (96, 95, 96, false),
     ];
-    for (words, before, end) in cases {
-        let steps = u32::from(before) + 1;
-        let (state, run) = after(alloc, words, steps)?;
-        assert_eq!(rt; run, SliceRun::Whole, "{steps} steps");
-        assert_eq!(rt; (state.end, state.steps), (end, u64::from(steps)));
-        assert!(rt; state.ended());
-        let (_, more) = after(alloc, words, steps + 1)?;
-        assert_eq!(rt;
-            more,
-            SliceRun::Stops {
-                slice: 0,
-                step: steps
-            }
-        );
-        let (running, _) = after(alloc, words, steps - 1)?;
-        assert!(rt; !running.ended(), "before {steps} steps");
+    for (filesz, memsz, len, is_guest) in cases {
+        let mut file = guest_of(alloc, filesz, memsz, &[])?;
+        file.resize(len, 0)?;
+        let fault = load(alloc, &file).err();
+        let refused = Some(ImageFault::NotBuilt);
+        assert_eq!(rt; fault, if is_guest { None } else { refused }, "{len} bytes");
     }
     Ok(())
 }
 
 #[test]
 fn starts(rt: HostRuntime) -> Result<(), Fail> {
-    let alloc = rt.alloc();
-    let file = guest(alloc, &EXIT_SEVEN)?;
-    let state = start(alloc, &load(alloc, &file)?)?;
-    assert_eq!(rt; state.pages.pages(), 17);
-    assert_eq!(rt; state.pages.flags(0x10), Some(5));
-    let page = state.pages.page_bytes(0x10).ok_or("the file's page")?;
-    assert_eq!(rt; page.len(), 4096);
-    assert_eq!(rt; file.len(), 96);
-    assert_eq!(rt; &page[..96], file.as_slice());
-    assert!(rt; page[96..].iter().all(|byte| *byte == 0));
-    for number in 0x7fff0..0x80000 {
-        assert_eq!(rt; state.pages.flags(number), Some(6));
-        let page = state.pages.page_bytes(number).ok_or("a page of the stack")?;
-        assert!(rt; page.iter().all(|byte| *byte == 0));
-    }
-    assert_eq!(rt; state.pages.flags(0x7ffef), None);
-    assert_eq!(rt; state.pages.flags(0x80000), None);
+    let state = started(rt.alloc(), &EXIT_SEVEN)?;
     let hart = hart_of(&state).ok_or("thread 1 runs")?;
     assert_eq!(rt; hart.pc, 0x10054);
     for number in 0..32 {
-        assert_eq!(rt;
-            hart.register(number),
-            if number == 2 { 0x7fff_ffe0 } else { 0 }
-        );
+        let value = if number == 2 { 0x7fff_ffe0 } else { 0 };
+        assert_eq!(rt; hart.register(number), value);
     }
     assert_eq!(rt; (state.heap, state.brk), (0x11000, 0x11000));
     assert_eq!(rt; (state.input, state.steps), (0, 0));
-    assert_eq!(rt; state.threads.len(), 1);
-    assert_eq!(rt; state.end, End::None);
+    assert_eq!(rt; (state.threads.len(), state.end), (1, End::None));
+    Ok(())
+}
+
+// Each byte of the headers counts.
+#[test]
+fn other_headers(rt: HostRuntime) -> Result<(), Fail> {
+    let alloc = rt.alloc();
+    for place in 0..84 {
+        let mut file = guest(alloc, &EXIT_SEVEN)?;
+        if let Some(byte) = file.get_mut(place) {
+            *byte ^= 1;
+        }
+        let fault = load(alloc, &file).err();
+        assert_eq!(rt; fault, Some(ImageFault::NotBuilt), "byte {place}");
+    }
+    Ok(())
+}
+
+// Whether it is a page with these bytes at its front and zeros behind them.
+fn is_page(page: Option<&[u8]>, front: &[u8]) -> bool {
+    let Some(page) = page else {
+        return false;
+    };
+    let zeros = page.iter().skip(front.len()).all(|byte| *byte == 0);
+    page.len() == 4096 && page.starts_with(front) && zeros
+}
+
+#[test]
+fn start_pages(rt: HostRuntime) -> Result<(), Fail> {
+    let file = guest(rt.alloc(), &EXIT_SEVEN)?;
+    let pages = started(rt.alloc(), &EXIT_SEVEN)?.pages;
+    assert_eq!(rt; pages.pages(), 17);
+    assert_eq!(rt; pages.flags(0x10), Some(5));
+    assert!(rt; is_page(pages.page_bytes(0x10), &file));
+    for number in 0x7fff0..0x80000 {
+        assert_eq!(rt; pages.flags(number), Some(6));
+        assert!(rt; is_page(pages.page_bytes(number), &[]));
+    }
+    for number in [0, 0xf, 0x11, 0x7ffef, 0x80000] {
+        assert_eq!(rt; pages.flags(number), None);
+    }
+    Ok(())
+}
+
+#[test]
+fn a_segment_that_fills_its_page(rt: HostRuntime) -> Result<(), Fail> {
+    let alloc = rt.alloc();
+    let bytes = Bytes::from_vec(Vec::from_slice(alloc, &[1, 2, 3])?);
+    let segment = Segment {
+        addr: 0x20000,
+        bytes,
+        size: 4096,
+        flags: 7,
+    };
+    let segments = Segments::one(alloc, segment)?;
+    let mut state = start(
+        alloc,
+        &Image {
+            entry: 0x20001,
+            segments,
+            heap: 0x21000,
+        },
+    )?;
+    assert_eq!(rt; state.pages.flags(0x20), Some(7));
+    let mut out = Vec::new(alloc);
+    let told = state.turn(alloc, Tid(1), None, &mut out)?;
+    assert_eq!(rt; (told, state.steps), (Turn::Stepped { used: false }, 1));
+    assert_eq!(rt; state.end, trap(0, 0x20001));
+    Ok(())
+}
+
+#[test]
+fn guests_end(rt: HostRuntime) -> Result<(), Fail> {
+    let alloc = rt.alloc();
+    let longest = vec![in alloc; ADDI_TO_X0; 979]?;
+    // how many steps come before the last one, and where thread 1 stands behind that
+    let cases: [(&[u32], u16, End, u32); 6] = [
+        (&EXIT_SEVEN, 2, End::Exit(7), 0x10060),
+        // addi x10, x0, -1
+        (
+            &[0x0010_0893, 0xfff0_0513, 0x73],
+            2,
+            End::Exit(0xffff_ffff),
+            0x10060,
+        ),
+        // EBREAK isn't known here
+        (
+            &[0x0010_0073, 0x0010_0893, 0x73],
+            0,
+            trap(2, 0x0010_0073),
+            0x10054,
+        ),
+        // no word at all: the zeros behind the headers
+        (&[], 0, trap(2, 0), 0x10054),
+        (&longest, 979, trap(2, 0), 0x10fa0),
+        // x17 is 0, which is no call; the next word is no instruction
+        (&[0x73], 1, trap(2, 0), 0x10058),
+    ];
+    for (words, before, end, pc) in cases {
+        let steps = u32::from(before) + 1;
+        let (state, run) = after(alloc, words, steps)?;
+        assert_eq!(rt; run, SliceRun::Whole, "{steps} steps");
+        assert_eq!(rt; (state.end, state.steps), (end, u64::from(steps)));
+        assert_eq!(rt; hart_of(&state).map(|hart| hart.pc), Some(pc));
+        assert_eq!(rt; after(alloc, words, steps + 1)?.1, stops(0, steps));
+        let (earlier, _) = after(alloc, words, steps - 1)?;
+        assert!(rt; !earlier.ended(), "before {steps} steps");
+    }
     Ok(())
 }
 
 #[test]
 fn registers(rt: HostRuntime) -> Result<(), Fail> {
     let alloc = rt.alloc();
-    // addi x5, x6, immediate behind addi x6, x0, 1
-    let cases = [
-        (0x7ff3_0293, 0x0000_0800),
-        (0x8003_0293, 0xffff_f801),
-        (0xfff3_0293, 0x0000_0000),
+    let cases: [(&[u32], u8, u32); 8] = [
+        // addi x5, x6, immediate behind addi x6, x0, 1
+        (&[0x0010_0313, 0x7ff3_0293], 5, 0x0000_0800),
+        (&[0x0010_0313, 0x8003_0293], 5, 0xffff_f801),
+        (&[0x0010_0313, 0xfff3_0293], 5, 0x0000_0000),
+        // addi x0, x0, 5 behind addi x1, x0, 3
+        (&[0x0030_0093, 0x0050_0013], 0, 0),
+        (&[0x0030_0093, 0x0050_0013], 1, 3),
+        // addi x17, x0, 5; ecall: no such call, and its number stays
+        (&[0x0050_0893, 0x0000_0073], 10, 0xffff_ffda),
+        (&[0x0050_0893, 0x0000_0073], 17, 5),
+        // x17 is 0: no such call here
+        (&[0x0070_0513, 0x0000_0073], 10, 0xffff_ffda),
     ];
-    for (word, value) in cases {
-        let (state, _) = after(alloc, &[0x0010_0313, word], 2)?;
+    for (words, number, value) in cases {
+        let (state, _) = after(alloc, words, 2)?;
         let hart = hart_of(&state).ok_or("thread 1 runs")?;
-        assert_eq!(rt; hart.register(5), value, "{word:x}");
-        assert_eq!(rt; hart.pc, 0x1005c);
+        assert!(rt; number < 32);
+        assert_eq!(rt; hart.register(number), value);
+        assert_eq!(rt; (hart.pc, state.end), (0x1005c, End::None));
     }
-    // addi x0, x0, 5
-    let (state, _) = after(alloc, &[0x0050_0013], 1)?;
-    assert_eq!(rt; hart_of(&state).map(|hart| hart.register(0)), Some(0));
-    // addi x17, x0, 5; ecall: no such call
-    let (state, _) = after(alloc, &[0x0050_0893, 0x0000_0073], 2)?;
-    let hart = hart_of(&state).ok_or("thread 1 runs")?;
-    assert_eq!(rt; (hart.register(10), hart.pc), (0xffff_ffda, 0x1005c));
-    assert_eq!(rt; state.end, End::None);
     Ok(())
 }
 
-#[test]
-fn files(rt: HostRuntime) -> Result<(), Fail> {
-    let alloc = rt.alloc();
-    let words = vec![in alloc; 0; 979]?;
-    let mut longest = guest(alloc, &words)?;
-    assert_eq!(rt; longest.len(), 4000);
-    assert!(rt; load(alloc, &longest).is_ok());
-    assert!(rt; load(alloc, &guest(alloc, &[])?).is_ok());
-    longest.push(0)?;
-    let mut too_long = guest_of(alloc, 4001, 4001, &words)?;
-    too_long.push(0)?;
-    let mut other_machine = guest(alloc, &EXIT_SEVEN)?;
-    if other_machine.len() > 18 {
-        other_machine[18] = 0xf2;
+// What a run of slices of the guest that exits with 7 comes to, and its step count behind it.
+fn ran(alloc: Global, slices: &[Slice], answers: &[Answer]) -> Result<(SliceRun, u64), Fail>
+    requires { steps_of slices.now < 2 ^ 62 }
+{
+    let mut state = started(alloc, &EXIT_SEVEN)?;
+    let mut out = Vec::new(alloc);
+    let run = state.run_slices(alloc, slices, answers, &mut out)?;
+    Ok((run, state.steps))
+}
+
+fn slice(tid: u16, steps: u32) -> Slice {
+    Slice {
+        tid: Tid(tid),
+        steps,
     }
-    let mut short = guest(alloc, &[])?;
-    short.truncate(83);
-    let refused = [
-        Vec::new(alloc),
-        short,
-        longest,
-        too_long,
-        guest_of(alloc, 97, 96, &EXIT_SEVEN)?,
-        guest_of(alloc, 96, 95, &EXIT_SEVEN)?,
-        other_machine,
-    ];
-    for file in refused {
-        let len = file.len();
-        assert_eq!(rt;
-            load(alloc, &file).err(),
-            Some(ImageFault::NotBuilt),
-            "{len} bytes"
-        );
-    }
-    Ok(())
 }
 
 #[test]
 fn runs_that_stop(rt: HostRuntime) -> Result<(), Fail> {
     let alloc = rt.alloc();
-    let mut slices = SliceLog::new(alloc);
-    for (tid, steps) in [(1, 2), (9, 1)] {
-        slices.put(Slice {
-            tid: Tid(tid),
-            steps,
-        })?;
-    }
-    let mut at = 0;
-    assert_eq!(rt; slices.next(&mut at).map(|slice| slice.steps), Some(2));
-    assert_eq!(rt; slices.next(&mut at).map(|slice| slice.tid), Some(Tid(9)));
-    assert_eq!(rt; (slices.next(&mut at), at), (None, 2));
-
-    let image = load(alloc, &guest(alloc, &EXIT_SEVEN)?)?;
-    let mut out = Vec::new(alloc);
-    let mut state = start(alloc, &image)?;
-    let two = [
-        Slice {
-            tid: Tid(1),
-            steps: 2,
-        },
-        Slice {
-            tid: Tid(9),
-            steps: 1,
-        },
-    ];
-    let run = state.run_slices(alloc, &two, &[], &mut out)?;
-    assert_eq!(rt; run, SliceRun::Stops { slice: 1, step: 0 });
-    assert_eq!(rt; state.steps, 2);
-
-    let mut answers = AnswerLog::new(alloc);
-    answers.put(Answer::Clock(5))?;
-    let mut state = start(alloc, &image)?;
-    let run = state.run_slices(alloc, &two[..1], answers.as_slice(), &mut out)?;
+    let answers = [Answer::Clock(5)];
     assert_eq!(rt;
-        run,
-        SliceRun::Stops { slice: 1, step: 0 },
-        "an answer is left"
+        ran(alloc, &[slice(1, 2), slice(9, 1)], &[])?,
+        (stops(1, 0), 2)
     );
-    let turns = [
+    assert_eq!(rt;
+        ran(alloc, &[slice(1, 1), slice(1, 4)], &[])?,
+        (stops(1, 2), 3)
+    );
+    assert_eq!(rt; ran(alloc, &[slice(1, 2)], &answers)?, (stops(1, 0), 2));
+    assert_eq!(rt; ran(alloc, &[], &answers)?, (stops(0, 0), 0));
+    assert_eq!(rt; ran(alloc, &[slice(9, 0)], &[])?, (SliceRun::Whole, 0));
+    Ok(())
+}
+
+#[test]
+fn turns(rt: HostRuntime) -> Result<(), Fail> {
+    let alloc = rt.alloc();
+    let mut state = started(alloc, &EXIT_SEVEN)?;
+    let mut out = Vec::new(alloc);
+    let went = Turn::Stepped { used: false };
+    for (tid, told) in [
         (0, Turn::NotRunnable),
         (2, Turn::NotRunnable),
-        (1, Turn::Stepped { used: false }),
+        (1, went),
+        (1, went),
+        (1, went),
         (1, Turn::NotRunnable),
-    ];
-    for (tid, told) in turns {
+    ] {
         assert!(rt; state.steps < 9);
-        assert_eq!(rt; state.turn(alloc, Tid(tid), None, &mut out)?, told);
+        assert_eq!(rt;
+            state.turn(alloc, Tid(tid), Some(&Answer::Clock(5)), &mut out)?,
+            told
+        );
     }
-    assert_eq!(rt; (state.end, out.len()), (End::Exit(7), 0));
+    assert_eq!(rt; (state.end, state.steps, out.len()), (End::Exit(7), 3, 0));
+    Ok(())
+}
+
+// The end of a slice drops its thread's reservation; a slice that stops has no end.
+#[test]
+fn reservations(rt: HostRuntime) -> Result<(), Fail> {
+    let alloc = rt.alloc();
+    for (steps, held) in [(1, None), (3, None), (4, Some(4))] {
+        let mut state = started(alloc, &EXIT_SEVEN)?;
+        let mut hart = *hart_of(&state).ok_or("thread 1 runs")?;
+        hart.held = Some(4);
+        state.threads = Threads::one(alloc, Thread::Runs { hart, clear: 0 })?;
+        let mut out = Vec::new(alloc);
+        state.run_slices(alloc, &[slice(1, steps)], &[], &mut out)?;
+        assert_eq!(rt; hart_of(&state).map(|hart| hart.held), Some(held));
+    }
     Ok(())
 }
