@@ -3,7 +3,7 @@ use Rattle.std.proofs.Common.{◌≡◌, ℕ, zero, suc, ◌+◌, ◌-◌, ◌*�
 use Rattle.std.proofs.Math.Nat.{div-div-eq-div-mul, div-one, pow-suc}
 use Rattle.std.specs.Int.{byte_at, bytes_low_first}
 use Rattle.std.proofs.lemmas.Bool.{cases_lt, ltb-false, le-ltb}
-use Rattle.std.proofs.lemmas.List.{take_at, drop_at, take-append-drop, length-append, length-take, get_or_append_left, get_or-append_right}
+use Rattle.std.proofs.lemmas.List.{length-drop, take_at, drop_at, take-append-drop, length-append, length-take, get_or_append_left, get_or-append_right}
 use Rattle.std.proofs.lemmas.Option.{same_Some}
 use Rattle.byteorder.specs.Endian.{little_bytes, little_number, little_from}
 use Rattle.byteorder.specs.Numbers.{length-bytes_low_first, little_from-cons, little_from-lt, little_number-reads_back}
@@ -116,6 +116,14 @@ number_taken n bytes x fits e =
     let front = little_bytes_were n bytes fits long in
     let made : Splits bytes (little_bytes n (little_number n bytes)) (drop n bytes) = record { joined = sym (take-append-drop n bytes) ∙ ap (λ (t : List ℕ). t ++ drop n bytes) (sym front); left = AreBytes-drop n bytes fits } in
     subst (λ (y : ℕ × List ℕ). Splits bytes (little_bytes n y.0) y.1 × (y.0 < 256 ^ n)) g.1 (made, little_from-lt 0 n bytes fits)
+
+-- as many fewer bytes are left
+pub number_left : (n x : ℕ) (bytes rest : List ℕ) → number_at n bytes ≡ Some (x, rest) → length bytes ≡ n + length rest
+number_left n x bytes rest e =
+    let g = enough (ltb (length bytes) n) (little_number n bytes, drop n bytes) (x, rest) e in
+    let long : n ≤ length bytes = ltb-false _ _ g.0 in
+    let rest_is : drop n bytes ≡ rest = ap (λ (p : ℕ × List ℕ). p.1) g.1 in
+    omega (arith, long, length-drop n bytes, ap length rest_is)
 
 pub number_found : (n x : ℕ) (rest : List ℕ) → x < 256 ^ n → number_at n (little_bytes n x ++ rest) ≡ Some (x, rest)
 number_found n x rest lt =

@@ -1,6 +1,6 @@
 //! Laws of the fields and of the journal's spellings, over all values and all bytes.
 
-ghost use Rattle.std.specs.Prelude.{◌≡◌, ◌++◌, ◌∷◌, [], ℕ, ◌+◌, ◌*◌, ◌<◌, ◌≤◌, ◌^◌, List, length};
+ghost use Rattle.std.specs.Prelude.{◌≡◌, ◌++◌, ◌∷◌, [], ℕ, ◌+◌, ◌*◌, ◌<◌, ◌≤◌, ◌^◌, List, Some, length};
 ghost use Rattle.std.specs.List.{flat_map};
 ghost use Rattle.byteorder.specs.Endian.{little_bytes};
 ghost use Rattle.dp_base.specs.Field.{number_at};
@@ -10,9 +10,11 @@ ghost use Rattle.dp_base.specs.Spelling.{HasOneSpelling};
 
 use crate::limits::{MAX_BODY_BYTES, MAX_EPOCH_STEPS};
 
-/// A number below 256 to the power n has one spelling in n bytes, and n bytes spell one number.
+/// A number below 256 to the power n has one spelling in n bytes, and n bytes spell one number. As many fewer
+/// bytes are left.
 pub fn numbers()
-    ensures { (n : ℕ) → HasOneSpelling (number_at n) (little_bytes n) (λ x. x < 256 ^ n) }
+    ensures spelling { (n : ℕ) → HasOneSpelling (number_at n) (little_bytes n) (λ x. x < 256 ^ n) }
+    ensures left { (n x : ℕ) (bytes rest : List ℕ) → number_at n bytes ≡ Some (x, rest) → length bytes ≡ n + length rest }
 {}
 
 /// A guest file has one header, and a header holds one guest file.

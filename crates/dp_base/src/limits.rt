@@ -1,5 +1,8 @@
 //! The limits of a recording, each with its unit.
 
+/// Bytes of a guest's file at most.
+pub const MAX_GUEST_BYTES: u32 = 1_048_576;
+
 /// Bytes of one page of guest memory.
 pub const PAGE_BYTES: u32 = 4096;
 
@@ -21,14 +24,26 @@ pub const STACK_POINTER: u32 = 0x7fff_ffe0;
 /// Threads that a guest may make in a run, the first included.
 pub const MAX_THREADS: usize = 1024;
 
+/// Threads that may be alive at once.
+pub const MAX_LIVE_THREADS: usize = 64;
+
 /// Bytes that one read or write call moves at most.
 pub const MAX_CALL_BYTES: u32 = 4096;
 
 /// Steps of one epoch at most.
 pub const MAX_EPOCH_STEPS: u32 = 1_000_000;
 
+/// An epoch ends behind the step at which its output, or the bytes that it read, are so many.
+pub const EPOCH_END_BYTES: u32 = 65_536;
+
 /// Bytes of a journal record's body at most.
 pub const MAX_BODY_BYTES: u32 = 16_777_216;
 
 /// Bytes of a journal at most: the recorder's room, and as much of a file as is read.
 pub const MAX_JOURNAL_BYTES: u64 = 1 << 30;
+
+/// Workers of a recording or a replay at most.
+pub const MAX_WORKERS: u32 = 64;
+
+/// Jobs of one round at most.
+pub const MAX_JOBS: u32 = 64;
