@@ -1,5 +1,5 @@
 -- A guest from its start to its end, by the turns of its one thread.
-use Rattle.std.specs.Prelude.{◌≡◌, ◌<◌, ◌≤◌, ℕ, true, List, [], Result, Ok}
+use Rattle.std.specs.Prelude.{◌≡◌, ◌<◌, ◌≤◌, ℕ, true, List, [], Ok}
 use Rattle.guest_kernel.specs.declared.state.State.{State}
 use Rattle.guest_kernel.specs.Call.{After}
 use Rattle.guest_kernel.specs.Image.{IsGuestFile}

@@ -1,14 +1,12 @@
-use Rattle.std.proofs.Common.{◌≡◌, ◌+◌, ◌++◌, [], ◌∷◌, List, ℕ, Result, Ok, Err, sym, ap, ◌∙◌}
+use Rattle.std.proofs.Common.{◌≡◌, ◌+◌, ◌++◌, [], ◌∷◌, List, Result, Ok, Err, ap, ◌∙◌}
 use Rattle.dp_base.specs.declared.slice.Slice.{Slice}
 use Rattle.dp_base.specs.declared.answer.Answer.{Answer}
 use Rattle.dp_base.specs.Journal.{Epoch}
 use Rattle.guest_kernel.specs.declared.state.State.{State}
-use Rattle.guest_kernel.specs.declared.state.End.{End}
 use Rattle.guest_kernel.specs.Call.{After}
 use Rattle.guest_kernel.specs.Slices.{Stop, at, run, chain, onto, either, one_slice, slice_ended}
 use Rattle.guest_kernel.specs.Start.{first_thread}
 use Rattle.guest_kernel.specs.State.{has_ended}
-use Rattle.dp_top.specs.Recording.{RunsToItsEnd}
 use Rattle.dp_top.proofs.epoch.run_epoch.Goals as goal
 
 -- a chain of one epoch is its run

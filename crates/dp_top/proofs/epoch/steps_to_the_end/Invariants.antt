@@ -1,4 +1,4 @@
-use Rattle.std.proofs.Common.{◌≡◌, ◌-◌, ◌≤◌, ◌<◌, [], Ok}
+use Rattle.std.proofs.Common.{◌≡◌, ◌-◌, ◌≤◌, [], Ok}
 use Rattle.guest_kernel.specs.Slices.{at, turns}
 use Rattle.guest_kernel.specs.Start.{first_thread}
 use Rattle.dp_top.proofs.epoch.steps_to_the_end.Given as goal

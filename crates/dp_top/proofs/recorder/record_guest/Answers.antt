@@ -1,4 +1,4 @@
-use Rattle.std.proofs.Common.{[], ◌∷◌, sym, subst}
+use Rattle.std.proofs.Common.{[], ◌∷◌, subst}
 use Rattle.guest_kernel.specs.declared.state.State.{State}
 use Rattle.dp_top.specs.EpochRecord.{epoch_of}
 use Rattle.dp_top.specs.Recording.{RunsToItsEnd}
