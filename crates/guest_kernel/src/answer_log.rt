@@ -1,5 +1,5 @@
 // The answers that an epoch took, in order.
-ghost use Rattle.std.specs.Prelude.{◌≡◌, ◌+◌, ◌++◌, [], ◌∷◌, IsNone, IsSome, OnOk, OnErr, slice_get, if◌then◌else◌, is_some};
+ghost use Rattle.std.specs.Prelude.{◌≡◌, ◌+◌, ◌++◌, [], ◌∷◌, OnOk, OnErr, slice_get, if◌then◌else◌, is_some};
 ghost use Rattle.std.specs.Option.{option_copied};
 
 use dp_base::{Answer, OutOfMemory};

@@ -1,5 +1,5 @@
 // Which files are guests.
-ghost use Rattle.std.specs.Prelude.{◌≡◌, ◌↔◌, ◌≤◌, ◌+◌, ◌<◌, ◌^◌, IfOk, IsErrOf, IsTrue, length};
+ghost use Rattle.std.specs.Prelude.{◌≡◌, ◌↔◌, ◌<◌, ◌^◌, IfOk, IsErrOf, IsTrue};
 ghost use Rattle.guest_kernel.specs.Segment.{rounded_up};
 ghost use Rattle.guest_kernel.specs.Image.{IsGuestFile, IsImageOf, headers};
 

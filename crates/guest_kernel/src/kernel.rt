@@ -1,5 +1,5 @@
 // The kernel: whose turn it is, what the turn does, and the calls.
-ghost use Rattle.std.specs.Prelude.{◌≡◌, ◌<◌, ◌≤◌, ◌-◌, ◌^◌, List, [], IfOk, OnOk, OnErr, IsTrue, length};
+ghost use Rattle.std.specs.Prelude.{◌≡◌, ◌<◌, ◌≤◌, ◌-◌, ◌^◌, List, IfOk, OnOk, OnErr, length};
 ghost use Rattle.dp_base.specs.declared.answer.Answer.{Answer};
 ghost use Rattle.guest_kernel.specs.Call.{called, silent};
 ghost use Rattle.guest_kernel.specs.Turn.{turn, log_of, told_of, state_after, output_after};

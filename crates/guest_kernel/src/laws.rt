@@ -1,7 +1,7 @@
 //! What follows from the definitions alone. Each function's contract is a law over all guests, states, slices and
 //! logs; a call of it costs nothing and hands the law to the caller's proof.
 
-ghost use Rattle.std.specs.Prelude.{◌≡◌, ◌≢◌, ◌+◌, ◌<◌, ◌≤◌, ◌++◌, ℕ, List, [], ◌∷◌, length, true, false, Ok, Err, IsTrue, IsOk};
+ghost use Rattle.std.specs.Prelude.{◌≡◌, ◌+◌, ◌<◌, ◌≤◌, ◌++◌, ℕ, List, [], length, true, false, Ok, Err};
 ghost use Rattle.dp_base.specs.declared.answer.Answer.{Answer};
 ghost use Rattle.dp_base.specs.declared.slice.Slice.{Slice};
 ghost use Rattle.dp_base.specs.declared.tid.Tid.{Tid};

@@ -1,5 +1,5 @@
 // The slices of an epoch, in order.
-ghost use Rattle.std.specs.Prelude.{◌≡◌, ◌+◌, ◌++◌, [], ◌∷◌, IsNone, IsSome, OnOk, OnErr, slice_get, if◌then◌else◌, is_some};
+ghost use Rattle.std.specs.Prelude.{◌≡◌, ◌+◌, ◌++◌, [], ◌∷◌, OnOk, OnErr, slice_get, if◌then◌else◌, is_some};
 ghost use Rattle.std.specs.Option.{option_copied};
 
 use dp_base::{OutOfMemory, Slice};

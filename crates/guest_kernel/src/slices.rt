@@ -1,5 +1,5 @@
 // Runs of slices, as a journal has them.
-ghost use Rattle.std.specs.Prelude.{◌≡◌, ◌+◌, ◌<◌, ◌≤◌, ◌^◌, ℕ, List, IfOk, OnErr, length, drop, sum_by};
+ghost use Rattle.std.specs.Prelude.{◌≡◌, ◌+◌, ◌<◌, ◌≤◌, ◌^◌, IfOk, OnErr, length, drop};
 ghost use Rattle.dp_base.specs.Journal.{steps_of};
 ghost use Rattle.guest_kernel.specs.Slices.{at, turns, run};
 ghost use Rattle.guest_kernel.specs.Stops.{at_step, told_run, IsAfterSome, IsAfterTurns};

@@ -2,7 +2,7 @@
 ghost use Rattle.std.specs.Prelude.{◌≡◌, ◌<◌, ◌≤◌, ◌+◌, ◌++◌, All, IfOk, OnOk, length, map};
 ghost use Rattle.std.specs.List.{range_with_len};
 ghost use Rattle.guest_kernel.specs.Segment.{AreSegments};
-ghost use Rattle.guest_kernel.specs.Start.{start_of, start_hart, start_memory, segment_page, stack_page};
+ghost use Rattle.guest_kernel.specs.Start.{start_of, start_hart, segment_page, stack_page};
 
 use crate::hart::Hart;
 use crate::image::{Image, Segment};

@@ -1,5 +1,5 @@
 // A guest between two turns.
-ghost use Rattle.std.specs.Prelude.{◌≡◌, ◌↔◌, IsTrue};
+ghost use Rattle.std.specs.Prelude.{◌≡◌};
 ghost use Rattle.guest_kernel.specs.State.{has_ended, without_reservation};
 
 use crate::pages::Pages;

@@ -1,5 +1,5 @@
-ghost use Rattle.std.specs.Prelude.{◌≡◌, ◌<◌, ◌≤◌, ◌^◌, IfSome};
-ghost use Rattle.guest_kernel.specs.Instruction.{decoded, executed, immediate_i};
+ghost use Rattle.std.specs.Prelude.{◌≡◌, IfSome};
+ghost use Rattle.guest_kernel.specs.Instruction.{decoded, immediate_i};
 ghost use Rattle.guest_kernel.specs.Step.{effect, answer_for, hart_after};
 ghost use Rattle.guest_kernel.specs.Operands.{AreOperands};
 

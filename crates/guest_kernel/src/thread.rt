@@ -1,5 +1,5 @@
 // The guest's threads, numbered from 1.
-ghost use Rattle.std.specs.Prelude.{◌≡◌, ◌≤◌, ◌<◌, ◌-◌, ◌++◌, [], ◌∷◌, OnOk, OnErr, IfOk, IfSome, length, slice_set};
+ghost use Rattle.std.specs.Prelude.{◌≡◌, ◌≤◌, ◌<◌, ◌-◌, [], ◌∷◌, IfOk, length, slice_set};
 ghost use Rattle.std.specs.Option.{option_copied};
 ghost use Rattle.guest_kernel.specs.Threads.{thread_at};
 
