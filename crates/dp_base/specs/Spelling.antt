@@ -7,7 +7,8 @@ pub record HasOneSpelling {X : Type 0} (item : List ℕ → Option (X × List �
   -- what is spelled is read, whatever follows
   pub read : (x : X) (rest : List ℕ) → Is x → item (spell x ++ rest) ≡ Some (x, rest)
   -- what is read was spelled so
-  pub spelled : (bytes : List ℕ) (x : X) (rest : List ℕ) → AreBytes bytes → item bytes ≡ Some (x, rest) → (bytes ≡ spell x ++ rest) × Is x × AreBytes rest
+  pub spelled : (bytes : List ℕ) (x : X) (rest : List ℕ) → AreBytes bytes → item bytes ≡ Some (x, rest)
+      → (bytes ≡ spell x ++ rest) × Is x × AreBytes rest
   -- no spelling begins another
   pub one : (x y : X) (more others : List ℕ) → Is x → Is y → spell x ++ more ≡ spell y ++ others → (x ≡ y) × (more ≡ others)
 

@@ -58,7 +58,8 @@ pub fn write_epoch_body(
     answers: &[Answer],
 ) -> Result<(), OutOfMemory>
     requires { IsEpoch (record { slices = slices.now; answers = answers.now }) }
-    ensures added { OnOk result (out.new.items ≡ out.old.items ++ epoch_body (record { slices = slices.now; answers = answers.now })) }
+    ensures added { OnOk result (out.new.items
+        ≡ out.old.items ++ epoch_body (record { slices = slices.now; answers = answers.now })) }
     ensures kept { OnErr result (IsFrontOf out.old.items out.new.items) }
 {
     write_u8(out, EPOCH_KIND)?;
@@ -69,7 +70,8 @@ pub fn write_epoch_body(
 
 fn write_slices(out: &mut Vec<u8>, slices: &[Slice]) -> Result<(), OutOfMemory>
     requires { length slices.now < 2 ^ 32 }
-    ensures added { OnOk result (out.new.items ≡ out.old.items ++ (little_bytes 4 (length slices.now) ++ flat_map slice slices.now)) }
+    ensures added { OnOk result (out.new.items
+        ≡ out.old.items ++ (little_bytes 4 (length slices.now) ++ flat_map slice slices.now)) }
     ensures kept { OnErr result (IsFrontOf out.old.items out.new.items) }
 {
     write_u32(out, slices.len() as u32)?;
@@ -91,7 +93,8 @@ fn write_slice(out: &mut Vec<u8>, turns: &Slice) -> Result<(), OutOfMemory>
 fn write_answers(out: &mut Vec<u8>, answers: &[Answer]) -> Result<(), OutOfMemory>
     requires few { length answers.now < 2 ^ 32 }
     requires fit { AllByRecursion IsAnswer answers.now }
-    ensures added { OnOk result (out.new.items ≡ out.old.items ++ (little_bytes 4 (length answers.now) ++ flat_map answer answers.now)) }
+    ensures added { OnOk result (out.new.items
+        ≡ out.old.items ++ (little_bytes 4 (length answers.now) ++ flat_map answer answers.now)) }
     ensures kept { OnErr result (IsFrontOf out.old.items out.new.items) }
 {
     write_u32(out, answers.len() as u32)?;

@@ -14,7 +14,8 @@ use crate::limits::{MAX_BODY_BYTES, MAX_EPOCH_STEPS};
 /// bytes are left.
 pub fn numbers()
     ensures spelling { (n : ℕ) → HasOneSpelling (number_at n) (little_bytes n) (λ x. x < 256 ^ n) }
-    ensures left { (n x : ℕ) (bytes rest : List ℕ) → number_at n bytes ≡ Some (x, rest) → length bytes ≡ n + length rest }
+    ensures left { (n x : ℕ) (bytes rest : List ℕ) →
+        number_at n bytes ≡ Some (x, rest) → length bytes ≡ n + length rest }
 {}
 
 /// A guest file has one header, and a header holds one guest file.
@@ -58,7 +59,8 @@ pub fn lengths()
     ensures header { (guest : List ℕ) → length (header guest) ≡ 9 + length guest }
     ensures record { (body : List ℕ) → length (record_of body) ≡ 5 + length body }
     ensures frame { (body : List ℕ) → length (frame body) ≡ 5 + length body }
-    ensures epoch { (e : Epoch) → length (epoch_body e) ≡ 9 + 6 * length e.slices + length (flat_map answer e.answers) }
+    ensures epoch { (e : Epoch) →
+        length (epoch_body e) ≡ 9 + 6 * length e.slices + length (flat_map answer e.answers) }
 {}
 
 /// The body of an epoch is the body of a record, where it is short enough.
@@ -69,6 +71,8 @@ pub fn epochs_fit_records()
 /// The body of one slice and no answers has 15 bytes, and is the body of an epoch and of a record.
 pub fn lone_slices()
     ensures length { (s : Slice) → length (epoch_body (record { slices = s ∷ []; answers = [] })) ≡ 15 }
-    ensures epoch { (s : Slice) → IsSlice s → s.steps ≤ MAX_EPOCH_STEPS → IsEpoch (record { slices = s ∷ []; answers = [] }) }
-    ensures body { (s : Slice) → IsSlice s → s.steps ≤ MAX_EPOCH_STEPS → IsBody (epoch_body (record { slices = s ∷ []; answers = [] })) }
+    ensures epoch { (s : Slice) → IsSlice s → s.steps ≤ MAX_EPOCH_STEPS →
+        IsEpoch (record { slices = s ∷ []; answers = [] }) }
+    ensures body { (s : Slice) → IsSlice s → s.steps ≤ MAX_EPOCH_STEPS →
+        IsBody (epoch_body (record { slices = s ∷ []; answers = [] })) }
 {}

@@ -80,8 +80,10 @@ impl Journal {
         requires few { length guest.now < 2 ^ 32 }
         requires empty { IfSome (W.disk world.old) (λ bytes. bytes ≡ []) }
         ensures end { IfOk result (λ begun. begun.end ≡ length (journal guest.now [])) }
-        ensures disk { OnOk result (Reads (W.disk world.old) (W.disk world.new) (λ bytes. bytes ≡ journal guest.now [])) }
-        ensures cause { IsErrOf result JournalFault.DiskFault → Rose (W.disk_faults world.old) (W.disk_faults world.new) }
+        ensures disk { OnOk result (Reads (W.disk world.old) (W.disk world.new)
+            (λ bytes. bytes ≡ journal guest.now [])) }
+        ensures cause { IsErrOf result JournalFault.DiskFault →
+            Rose (W.disk_faults world.old) (W.disk_faults world.new) }
         ensures count { W.disk_faults world.old ≤ W.disk_faults world.new }
     {
         let mut header = Vec::new(alloc);
@@ -103,7 +105,8 @@ impl Journal {
         requires gate { 0 < self.old.end }
         requires room { self.old.end + length added.now < 2 ^ 64 }
         ensures end { OnOk result (self.new.end ≡ self.old.end + length added.now) }
-        ensures disk { OnOk result ((front body : List ℕ) → W.disk world.old ≡ Some (front ++ closed_gate ∷ []) →
+        ensures disk { OnOk result ((front body : List ℕ) →
+            W.disk world.old ≡ Some (front ++ closed_gate ∷ []) →
             length front + 1 ≡ self.old.end → added.now ≡ frame body →
             W.disk world.new ≡ Some (front ++ (record_of body ++ closed_gate ∷ []))) }
         ensures cause { IsErr result → Rose (W.disk_faults world.old) (W.disk_faults world.new) }

@@ -27,7 +27,8 @@ pub fn record_guest<W: World>(
     requires starts { state ≡ start_state guest.now }
     requires empty { IfSome (W.disk world.old) (λ bytes. bytes ≡ []) }
     ensures ok { OnOk result (Reads (W.disk world.old) (W.disk world.new) (IsRecording guest.now)) }
-    ensures cause { IsErrOf result JournalFault.DiskFault → Rose (W.disk_faults world.old) (W.disk_faults world.new) }
+    ensures cause { IsErrOf result JournalFault.DiskFault →
+        Rose (W.disk_faults world.old) (W.disk_faults world.new) }
     ensures count { W.disk_faults world.old ≤ W.disk_faults world.new }
 {
     world.attach(name, true)?;

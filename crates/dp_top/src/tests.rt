@@ -45,6 +45,7 @@ fn a_recording(rt: HostRuntime) -> Result<(), Fail> {
     let alloc = rt.alloc();
     let (world, status) = ran(&rt, alloc, &RECORD, &GUEST, Fails::Never)?;
     assert_eq!(rt; (status, status.number()), (Status::Ok, 0));
+    assert_eq!(rt; Status::OutOfMemory.number(), 13);
     let mut journal = FRONT.to_vec(alloc)?;
     journal.extend_from_slice(&GUEST)?;
     journal.extend_from_slice(&BACK)?;

@@ -35,13 +35,15 @@ pub fn run<R, W: World>(
 
     // When each refusal comes, and what stands after it.
     ensures usage { (result.1 ≡ Status.Usage) ↔ (takes words.now ≡ false) }
-    ensures bad_image { (result.1 ≡ Status.BadImage 0) ↔ (IsTrue (takes words.now) × (IsGuestFile guest.now → ⊥)) }
+    ensures bad_image { (result.1 ≡ Status.BadImage 0)
+        ↔ (IsTrue (takes words.now) × (IsGuestFile guest.now → ⊥)) }
     ensures no_other_image_fault { (fault : _) → result.1 ≡ Status.BadImage fault → fault ≡ 0 }
     ensures disk_fault { result.1 ≡ Status.DiskFault → Rose (W.disk_faults world) (W.disk_faults result.0) }
     ensures untouched { (result.1 ≡ Status.Usage) ⊎ (result.1 ≡ Status.BadImage 0) → result.0 ≡ world }
 
     ensures count { W.disk_faults world ≤ W.disk_faults result.0 }
-    ensures complete { IsTrue (takes words.now) → IsGuestFile guest.now → (Rose (W.disk_faults world) (W.disk_faults result.0) → ⊥) →
+    ensures complete { IsTrue (takes words.now) → IsGuestFile guest.now →
+        (Rose (W.disk_faults world) (W.disk_faults result.0) → ⊥) →
         (result.1 ≡ Status.Ok) ⊎ (result.1 ≡ Status.OutOfMemory) }
 {
     let Some(journal) = journal_name(words) else {

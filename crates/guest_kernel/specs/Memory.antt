@@ -25,7 +25,8 @@ pub record ArePages (memory : Memory) : Type 0 where
 
 -- a page with these bytes at its front, and zeros behind them
 abbrev pub page_with : ℕ → ℕ → List ℕ → Page
-page_with number flags contents = record { number = number; flags = flags; bytes = contents ++ replicate (PAGE_BYTES - length contents) 0 }
+page_with number flags contents =
+    record { number = number; flags = flags; bytes = contents ++ replicate (PAGE_BYTES - length contents) 0 }
 
 -- the page with this number
 abbrev pub page_at : Memory → ℕ → Option Page

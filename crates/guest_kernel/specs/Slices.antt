@@ -63,8 +63,8 @@ one_slice tid steps = record { tid = tid; steps = steps } ∷ []
 
 -- ---- chains
 
--- Epochs, each from the state in which the one before ended: the last state and the whole output. Err: how many ran before the first
--- that doesn't.
+-- Epochs, each from the state in which the one before ended: the last state and the whole output. Err: how many ran
+-- before the first that doesn't.
 unfoldable pub chain : State → List Epoch → Result (State × List ℕ) ℕ
 chain s [] = Ok (s, [])
 chain s (epoch ∷ epochs) = either (run epoch.slices (at s [] epoch.answers))

@@ -18,7 +18,8 @@ abbrev pub told_run : SliceRun → State → List ℕ → Result After (Stop × 
 told_run Whole s output (Ok here) = (s ≡ here.state) × (output ≡ here.output)
 told_run Whole s output (Err stop) = ⊥
 told_run (Stops slice step) s output (Ok here) = ⊥
-told_run (Stops slice step) s output (Err stop) = (slice ≡ stop.0.slice) × (step ≡ stop.0.step) × (s ≡ stop.1.state) × (output ≡ stop.1.output)
+told_run (Stops slice step) s output (Err stop) =
+    (slice ≡ stop.0.slice) × (step ≡ stop.0.step) × (s ≡ stop.1.state) × (output ≡ stop.1.output)
 
 -- some of these turns were taken, and left this
 pub record IsAfterTurns (steps : ℕ) (tid : Tid) (here : After) (s : State) (output : List ℕ) : Type 0 where

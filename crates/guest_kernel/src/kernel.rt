@@ -40,9 +40,12 @@ impl State {
         out: &mut Vec<u8>,
     ) -> Result<Turn, OutOfMemory>
         requires { self.old.steps < 2 ^ 64 - 1 }
-        ensures answer { IfOk result (λ told. told ≡ told_of (log_of answer.entry) (turn self.old tid (log_of answer.entry))) }
-        ensures state { OnOk result (self.new ≡ state_after self.old (turn self.old tid (log_of answer.entry))) }
-        ensures output { OnOk result (out.new.items ≡ output_after out.old.items (turn self.old tid (log_of answer.entry))) }
+        ensures answer { IfOk result (λ told. told
+            ≡ told_of (log_of answer.entry) (turn self.old tid (log_of answer.entry))) }
+        ensures state { OnOk result (self.new
+            ≡ state_after self.old (turn self.old tid (log_of answer.entry))) }
+        ensures output { OnOk result (out.new.items
+            ≡ output_after out.old.items (turn self.old tid (log_of answer.entry))) }
         ensures err { OnErr result (self.new ≡ self.old) }
         ensures err_output { OnErr result (out.new.items ≡ out.old.items) }
     {

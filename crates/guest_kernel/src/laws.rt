@@ -25,13 +25,16 @@ pub fn zero_register()
 
 /// A turn that is defined raises the step count by one; one that isn't leaves the state as it is.
 pub fn a_turn_is_one_step()
-    ensures counts { (s : State) (tid : Tid) (log : List Answer) (after : After) → turn s tid log ≡ Ok after → after.state.steps ≡ s.steps + 1 }
-    ensures keeps { (s : State) (tid : Tid) (log : List Answer) (why : Refusal) → turn s tid log ≡ Err why → state_after s (turn s tid log) ≡ s }
+    ensures counts { (s : State) (tid : Tid) (log : List Answer) (after : After) →
+        turn s tid log ≡ Ok after → after.state.steps ≡ s.steps + 1 }
+    ensures keeps { (s : State) (tid : Tid) (log : List Answer) (why : Refusal) →
+        turn s tid log ≡ Err why → state_after s (turn s tid log) ≡ s }
 {}
 
 /// A guest that has ended has no turn.
 pub fn an_ended_guest_has_no_turn()
-    ensures { (s : State) (tid : Tid) (log : List Answer) → has_ended s.end ≡ true → turn s tid log ≡ Err not_runnable }
+    ensures { (s : State) (tid : Tid) (log : List Answer) →
+        has_ended s.end ≡ true → turn s tid log ≡ Err not_runnable }
 {}
 
 /// Running slices and then others, each with a log of its own, is running all of them with both logs.
@@ -55,16 +58,19 @@ pub fn an_image_starts_as_its_file()
 /// A guest of the one form that is built ends within 980 steps of its thread.
 pub fn a_guest_ends_within_980_steps()
     ensures { (file : List ℕ) → IsGuestFile file → (steps : ℕ) × (steps ≤ 980) × (there : After)
-        × (run (one_slice first_thread steps) (at (start_state file) [] []) ≡ Ok there) × (has_ended there.state.end ≡ true) }
+        × (run (one_slice first_thread steps) (at (start_state file) [] []) ≡ Ok there)
+        × (has_ended there.state.end ≡ true) }
 {}
 
 /// While such a guest hasn't ended, it has taken fewer than 980 steps and has a next one, which writes nothing and
 /// takes no answer.
 pub fn a_guest_goes_on_until_it_ends()
     ensures { (file : List ℕ) (steps : ℕ) (here : After) → IsGuestFile file →
-        turns 0 steps first_thread (at (start_state file) [] []) ≡ Ok here → has_ended here.state.end ≡ false →
+        turns 0 steps first_thread (at (start_state file) [] []) ≡ Ok here →
+        has_ended here.state.end ≡ false →
         (steps < 980) × (after : After)
-        × (turn here.state first_thread here.rest ≡ Ok after) × (after.output ≡ []) × (after.rest ≡ here.rest) }
+        × (turn here.state first_thread here.rest ≡ Ok after)
+        × (after.output ≡ []) × (after.rest ≡ here.rest) }
 {}
 
 /// A turn behind some turns of its thread is one turn more.

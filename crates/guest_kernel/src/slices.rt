@@ -32,8 +32,10 @@ impl State {
         requires few_steps { self.old.steps < 2 ^ 63 + 2 ^ 47 }
         requires little_input { self.old.input < 2 ^ 63 + 2 ^ 47 }
         requires few_more { steps_of slices.now < 2 ^ 62 }
-        ensures run { IfOk result (λ told. told_run told self.new out.new.items (run slices.now (at self.old out.old.items answers.now))) }
-        ensures err { OnErr result (IsAfterSome slices.now (at self.old out.old.items answers.now) self.new out.new.items) }
+        ensures run { IfOk result (λ told. told_run told self.new out.new.items
+            (run slices.now (at self.old out.old.items answers.now))) }
+        ensures err { OnErr result (IsAfterSome slices.now (at self.old out.old.items answers.now)
+            self.new out.new.items) }
     {
         let mut taken = 0;
         for (index, slice) in slices.iter().enumerate() {
@@ -51,7 +53,7 @@ impl State {
         Ok(SliceRun::Whole)
     }
 
-    // The turns of one slice. `taken` counts the answers that were used. Answers at which step it stops, if it does.
+    // The turns of one slice, and at which step it stops, if it does. `taken` counts the answers that were used.
     fn run_slice(
         &mut self,
         alloc: Global,
@@ -63,10 +65,12 @@ impl State {
         requires within { taken.old ≤ length answers.now }
         requires few_steps { self.old.steps + slice.steps < 2 ^ 64 }
         ensures within { taken.new ≤ length answers.now }
-        ensures turns { IfOk result (λ stop. turns 0 slice.steps slice.tid (at self.old out.old.items (drop taken.old answers.now))
+        ensures turns { IfOk result (λ stop.
+            turns 0 slice.steps slice.tid (at self.old out.old.items (drop taken.old answers.now))
             ≡ at_step stop (at self.new out.new.items (drop taken.new answers.now))) }
         ensures steps { self.new.steps ≤ self.old.steps + slice.steps }
-        ensures err { OnErr result (IsAfterTurns slice.steps slice.tid (at self.old out.old.items (drop taken.old answers.now)) self.new out.new.items) }
+        ensures err { OnErr result (IsAfterTurns slice.steps slice.tid
+            (at self.old out.old.items (drop taken.old answers.now)) self.new out.new.items) }
     {
         for step in 0..slice.steps {
             let Turn::Stepped { used } = self.turn(alloc, slice.tid, answers.get(*taken), out)?

@@ -68,7 +68,8 @@ fn map_segments(pages: &mut Pages, segments: &[Segment]) -> Result<(), OutOfMemo
 fn map_stack(pages: &mut Pages) -> Result<(), OutOfMemory>
     requires below { All (λ p. p.number < FIRST_STACK_PAGE) pages.old }
     requires few { length pages.old + STACK_PAGES ≤ MAX_PAGES }
-    ensures { OnOk result (pages.new ≡ pages.old ++ map stack_page (range_with_len FIRST_STACK_PAGE STACK_PAGES)) }
+    ensures { OnOk result (pages.new
+        ≡ pages.old ++ map stack_page (range_with_len FIRST_STACK_PAGE STACK_PAGES)) }
 {
     for number in FIRST_STACK_PAGE..FIRST_STACK_PAGE + STACK_PAGES {
         pages.map_above(number, READ_AND_WRITE, &[])?;
