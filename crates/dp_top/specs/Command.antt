@@ -1,4 +1,4 @@
--- The words of a command. The first is the program's name, which isn't looked at.
+-- The words of a command. The first is the program's name, which isn't looked at. This project's own.
 use Rattle.std.specs.Prelude.{ℕ, Bool, false, List, [], ◌∷◌, map, codes, String, string_bytes}
 use Rattle.std.specs.Str.{bytes_eq}
 use Rattle.std.specs.declared.alloc.Global.{Global}

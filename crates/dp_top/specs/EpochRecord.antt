@@ -1,4 +1,4 @@
--- An epoch as its record has it.
+-- An epoch as its record has it. This project's own.
 use Rattle.dp_base.specs.Journal as spelled
 use Rattle.dp_top.specs.declared.epoch.Epoch.{Epoch}
 

@@ -1,4 +1,4 @@
--- A guest from its start to its end, by the turns of its one thread.
+-- A guest from its start to its end, by the turns of its one thread. This project's own.
 use Rattle.std.specs.Prelude.{◌≡◌, ◌<◌, ◌≤◌, ℕ, true, List, [], Ok}
 use Rattle.guest_kernel.specs.declared.state.State.{State}
 use Rattle.guest_kernel.specs.Call.{After}

@@ -1,4 +1,4 @@
--- What a finished recording leaves on the disk.
+-- What a finished recording leaves on the disk. This project's own.
 use Rattle.std.specs.Prelude.{◌≡◌, ℕ, true, List, [], ◌∷◌, Option, Some, None, Ok, ⊤}
 use Rattle.dp_base.specs.Journal.{Epoch, IsEpoch, journal}
 use Rattle.guest_kernel.specs.declared.state.State.{State}

@@ -1,4 +1,4 @@
--- The numbers with which the program ends, a row for each status.
+-- The numbers with which the program ends, a row for each status. This project's own.
 use Rattle.std.specs.Prelude.{ℕ}
 use Rattle.dp_top.specs.declared.status.Status.{Status}
 use Rattle.dp_top.specs.declared.status.Status.TheVariants as statuses

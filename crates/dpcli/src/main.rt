@@ -1,5 +1,5 @@
-//! The program. Today it records one guest of three instructions, which it carries with it, on a disk in memory
-//! that can't fail, and prints how many bytes the journal has. It ends with the status's number.
+//! The program: records the guest of three instructions that it carries with it, on a disk in memory that can't
+//! fail, and prints how many bytes the journal has. It ends with the status's number.
 #![tactic(auto)]
 
 use disk_model::{Failed, Fails, MemWorld, World};

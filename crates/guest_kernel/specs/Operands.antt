@@ -1,4 +1,4 @@
--- What an instruction's operands always are.
+-- What an instruction's operands always are: its register fields have 5 bits (RISC-V Unprivileged ISA 20191213, 2.2).
 use Rattle.std.specs.Prelude.{◌<◌}
 use Rattle.guest_kernel.specs.declared.step.Instr.{Instr}
 use Rattle.guest_kernel.specs.declared.step.Instr.TheVariants.{Addi, Ecall}

@@ -1,4 +1,4 @@
--- What the calls that run slices answer, by the definitions of `Slices`.
+-- What the calls that run slices answer, by the definitions of `Slices`. This machine's own.
 use Rattle.std.specs.Prelude.{◌≡◌, ◌≤◌, ℕ, List, ◌∷◌, ◌++◌, Option, Some, None, Result, Ok, Err}
 use Rattle.dp_base.specs.declared.slice.Slice.{Slice}
 use Rattle.dp_base.specs.declared.tid.Tid.{Tid}
