@@ -47,3 +47,5 @@ pub use thread::{Thread, Threads};
 
 #[cfg(test)]
 mod tests;
+#[cfg(test)]
+mod worked_chains;
