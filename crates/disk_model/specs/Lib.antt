@@ -1,3 +1,5 @@
-pub mod Disk
-pub mod Fails
-pub mod MemWorld
+pub mod Counts
+pub mod History
+pub mod Known
+pub mod Steps
+pub mod Directory

@@ -1,25 +1,20 @@
-//! The disk under a recorder: `World` is the outside with its one disk, and `MemWorld` a world in memory.
+//! The outside of a recorder, as traits: `World` is one disk and two output streams, `Files` are files by name.
 //!
-//! Promises: a call answers `Failed` only where the world's own count of faults rises, or is at its end; one
-//! that answers Ok does what the clauses say to the bytes that a read of the disk gives, where the world tells
-//! them. In memory a call fails by its number alone, but for a write that has to grow, and it is known what each
-//! call leaves. Stands on `dp_base` for a refused growth.
+//! Promises: a call fails only where its own count of faults rises, or is at its greatest value; where the history of a
+//! world is known, each call extends it by exactly one step of `specs/Steps.antt`, whatever the call answers. What a crash
+//! may leave on a disk is in `specs/History.antt`. Stands on `dp_base`.
 //!
-//!     let mut world = MemWorld::new(alloc, Fails::At(numbers))?;
-//!     world.attach("journal", true)?;                // call 1
-//!     let end = world.len()?;                        // call 2
-//!     if world.write_at(end, record).is_err() {      // call 3: not one byte of it was written
-//!         return Ok(world.disk_fault_count());
-//!     }
-//!     world.sync()?;                                 // call 4
+//! ```text
+//! world.attach("journal", true)?;
+//! let end = world.len()?;
+//! world.write_at(end, record)?;      // written, and pending
+//! world.sync()?;                     // on the disk
+//! let taken = world.emit(Stream::Out, output)?;
+//! ```
 #![tactic(auto)]
 
-mod fails;
-mod mem_world;
-#[cfg(test)]
-mod tests;
+mod files;
 mod world;
 
-pub use fails::{CallNumbers, Fails};
-pub use mem_world::MemWorld;
-pub use world::{Failed, World};
+pub use files::{FetchFault, Files, MAX_FETCH_BYTES};
+pub use world::{Failed, Stream, World};
