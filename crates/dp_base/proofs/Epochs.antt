@@ -1,4 +1,4 @@
--- Slices, answers and epoch bodies: read as they are spelled, and in no other way.
+-- Slices, answers and epoch bodies: decoded as they are encoded, and in no other way.
 use Rattle.std.proofs.Common.{◌≡◌, ℕ, zero, suc, ◌^◌, ◌<◌, ◌≤◌, Bool, true, false, cond, eqb, ltb, leb, ◌&&◌, List, [], ◌∷◌, ◌++◌, length, Option, Some, None, refl, sym, ap, subst, ◌∙◌, append_assoc, arith, inl, inr}
 use Rattle.std.specs.Prelude.{◌⊎◌}
 use Rattle.std.specs.List.{flat_map, AllByRecursion}
@@ -11,8 +11,8 @@ use Rattle.dp_base.specs.declared.answer.Answer.TheVariants.{Read, Clock}
 use Rattle.dp_base.specs.declared.slice.Slice.{Slice}
 use Rattle.dp_base.specs.Field.{AreBytes, ◌>>=◌, bytes_at, number_at}
 use Rattle.dp_base.specs.Journal.{Epoch, IsSlice, IsAnswer, IsEpoch, steps_of, slice, answer, epoch_body, slice_at, read_at, clock_at, answer_at, many_at, epoch_body_at}
-use Rattle.dp_base.specs.Spelling.{HasOneSpelling}
-use Rattle.dp_base.proofs.Fields.{bind_some, bind_at, Splits, Splits-then, Splits-regroup, bytes_found, number_taken, number_found, byte_taken, measured_taken, measured_found, spelling_from}
+use Rattle.dp_base.specs.Encoding.{IsPrefixCode}
+use Rattle.dp_base.proofs.Fields.{bind_some, bind_at, Splits, Splits-then, Splits-regroup, bytes_found, number_taken, number_found, byte_taken, length_prefixed_taken, length_prefixed_found, code_from}
 
 -- ---- slices
 
@@ -47,8 +47,8 @@ slice_found s rest fits =
     bind_at (number_at 2 (slice s ++ rest)) slice_tid tid (Some found) tid-is
     (bind_at (number_at 4 tid.1) (slice_end tid) steps (Some found) (number_found 4 s.steps rest (omega (arith, fits.3))) last)
 
-pub slice_spelling : HasOneSpelling slice_at slice IsSlice
-slice_spelling = spelling_from slice_at slice IsSlice slice_found slice_taken
+pub slice_code : IsPrefixCode slice_at slice IsSlice
+slice_code = code_from slice_at slice IsSlice slice_found slice_taken
 
 -- ---- answers
 
@@ -75,7 +75,7 @@ read_taken bytes x fits e =
     let b = bind_some (bytes_at a.0.0 a.0.1) (read_end a.0) x a.2 in
     let made : Answer × List ℕ = (Read b.0.0, b.0.1) in
     let g = cond_some (leb a.0.0 MAX_CALL_BYTES) made x b.2 in
-    let t = measured_taken 2 bytes a.0 b.0 fits a.1 b.1 in
+    let t = length_prefixed_taken 2 bytes a.0 b.0 fits a.1 b.1 in
     let few : a.0.0 ≤ MAX_CALL_BYTES = leb-true _ _ g.0 in
     subst (TakesAnswer 0 bytes) g.1 (little_bytes 2 (length b.0.0) ++ b.0.0, refl, t.0, (subst (λ (k : ℕ). k ≤ MAX_CALL_BYTES) (sym t.1) few, t.3))
 
@@ -118,7 +118,7 @@ read_found bytes rest fits =
     let taken : List ℕ × List ℕ = (bytes, rest) in
     let found : Answer × List ℕ = (Read bytes, rest) in
     let last : read_end size taken ≡ Some found = cond-true _ _ _ (le-leb _ _ fits.0) in
-    bind_at (number_at 2 ((little_bytes 2 (length bytes) ++ bytes) ++ rest)) read_size size (Some found) (measured_found 2 bytes rest (omega (arith, fits.0)))
+    bind_at (number_at 2 ((little_bytes 2 (length bytes) ++ bytes) ++ rest)) read_size size (Some found) (length_prefixed_found 2 bytes rest (omega (arith, fits.0)))
     (bind_at (bytes_at size.0 size.1) (read_end size) taken (Some found) (bytes_found bytes rest) last)
 
 clock_found : (reading : ℕ) (rest : List ℕ) → reading < 2 ^ 64 → clock_at (little_bytes 8 reading ++ rest) ≡ Some (Clock reading, rest)
@@ -136,39 +136,39 @@ answer_found (Clock reading) rest fits =
     let kind : ℕ × List ℕ = (1, little_bytes 8 reading ++ rest) in
     bind_at (number_at 1 (1 ∷ kind.1)) answer_kind kind (Some (Clock reading, rest)) (number_found 1 1 kind.1 (omega arith)) (clock_found reading rest fits)
 
-pub answer_spelling : HasOneSpelling answer_at answer IsAnswer
-answer_spelling = spelling_from answer_at answer IsAnswer answer_found answer_taken
+pub answer_code : IsPrefixCode answer_at answer IsAnswer
+answer_code = code_from answer_at answer IsAnswer answer_found answer_taken
 
 -- ---- so many of a kind
 
-many_taken : {X : Type 0} (item : List ℕ → Option (X × List ℕ)) (spell : X → List ℕ) (Is : X → Type 0) → HasOneSpelling item spell Is → (n : ℕ) (bytes : List ℕ) (x : List X × List ℕ) → AreBytes bytes
-    → many_at item n bytes ≡ Some x → Splits bytes (flat_map spell x.0) x.1 × (length x.0 ≡ n) × AllByRecursion Is x.0
+many_taken : {X : Type 0} (item : List ℕ → Option (X × List ℕ)) (encode : X → List ℕ) (Is : X → Type 0) → IsPrefixCode item encode Is → (n : ℕ) (bytes : List ℕ) (x : List X × List ℕ) → AreBytes bytes
+    → many_at item n bytes ≡ Some x → Splits bytes (flat_map encode x.0) x.1 × (length x.0 ≡ n) × AllByRecursion Is x.0
 unfolding many_at
-many_taken {X} item spell Is laws zero bytes x fits e =
-    subst (λ (y : List X × List ℕ). Splits bytes (flat_map spell y.0) y.1 × (length y.0 ≡ 0) × AllByRecursion Is y.0) (same_Some _ _ e) (record { joined = refl; left = fits }, refl, tt)
-many_taken {X} item spell Is laws (suc n) bytes x fits e =
+many_taken {X} item encode Is laws zero bytes x fits e =
+    subst (λ (y : List X × List ℕ). Splits bytes (flat_map encode y.0) y.1 × (length y.0 ≡ 0) × AllByRecursion Is y.0) (same_Some _ _ e) (record { joined = refl; left = fits }, refl, tt)
+many_taken {X} item encode Is laws (suc n) bytes x fits e =
     let a = bind_some (item bytes) (λ first. many_at item n first.1 >>= λ others. Some (first.0 ∷ others.0, others.1)) x e in
     let b = bind_some (many_at item n a.0.1) (λ others. Some (a.0.0 ∷ others.0, others.1)) x a.2 in
-    let first = laws.spelled bytes a.0.0 a.0.1 fits a.1 in
-    let head : Splits bytes (spell a.0.0) a.0.1 = record { joined = first.0; left = first.2 } in
-    let others = many_taken item spell Is laws n a.0.1 b.0 first.2 b.1 in
-    let both = Splits-then bytes (spell a.0.0) a.0.1 (flat_map spell b.0.0) b.0.1 head others.0 in
+    let first = laws.encoded bytes a.0.0 a.0.1 fits a.1 in
+    let head : Splits bytes (encode a.0.0) a.0.1 = record { joined = first.0; left = first.2 } in
+    let others = many_taken item encode Is laws n a.0.1 b.0 first.2 b.1 in
+    let both = Splits-then bytes (encode a.0.0) a.0.1 (flat_map encode b.0.0) b.0.1 head others.0 in
     let made : List X × List ℕ = (a.0.0 ∷ b.0.0, b.0.1) in
-    subst (λ (y : List X × List ℕ). Splits bytes (flat_map spell y.0) y.1 × (length y.0 ≡ suc n) × AllByRecursion Is y.0) (same_Some _ _ b.2) (both, ap suc others.1, (first.1, others.2))
+    subst (λ (y : List X × List ℕ). Splits bytes (flat_map encode y.0) y.1 × (length y.0 ≡ suc n) × AllByRecursion Is y.0) (same_Some _ _ b.2) (both, ap suc others.1, (first.1, others.2))
 
-many_found : {X : Type 0} (item : List ℕ → Option (X × List ℕ)) (spell : X → List ℕ) (Is : X → Type 0) → HasOneSpelling item spell Is → (xs : List X) (rest : List ℕ) → AllByRecursion Is xs
-    → many_at item (length xs) (flat_map spell xs ++ rest) ≡ Some (xs, rest)
+many_found : {X : Type 0} (item : List ℕ → Option (X × List ℕ)) (encode : X → List ℕ) (Is : X → Type 0) → IsPrefixCode item encode Is → (xs : List X) (rest : List ℕ) → AllByRecursion Is xs
+    → many_at item (length xs) (flat_map encode xs ++ rest) ≡ Some (xs, rest)
 unfolding many_at
-many_found item spell Is laws [] rest fits = refl
-many_found {X} item spell Is laws (x ∷ xs) rest fits =
-    let behind = flat_map spell xs ++ rest in
-    let parts : flat_map spell (x ∷ xs) ++ rest ≡ spell x ++ behind = append_assoc (spell x) (flat_map spell xs) rest in
+many_found item encode Is laws [] rest fits = refl
+many_found {X} item encode Is laws (x ∷ xs) rest fits =
+    let behind = flat_map encode xs ++ rest in
+    let parts : flat_map encode (x ∷ xs) ++ rest ≡ encode x ++ behind = append_assoc (encode x) (flat_map encode xs) rest in
     let first : X × List ℕ = (x, behind) in
     let others : List X × List ℕ = (xs, rest) in
     let found : List X × List ℕ = (x ∷ xs, rest) in
     ap (many_at item (suc (length xs))) parts
-    ∙ bind_at (item (spell x ++ behind)) (λ y. many_at item (length xs) y.1 >>= λ ys. Some (y.0 ∷ ys.0, ys.1)) first (Some found) (laws.read x behind fits.0)
-    (bind_at (many_at item (length xs) behind) (λ ys. Some (x ∷ ys.0, ys.1)) others (Some found) (many_found item spell Is laws xs rest fits.1) refl)
+    ∙ bind_at (item (encode x ++ behind)) (λ y. many_at item (length xs) y.1 >>= λ ys. Some (y.0 ∷ ys.0, ys.1)) first (Some found) (laws.decoded x behind fits.0)
+    (bind_at (many_at item (length xs) behind) (λ ys. Some (x ∷ ys.0, ys.1)) others (Some found) (many_found item encode Is laws xs rest fits.1) refl)
 
 -- ---- epoch bodies
 
@@ -195,14 +195,14 @@ abbrev counted_slices : List Slice → List ℕ → List ℕ
 counted_slices slices behind = little_bytes 4 (length slices) ++ (flat_map slice slices ++ behind)
 
 -- so many, behind their number
-counted_taken : {X : Type 0} (item : List ℕ → Option (X × List ℕ)) (spell : X → List ℕ) (Is : X → Type 0) → HasOneSpelling item spell Is → (bytes : List ℕ) (count : ℕ × List ℕ) (x : List X × List ℕ) → AreBytes bytes
-    → number_at 4 bytes ≡ Some count → many_at item count.0 count.1 ≡ Some x → Splits bytes (little_bytes 4 (length x.0) ++ flat_map spell x.0) x.1 × (length x.0 ≡ count.0) × (length x.0 < 2 ^ 32) × AllByRecursion Is x.0
-counted_taken item spell Is laws bytes count x fits count-is x-is =
+counted_taken : {X : Type 0} (item : List ℕ → Option (X × List ℕ)) (encode : X → List ℕ) (Is : X → Type 0) → IsPrefixCode item encode Is → (bytes : List ℕ) (count : ℕ × List ℕ) (x : List X × List ℕ) → AreBytes bytes
+    → number_at 4 bytes ≡ Some count → many_at item count.0 count.1 ≡ Some x → Splits bytes (little_bytes 4 (length x.0) ++ flat_map encode x.0) x.1 × (length x.0 ≡ count.0) × (length x.0 < 2 ^ 32) × AllByRecursion Is x.0
+counted_taken item encode Is laws bytes count x fits count-is x-is =
     let a = number_taken 4 bytes count fits count-is in
-    let b = many_taken item spell Is laws count.0 count.1 x a.0.left x-is in
-    let both = Splits-then bytes (little_bytes 4 count.0) count.1 (flat_map spell x.0) x.1 a.0 b.0 in
+    let b = many_taken item encode Is laws count.0 count.1 x a.0.left x-is in
+    let both = Splits-then bytes (little_bytes 4 count.0) count.1 (flat_map encode x.0) x.1 a.0 b.0 in
     let below : count.0 < 2 ^ 32 = omega (arith, a.1) in
-    (subst (λ (k : ℕ). Splits bytes (little_bytes 4 k ++ flat_map spell x.0) x.1) (sym b.1) both, b.1, subst (λ (k : ℕ). k < 2 ^ 32) (sym b.1) below, b.2)
+    (subst (λ (k : ℕ). Splits bytes (little_bytes 4 k ++ flat_map encode x.0) x.1) (sym b.1) both, b.1, subst (λ (k : ℕ). k < 2 ^ 32) (sym b.1) below, b.2)
 
 epoch_taken : (bytes : List ℕ) (x : Epoch × List ℕ) → AreBytes bytes → epoch_body_at bytes ≡ Some x → Splits bytes (epoch_body x.0) x.1 × IsEpoch x.0
 unfolding epoch_body_at
@@ -215,11 +215,11 @@ epoch_taken bytes x fits e =
     let made : Epoch × List ℕ = (record { slices = c.0.0; answers = f.0.0 }, f.0.1) in
     let g = cond_some (eqb a.0.0 0 && ltb 0 b.0.0 && leb (steps_of c.0.0) MAX_EPOCH_STEPS) made x f.2 in
     let tests = and_parts (eqb a.0.0 0 && ltb 0 b.0.0) (leb (steps_of c.0.0) MAX_EPOCH_STEPS) g.0 in
-    let front = and_parts (eqb a.0.0 0) (ltb 0 b.0.0) tests.0 in
-    let some : 0 < b.0.0 = ltb-true _ _ front.1 in
-    let kind = byte_taken 0 bytes a.0 fits a.1 (eqb-true _ _ front.0) in
-    let slices = counted_taken slice_at slice IsSlice slice_spelling a.0.1 b.0 c.0 kind.left b.1 c.1 in
-    let answers = counted_taken answer_at answer IsAnswer answer_spelling c.0.1 d.0 f.0 slices.0.left d.1 f.1 in
+    let both_tests = and_parts (eqb a.0.0 0) (ltb 0 b.0.0) tests.0 in
+    let some : 0 < b.0.0 = ltb-true _ _ both_tests.1 in
+    let kind = byte_taken 0 bytes a.0 fits a.1 (eqb-true _ _ both_tests.0) in
+    let slices = counted_taken slice_at slice IsSlice slice_code a.0.1 b.0 c.0 kind.left b.1 c.1 in
+    let answers = counted_taken answer_at answer IsAnswer answer_code c.0.1 d.0 f.0 slices.0.left d.1 f.1 in
     let behind = Splits-then a.0.1 (little_bytes 4 (length c.0.0) ++ flat_map slice c.0.0) c.0.1 (counted_answers f.0.0) f.0.1 slices.0 answers.0 in
     let flat = Splits-regroup a.0.1 (little_bytes 4 (length c.0.0)) (flat_map slice c.0.0) (counted_answers f.0.0) f.0.1 behind in
     let whole = Splits-then bytes (0 ∷ []) a.0.1 (counted_slices c.0.0 (counted_answers f.0.0)) f.0.1 kind flat in
@@ -239,9 +239,9 @@ epoch_found e rest fits =
     = append_assoc (little_bytes 4 (length e.slices)) (flat_map slice e.slices ++ counted_answers e.answers) rest
     ∙ ap (λ (t : List ℕ). little_bytes 4 (length e.slices) ++ t) (append_assoc (flat_map slice e.slices) (counted_answers e.answers) rest) in
     let slice_count-is : number_at 4 kind.1 ≡ Some slice_count = ap (number_at 4) split ∙ number_found 4 (length e.slices) slice_count.1 (omega (arith, fits.slice_count)) in
-    let slices-are = many_found slice_at slice IsSlice slice_spelling e.slices slices.1 fits.slices in
+    let slices-are = many_found slice_at slice IsSlice slice_code e.slices slices.1 fits.slices in
     let answer_count-is : number_at 4 slices.1 ≡ Some answer_count = ap (number_at 4) (append_assoc (little_bytes 4 (length e.answers)) (flat_map answer e.answers) rest) ∙ number_found 4 (length e.answers) answer_count.1 (omega (arith, fits.answer_count)) in
-    let answers-are = many_found answer_at answer IsAnswer answer_spelling e.answers rest fits.answers in
+    let answers-are = many_found answer_at answer IsAnswer answer_code e.answers rest fits.answers in
     let some : ltb 0 (length e.slices) ≡ true = lt-ltb _ _ fits.some_slice in
     let few : leb (steps_of e.slices) MAX_EPOCH_STEPS ≡ true = le-leb _ _ fits.steps in
     let last : epoch_end kind slice_count slices answers ≡ Some found = cond-true _ _ _ (and_from _ _ some few) in
@@ -251,5 +251,5 @@ epoch_found e rest fits =
     (bind_at (number_at 4 slices.1) (epoch_answers kind slice_count slices) answer_count (Some found) answer_count-is
     (bind_at (many_at answer_at answer_count.0 answer_count.1) (epoch_end kind slice_count slices) answers (Some found) answers-are last))))
 
-pub epoch_spelling : HasOneSpelling epoch_body_at epoch_body IsEpoch
-epoch_spelling = spelling_from epoch_body_at epoch_body IsEpoch epoch_found epoch_taken
+pub epoch_code : IsPrefixCode epoch_body_at epoch_body IsEpoch
+epoch_code = code_from epoch_body_at epoch_body IsEpoch epoch_found epoch_taken

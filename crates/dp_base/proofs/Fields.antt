@@ -1,4 +1,4 @@
--- Fields at the front of bytes: what is read was spelled so, and what is spelled is read.
+-- Fields at the start of bytes: what is decoded was encoded so, and what is encoded is decoded.
 use Rattle.std.proofs.Common.{◌≡◌, ℕ, zero, suc, ◌+◌, ◌-◌, ◌*◌, ◌/◌, ◌%◌, ◌^◌, ◌<◌, ◌≤◌, Bool, true, false, cond, ltb, List, [], ◌∷◌, ◌++◌, length, take, drop, Option, Some, None, refl, sym, ap, subst, ◌∙◌, append_assoc, arith, inl, inr}
 use Rattle.std.proofs.Math.Nat.{div-div-eq-div-mul, div-one, pow-suc}
 use Rattle.std.specs.Int.{byte_at, bytes_low_first}
@@ -8,7 +8,7 @@ use Rattle.std.proofs.lemmas.Option.{same_Some}
 use Rattle.byteorder.specs.Endian.{little_bytes, little_number, little_from}
 use Rattle.byteorder.specs.Numbers.{length-bytes_low_first, little_from-cons, little_from-lt, little_number-reads_back}
 use Rattle.dp_base.specs.Field.{AreBytes, ◌>>=◌, bytes_at, number_at}
-use Rattle.dp_base.specs.Spelling.{HasOneSpelling}
+use Rattle.dp_base.specs.Encoding.{IsPrefixCode}
 
 -- ---- lists of bytes
 
@@ -113,8 +113,8 @@ pub number_taken : (n : ℕ) (bytes : List ℕ) (x : ℕ × List ℕ) → AreByt
 number_taken n bytes x fits e =
     let g = enough (ltb (length bytes) n) (little_number n bytes, drop n bytes) x e in
     let long : n ≤ length bytes = ltb-false _ _ g.0 in
-    let front = little_bytes_were n bytes fits long in
-    let made : Splits bytes (little_bytes n (little_number n bytes)) (drop n bytes) = record { joined = sym (take-append-drop n bytes) ∙ ap (λ (t : List ℕ). t ++ drop n bytes) (sym front); left = AreBytes-drop n bytes fits } in
+    let prefix = little_bytes_were n bytes fits long in
+    let made : Splits bytes (little_bytes n (little_number n bytes)) (drop n bytes) = record { joined = sym (take-append-drop n bytes) ∙ ap (λ (t : List ℕ). t ++ drop n bytes) (sym prefix); left = AreBytes-drop n bytes fits } in
     subst (λ (y : ℕ × List ℕ). Splits bytes (little_bytes n y.0) y.1 × (y.0 < 256 ^ n)) g.1 (made, little_from-lt 0 n bytes fits)
 
 -- as many fewer bytes are left
@@ -131,39 +131,39 @@ number_found n x rest lt =
     let long : ltb (length (little_bytes n x ++ rest)) n ≡ false = le-ltb _ _ (omega (arith, length-append (little_bytes n x) rest)) in
     rw (long, drop_at (little_bytes n x) rest n len, little_number-reads_back n x rest lt) refl
 
--- ---- what follows for whatever is read and spelled
+-- ---- what follows for whatever is decoded and encoded
 
--- no spelling begins another, since reading finds both
-one_from_read : {X : Type 0} (item : List ℕ → Option (X × List ℕ)) (spell : X → List ℕ) (Is : X → Type 0) → ((x : X) (rest : List ℕ) → Is x → item (spell x ++ rest) ≡ Some (x, rest))
-    → (x y : X) (more others : List ℕ) → Is x → Is y → spell x ++ more ≡ spell y ++ others → (x ≡ y) × (more ≡ others)
-one_from_read {X} item spell Is read x y more others x-is y-is e =
+-- no encoding is a prefix of another, since decoding finds both
+prefix_free_from : {X : Type 0} (item : List ℕ → Option (X × List ℕ)) (encode : X → List ℕ) (Is : X → Type 0) → ((x : X) (rest : List ℕ) → Is x → item (encode x ++ rest) ≡ Some (x, rest))
+    → (x y : X) (more others : List ℕ) → Is x → Is y → encode x ++ more ≡ encode y ++ others → (x ≡ y) × (more ≡ others)
+prefix_free_from {X} item encode Is read x y more others x-is y-is e =
     let both : ◌≡◌ {A = Option (X × List ℕ)} (Some (x, more)) (Some (y, others)) = sym (read x more x-is) ∙ ap item e ∙ read y others y-is in
     let same : ◌≡◌ {A = X × List ℕ} (x, more) (y, others) = same_Some _ _ both in
     (ap (λ (p : X × List ℕ). p.0) same, ap (λ (p : X × List ℕ). p.1) same)
 
-pub spelling_from : {X : Type 0} (item : List ℕ → Option (X × List ℕ)) (spell : X → List ℕ) (Is : X → Type 0) → ((x : X) (rest : List ℕ) → Is x → item (spell x ++ rest) ≡ Some (x, rest))
-    → ((bytes : List ℕ) (x : X × List ℕ) → AreBytes bytes → item bytes ≡ Some x → Splits bytes (spell x.0) x.1 × Is x.0) → HasOneSpelling item spell Is
-spelling_from item spell Is found taken = record {
-  read = found;
-  spelled = λ bytes x rest fits e. let t = taken bytes (x, rest) fits e in (t.0.joined, t.1, t.0.left);
-  one = one_from_read item spell Is found;
+pub code_from : {X : Type 0} (item : List ℕ → Option (X × List ℕ)) (encode : X → List ℕ) (Is : X → Type 0) → ((x : X) (rest : List ℕ) → Is x → item (encode x ++ rest) ≡ Some (x, rest))
+    → ((bytes : List ℕ) (x : X × List ℕ) → AreBytes bytes → item bytes ≡ Some x → Splits bytes (encode x.0) x.1 × Is x.0) → IsPrefixCode item encode Is
+code_from item encode Is found taken = record {
+  decoded = found;
+  encoded = λ bytes x rest fits e. let t = taken bytes (x, rest) fits e in (t.0.joined, t.1, t.0.left);
+  prefix_free = prefix_free_from item encode Is found;
 }
 
-pub number_spelling : (n : ℕ) → HasOneSpelling (number_at n) (little_bytes n) (λ x. x < 256 ^ n)
-number_spelling n = spelling_from (number_at n) (little_bytes n) (λ x. x < 256 ^ n) (number_found n) (number_taken n)
+pub number_code : (n : ℕ) → IsPrefixCode (number_at n) (little_bytes n) (λ x. x < 256 ^ n)
+number_code n = code_from (number_at n) (little_bytes n) (λ x. x < 256 ^ n) (number_found n) (number_taken n)
 
 -- ---- bytes behind their length
 
-pub measured_taken : (n : ℕ) (bytes : List ℕ) (size : ℕ × List ℕ) (text : List ℕ × List ℕ) → AreBytes bytes → number_at n bytes ≡ Some size → bytes_at size.0 size.1 ≡ Some text
+pub length_prefixed_taken : (n : ℕ) (bytes : List ℕ) (size : ℕ × List ℕ) (text : List ℕ × List ℕ) → AreBytes bytes → number_at n bytes ≡ Some size → bytes_at size.0 size.1 ≡ Some text
     → Splits bytes (little_bytes n (length text.0) ++ text.0) text.1 × (length text.0 ≡ size.0) × (length text.0 < 256 ^ n) × AreBytes text.0
-measured_taken n bytes size text fits size-is text-is =
+length_prefixed_taken n bytes size text fits size-is text-is =
     let a = number_taken n bytes size fits size-is in
     let b = bytes_taken size.0 size.1 text a.0.left text-is in
     let both = Splits-then bytes (little_bytes n size.0) size.1 text.0 text.1 a.0 b.0 in
     (subst (λ (k : ℕ). Splits bytes (little_bytes n k ++ text.0) text.1) (sym b.1) both, b.1, subst (λ (k : ℕ). k < 256 ^ n) (sym b.1) a.1, b.2)
 
-pub measured_found : (n : ℕ) (text rest : List ℕ) → length text < 256 ^ n → number_at n ((little_bytes n (length text) ++ text) ++ rest) ≡ Some (length text, text ++ rest)
-measured_found n text rest lt = ap (number_at n) (append_assoc (little_bytes n (length text)) text rest) ∙ number_found n (length text) (text ++ rest) lt
+pub length_prefixed_found : (n : ℕ) (text rest : List ℕ) → length text < 256 ^ n → number_at n ((little_bytes n (length text) ++ text) ++ rest) ≡ Some (length text, text ++ rest)
+length_prefixed_found n text rest lt = ap (number_at n) (append_assoc (little_bytes n (length text)) text rest) ∙ number_found n (length text) (text ++ rest) lt
 
 -- a byte that was tested
 pub byte_taken : (k : ℕ) (bytes : List ℕ) (x : ℕ × List ℕ) → AreBytes bytes → number_at 1 bytes ≡ Some x → x.0 ≡ k → Splits bytes (little_bytes 1 k) x.1

@@ -1,4 +1,4 @@
--- The header and the records of a journal: read as they are spelled, and in no other way.
+-- The header and the records of a journal: decoded as they are encoded, and in no other way.
 use Rattle.std.proofs.Common.{◌≡◌, ℕ, ◌<◌, ◌≤◌, true, cond, eqb, ltb, leb, ◌&&◌, List, [], ◌∷◌, ◌++◌, length, Option, Some, None, refl, sym, ap, subst, ◌∙◌, append_assoc, arith}
 use Rattle.std.specs.Str.{bytes_eq}
 use Rattle.std.proofs.lemmas.Bool.{and_parts, eqb-true, ltb-true, leb-true, lt-ltb, le-leb, and_from, cond-true}
@@ -6,9 +6,9 @@ use Rattle.std.proofs.lemmas.Option.{cond_some}
 use Rattle.std.proofs.lemmas.Slice.Eq.{bytes_eq-Decides}
 use Rattle.dp_base.specs.declared.limits.TheConstants.{MAX_BODY_BYTES}
 use Rattle.dp_base.specs.Field.{AreBytes, ◌>>=◌, bytes_at, number_at}
-use Rattle.dp_base.specs.Journal.{IsBody, IsGuest, open_gate, closed_gate, magic, header_body, header, measured, frame, record_of, header_at, record_at}
-use Rattle.dp_base.specs.Spelling.{HasOneSpelling}
-use Rattle.dp_base.proofs.Fields.{bind_some, Splits, Splits-then, bytes_taken, bytes_found, byte_taken, measured_taken, measured_found, number_found, bind_at, none_after, spelling_from}
+use Rattle.dp_base.specs.Journal.{IsBody, IsGuest, open_gate, closed_gate, magic, header_body, header, length_prefixed, frame, record_of, header_at, record_at}
+use Rattle.dp_base.specs.Encoding.{IsPrefixCode}
+use Rattle.dp_base.proofs.Fields.{bind_some, Splits, Splits-then, bytes_taken, bytes_found, byte_taken, length_prefixed_taken, length_prefixed_found, number_found, bind_at, none_after, code_from}
 
 -- ---- records
 
@@ -29,41 +29,41 @@ record_taken bytes x fits e =
     let c = bind_some (bytes_at b.0.0 b.0.1) (record_end a.0 b.0) x b.2 in
     let g = cond_some (eqb a.0.0 open_gate && ltb 0 b.0.0 && leb b.0.0 MAX_BODY_BYTES) c.0 x c.2 in
     let tests = and_parts (eqb a.0.0 open_gate && ltb 0 b.0.0) (leb b.0.0 MAX_BODY_BYTES) g.0 in
-    let front = and_parts (eqb a.0.0 open_gate) (ltb 0 b.0.0) tests.0 in
-    let some : 0 < b.0.0 = ltb-true _ _ front.1 in
+    let both_tests = and_parts (eqb a.0.0 open_gate) (ltb 0 b.0.0) tests.0 in
+    let some : 0 < b.0.0 = ltb-true _ _ both_tests.1 in
     let few : b.0.0 ≤ MAX_BODY_BYTES = leb-true _ _ tests.1 in
-    let gate = byte_taken open_gate bytes a.0 fits a.1 (eqb-true _ _ front.0) in
-    let body = measured_taken 4 a.0.1 b.0 c.0 gate.left b.1 c.1 in
-    let whole = Splits-then bytes (open_gate ∷ []) a.0.1 (measured c.0.0) c.0.1 gate body.0 in
+    let gate = byte_taken open_gate bytes a.0 fits a.1 (eqb-true _ _ both_tests.0) in
+    let body = length_prefixed_taken 4 a.0.1 b.0 c.0 gate.left b.1 c.1 in
+    let whole = Splits-then bytes (open_gate ∷ []) a.0.1 (length_prefixed c.0.0) c.0.1 gate body.0 in
     subst (λ (y : List ℕ × List ℕ). Splits bytes (record_of y.0) y.1 × IsBody y.0) {x = c.0} g.1
     (whole, (subst (λ (k : ℕ). 0 < k) (sym body.1) some, subst (λ (k : ℕ). k ≤ MAX_BODY_BYTES) (sym body.1) few, body.3))
 
 record_found : (body rest : List ℕ) → IsBody body → record_at (record_of body ++ rest) ≡ Some (body, rest)
 unfolding record_at
 record_found body rest fits =
-    let gate : ℕ × List ℕ = (open_gate, measured body ++ rest) in
+    let gate : ℕ × List ℕ = (open_gate, length_prefixed body ++ rest) in
     let size : ℕ × List ℕ = (length body, body ++ rest) in
     let found : List ℕ × List ℕ = (body, rest) in
     let some : ltb 0 (length body) ≡ true = lt-ltb _ _ fits.0 in
     let few : leb (length body) MAX_BODY_BYTES ≡ true = le-leb _ _ fits.1 in
-    let size-is = measured_found 4 body rest (omega (arith, fits.1)) in
+    let size-is = length_prefixed_found 4 body rest (omega (arith, fits.1)) in
     let last : record_end gate size found ≡ Some found = cond-true _ _ _ (and_from _ _ some few) in
-    bind_at (number_at 1 (record_of body ++ rest)) record_gate gate (Some found) (number_found 1 open_gate (measured body ++ rest) (omega arith))
+    bind_at (number_at 1 (record_of body ++ rest)) record_gate gate (Some found) (number_found 1 open_gate (length_prefixed body ++ rest) (omega arith))
     (bind_at (number_at 4 gate.1) (record_size gate) size (Some found) size-is
     (bind_at (bytes_at size.0 size.1) (record_end gate size) found (Some found) (bytes_found body rest) last))
 
-pub record_spelling : HasOneSpelling record_at record_of IsBody
-record_spelling = spelling_from record_at record_of IsBody record_found record_taken
+pub record_code : IsPrefixCode record_at record_of IsBody
+record_code = code_from record_at record_of IsBody record_found record_taken
 
 -- ---- frames, which are records with the gate moved behind them
 
-pub frame_split : (body rest : List ℕ) → frame body ++ rest ≡ measured body ++ closed_gate ∷ rest
-frame_split body rest = append_assoc (measured body) (closed_gate ∷ []) rest
+pub frame_split : (body rest : List ℕ) → frame body ++ rest ≡ length_prefixed body ++ closed_gate ∷ rest
+frame_split body rest = append_assoc (length_prefixed body) (closed_gate ∷ []) rest
 
 pub frame_one : (a b x y : List ℕ) → IsBody a → IsBody b → frame a ++ x ≡ frame b ++ y → (a ≡ b) × (x ≡ y)
 frame_one a b x y a-is b-is e =
     let moved : record_of a ++ closed_gate ∷ x ≡ record_of b ++ closed_gate ∷ y = ap (λ (t : List ℕ). open_gate ∷ t) (sym (frame_split a x) ∙ e ∙ frame_split b y) in
-    let both = record_spelling.one a b (closed_gate ∷ x) (closed_gate ∷ y) a-is b-is moved in
+    let both = record_code.prefix_free a b (closed_gate ∷ x) (closed_gate ∷ y) a-is b-is moved in
     let same : closed_gate ∷ x ≡ closed_gate ∷ y = both.1 in
     (both.0, cc)
 
@@ -94,8 +94,8 @@ header_taken bytes x fits e =
     let word = bytes_taken 4 a.0.1 b.0 gate.left b.1 in
     let word-is : b.0.0 ≡ magic = (bytes_eq-Decides b.0.0 magic).0 tests.1 in
     let magical : Splits a.0.1 magic b.0.1 = subst (λ (t : List ℕ). Splits a.0.1 t b.0.1) word-is word.0 in
-    let guest = measured_taken 4 b.0.1 c.0 d.0 word.0.left c.1 d.1 in
-    let behind = Splits-then a.0.1 magic b.0.1 (measured d.0.0) d.0.1 magical guest.0 in
+    let guest = length_prefixed_taken 4 b.0.1 c.0 d.0 word.0.left c.1 d.1 in
+    let behind = Splits-then a.0.1 magic b.0.1 (length_prefixed d.0.0) d.0.1 magical guest.0 in
     let whole = Splits-then bytes (open_gate ∷ []) a.0.1 (header_body d.0.0) d.0.1 gate behind in
     subst (λ (y : List ℕ × List ℕ). Splits bytes (header y.0) y.1 × IsGuest y.0) {x = d.0} g.1 (whole, (guest.2, guest.3))
 
@@ -103,17 +103,17 @@ header_found : (guest rest : List ℕ) → IsGuest guest → header_at (header g
 unfolding header_at
 header_found guest rest fits =
     let gate : ℕ × List ℕ = (open_gate, header_body guest ++ rest) in
-    let word : List ℕ × List ℕ = (magic, measured guest ++ rest) in
+    let word : List ℕ × List ℕ = (magic, length_prefixed guest ++ rest) in
     let size : ℕ × List ℕ = (length guest, guest ++ rest) in
     let found : List ℕ × List ℕ = (guest, rest) in
-    let size-is = measured_found 4 guest rest (omega (arith, fits.0)) in
+    let size-is = length_prefixed_found 4 guest rest (omega (arith, fits.0)) in
     bind_at (number_at 1 (header guest ++ rest)) header_gate gate (Some found) (number_found 1 open_gate (header_body guest ++ rest) (omega arith))
-    (bind_at (bytes_at 4 gate.1) (header_word gate) word (Some found) (bytes_found magic (measured guest ++ rest))
+    (bind_at (bytes_at 4 gate.1) (header_word gate) word (Some found) (bytes_found magic (length_prefixed guest ++ rest))
     (bind_at (number_at 4 word.1) (header_size gate word) size (Some found) size-is
     (bind_at (bytes_at size.0 size.1) (header_end gate word) found (Some found) (bytes_found guest rest) refl)))
 
-pub header_spelling : HasOneSpelling header_at header IsGuest
-header_spelling = spelling_from header_at header IsGuest header_found header_taken
+pub header_code : IsPrefixCode header_at header IsGuest
+header_code = code_from header_at header IsGuest header_found header_taken
 
 -- ---- a closed gate
 

@@ -1,4 +1,4 @@
--- How long spellings are, and that they are bytes.
+-- How long encodings are, and that they are bytes.
 use Rattle.std.proofs.Common.{◌≡◌, ℕ, zero, suc, ◌+◌, ◌*◌, ◌<◌, ◌≤◌, List, [], ◌∷◌, ◌++◌, length, refl, arith}
 use Rattle.std.specs.List.{flat_map, AllByRecursion}
 use Rattle.std.specs.Int.{byte_at, bytes_low_first}
@@ -9,7 +9,7 @@ use Rattle.dp_base.specs.declared.answer.Answer.{Answer}
 use Rattle.dp_base.specs.declared.answer.Answer.TheVariants.{Read, Clock}
 use Rattle.dp_base.specs.declared.slice.Slice.{Slice}
 use Rattle.dp_base.specs.Field.{AreBytes}
-use Rattle.dp_base.specs.Journal.{Epoch, IsSlice, IsAnswer, IsEpoch, IsBody, IsGuest, open_gate, closed_gate, header_body, header, measured, frame, record_of, slice, answer, epoch_body}
+use Rattle.dp_base.specs.Journal.{Epoch, IsSlice, IsAnswer, IsEpoch, IsBody, IsGuest, open_gate, closed_gate, header_body, header, length_prefixed, frame, record_of, slice, answer, epoch_body}
 use Rattle.dp_base.proofs.Fields.{AreBytes-append}
 
 -- ---- bytes
@@ -32,33 +32,33 @@ low_bytes-fit j (suc n) x = AreBytes-cons (byte_at j x) (bytes_low_first (suc j)
 pub AreBytes-little_bytes : (n x : ℕ) → AreBytes (little_bytes n x)
 AreBytes-little_bytes n x = low_bytes-fit 0 n x
 
-pub AreBytes-flat_map : {X : Type 0} (spell : X → List ℕ) (Is : X → Type 0) → ((x : X) → Is x → AreBytes (spell x)) → (xs : List X) → AllByRecursion Is xs → AreBytes (flat_map spell xs)
-AreBytes-flat_map spell Is each [] fits = AreBytes-nil
-AreBytes-flat_map spell Is each (x ∷ xs) fits = AreBytes-append (spell x) (flat_map spell xs) (each x fits.0) (AreBytes-flat_map spell Is each xs fits.1)
+pub AreBytes-flat_map : {X : Type 0} (encode : X → List ℕ) (Is : X → Type 0) → ((x : X) → Is x → AreBytes (encode x)) → (xs : List X) → AllByRecursion Is xs → AreBytes (flat_map encode xs)
+AreBytes-flat_map encode Is each [] fits = AreBytes-nil
+AreBytes-flat_map encode Is each (x ∷ xs) fits = AreBytes-append (encode x) (flat_map encode xs) (each x fits.0) (AreBytes-flat_map encode Is each xs fits.1)
 
-pub AreBytes-measured : (n : ℕ) (text : List ℕ) → AreBytes text → AreBytes (little_bytes n (length text) ++ text)
-AreBytes-measured n text fits = AreBytes-append (little_bytes n (length text)) text (AreBytes-little_bytes n (length text)) fits
+pub AreBytes-length_prefixed : (n : ℕ) (text : List ℕ) → AreBytes text → AreBytes (little_bytes n (length text) ++ text)
+AreBytes-length_prefixed n text fits = AreBytes-append (little_bytes n (length text)) text (AreBytes-little_bytes n (length text)) fits
 
 pub AreBytes-header : (guest : List ℕ) → IsGuest guest → AreBytes (header guest)
 AreBytes-header guest fits =
-    let size = AreBytes-measured 4 guest fits.1 in
-    let word : AreBytes (header_body guest) = AreBytes-cons 0x44 (0x50 ∷ 0x4a ∷ 0x31 ∷ measured guest) (omega arith)
-    (AreBytes-cons 0x50 (0x4a ∷ 0x31 ∷ measured guest) (omega arith)
-    (AreBytes-cons 0x4a (0x31 ∷ measured guest) (omega arith)
-    (AreBytes-cons 0x31 (measured guest) (omega arith) size))) in
+    let size = AreBytes-length_prefixed 4 guest fits.1 in
+    let word : AreBytes (header_body guest) = AreBytes-cons 0x44 (0x50 ∷ 0x4a ∷ 0x31 ∷ length_prefixed guest) (omega arith)
+    (AreBytes-cons 0x50 (0x4a ∷ 0x31 ∷ length_prefixed guest) (omega arith)
+    (AreBytes-cons 0x4a (0x31 ∷ length_prefixed guest) (omega arith)
+    (AreBytes-cons 0x31 (length_prefixed guest) (omega arith) size))) in
     AreBytes-cons open_gate (header_body guest) (omega arith) word
 
 pub AreBytes-record_of : (body : List ℕ) → IsBody body → AreBytes (record_of body)
-AreBytes-record_of body fits = AreBytes-cons open_gate (measured body) (omega arith) (AreBytes-measured 4 body fits.2)
+AreBytes-record_of body fits = AreBytes-cons open_gate (length_prefixed body) (omega arith) (AreBytes-length_prefixed 4 body fits.2)
 
 pub AreBytes-frame : (body : List ℕ) → IsBody body → AreBytes (frame body)
-AreBytes-frame body fits = AreBytes-append (measured body) (closed_gate ∷ []) (AreBytes-measured 4 body fits.2) (AreBytes-cons closed_gate [] (omega arith) AreBytes-nil)
+AreBytes-frame body fits = AreBytes-append (length_prefixed body) (closed_gate ∷ []) (AreBytes-length_prefixed 4 body fits.2) (AreBytes-cons closed_gate [] (omega arith) AreBytes-nil)
 
 AreBytes-slice : (s : Slice) → IsSlice s → AreBytes (slice s)
 AreBytes-slice s fits = AreBytes-append (little_bytes 2 s.tid.0) (little_bytes 4 s.steps) (AreBytes-little_bytes 2 s.tid.0) (AreBytes-little_bytes 4 s.steps)
 
 AreBytes-answer : (a : Answer) → IsAnswer a → AreBytes (answer a)
-AreBytes-answer (Read bytes) fits = AreBytes-cons 0 (little_bytes 2 (length bytes) ++ bytes) (omega arith) (AreBytes-measured 2 bytes fits.1)
+AreBytes-answer (Read bytes) fits = AreBytes-cons 0 (little_bytes 2 (length bytes) ++ bytes) (omega arith) (AreBytes-length_prefixed 2 bytes fits.1)
 AreBytes-answer (Clock reading) fits = AreBytes-cons 1 (little_bytes 8 reading) (omega arith) (AreBytes-little_bytes 8 reading)
 
 pub AreBytes-epoch_body : (e : Epoch) → IsEpoch e → AreBytes (epoch_body e)
@@ -77,7 +77,7 @@ pub length-record_of : (body : List ℕ) → length (record_of body) ≡ 5 + len
 length-record_of body = omega arith
 
 pub length-frame : (body : List ℕ) → length (frame body) ≡ 5 + length body
-length-frame body = omega (arith, length-append (measured body) (closed_gate ∷ []))
+length-frame body = omega (arith, length-append (length_prefixed body) (closed_gate ∷ []))
 
 pub length-slices : (slices : List Slice) → length (flat_map slice slices) ≡ 6 * length slices
 length-slices [] = refl

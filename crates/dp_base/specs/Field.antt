@@ -1,4 +1,4 @@
--- Bytes that are read from their front, field by field. Every number is little-endian. This project's own.
+-- Bytes that are read from their start, field by field. Every number is little-endian. This project's own.
 use Rattle.std.specs.Prelude.{◌<◌, ℕ, List, length, take, drop, slice_index, Option, Some, None, nat_lt, if◌then◌else◌}
 use Rattle.byteorder.specs.Endian.{little_number}
 

@@ -1,6 +1,6 @@
 -- The bytes of a journal, format DPJ1. This project's own; docs/JOURNAL.md shows them.
--- Each value has a spelling (`header`, `record_of`, `epoch_body`), and beside it stands what a reader accepts
--- at the front of bytes (`header_at`, `record_at`, `epoch_body_at`): the value, and the bytes behind it.
+-- Each value has an encoding (`header`, `record_of`, `epoch_body`), and beside it stands what a reader accepts
+-- at the start of bytes (`header_at`, `record_at`, `epoch_body_at`): the value, and the bytes behind it.
 use Rattle.std.specs.Prelude.{◌^◌, ◌<◌, ◌≤◌, ℕ, zero, suc, List, [], ◌∷◌, ◌++◌, length, sum_by, Option, Some, None, ◌==◌, ◌&&◌, nat_lt, nat_le, if◌then◌else◌}
 use Rattle.std.specs.List.{flat_map, AllByRecursion}
 use Rattle.std.specs.Str.{bytes_eq}
@@ -11,14 +11,14 @@ use Rattle.dp_base.specs.declared.answer.Answer.TheVariants.{Read, Clock}
 use Rattle.dp_base.specs.declared.slice.Slice.{Slice}
 use Rattle.dp_base.specs.Field.{AreBytes, ◌>>=◌, bytes_at, number_at}
 
--- ---- what a journal spells
+-- ---- what a journal has
 
 -- an epoch: the slices that it ran, and the answers that the outside gave it
 pub record Epoch : Type 0 where
   pub slices : List Slice
   pub answers : List Answer
 
--- what has a spelling
+-- what has an encoding
 
 abbrev pub IsSlice : Slice → Type 0
 IsSlice s = (0 < s.tid.0) × (s.tid.0 < 2 ^ 16) × (0 < s.steps) × (s.steps < 2 ^ 32)
@@ -45,7 +45,7 @@ IsBody body = (0 < length body) × (length body ≤ MAX_BODY_BYTES) × AreBytes 
 abbrev pub IsGuest : List ℕ → Type 0
 IsGuest guest = (length guest < 2 ^ 32) × AreBytes guest
 
--- ---- spellings
+-- ---- encodings
 
 -- a gate: what is behind an open one counts, what is behind a closed one does not
 abbrev pub open_gate : ℕ
@@ -66,15 +66,15 @@ abbrev pub header : List ℕ → List ℕ
 header guest = open_gate ∷ header_body guest
 
 -- a body behind its length
-abbrev pub measured : List ℕ → List ℕ
-measured body = little_bytes 4 (length body) ++ body
+abbrev pub length_prefixed : List ℕ → List ℕ
+length_prefixed body = little_bytes 4 (length body) ++ body
 
 -- what an append writes behind the closed gate: the record, and the next closed gate
 abbrev pub frame : List ℕ → List ℕ
-frame body = measured body ++ closed_gate ∷ []
+frame body = length_prefixed body ++ closed_gate ∷ []
 
 abbrev pub record_of : List ℕ → List ℕ
-record_of body = open_gate ∷ measured body
+record_of body = open_gate ∷ length_prefixed body
 
 abbrev pub slice : Slice → List ℕ
 slice s = little_bytes 2 s.tid.0 ++ little_bytes 4 s.steps

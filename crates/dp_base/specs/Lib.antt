@@ -1,3 +1,3 @@
 pub mod Field
 pub mod Journal
-pub mod Spelling
+pub mod Encoding

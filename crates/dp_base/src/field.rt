@@ -1,4 +1,4 @@
-//! Numbers in bytes, lowest byte first: readers that take from the front, and writers that add at the end.
+//! Numbers in bytes, lowest byte first: readers that take from the start, and writers that add at the end.
 
 ghost use Rattle.std.specs.Prelude.{◌≡◌, ◌++◌, OnOk, OnErr, option_map};
 ghost use Rattle.byteorder.specs.Endian.{little_bytes};
@@ -50,7 +50,7 @@ pub fn read_u64(bytes: &[u8]) -> Option<(u64, &[u8])>
 /// Adds bytes at the end, all of them or none.
 pub fn write_bytes(out: &mut Vec<u8>, bytes: &[u8]) -> Result<(), OutOfMemory>
     ensures added { OnOk result (out.new.items ≡ out.old.items ++ bytes.now) }
-    ensures refused { OnErr result (out.new.items ≡ out.old.items) }
+    ensures unchanged { OnErr result (out.new.items ≡ out.old.items) }
 {
     match out.extend_from_slice(bytes) {
         Ok(()) => Ok(()),
@@ -61,7 +61,7 @@ pub fn write_bytes(out: &mut Vec<u8>, bytes: &[u8]) -> Result<(), OutOfMemory>
 /// Adds one byte at the end.
 pub fn write_u8(out: &mut Vec<u8>, number: u8) -> Result<(), OutOfMemory>
     ensures added { OnOk result (out.new.items ≡ out.old.items ++ little_bytes 1 number) }
-    ensures refused { OnErr result (out.new.items ≡ out.old.items) }
+    ensures unchanged { OnErr result (out.new.items ≡ out.old.items) }
 {
     write_bytes(out, &[number])
 }
@@ -69,7 +69,7 @@ pub fn write_u8(out: &mut Vec<u8>, number: u8) -> Result<(), OutOfMemory>
 /// Adds the number's 2 bytes at the end.
 pub fn write_u16(out: &mut Vec<u8>, number: u16) -> Result<(), OutOfMemory>
     ensures added { OnOk result (out.new.items ≡ out.old.items ++ little_bytes 2 number) }
-    ensures refused { OnErr result (out.new.items ≡ out.old.items) }
+    ensures unchanged { OnErr result (out.new.items ≡ out.old.items) }
 {
     let mut bytes = [0; 2];
     LittleEndian::write_u16(&mut bytes, number);
@@ -79,7 +79,7 @@ pub fn write_u16(out: &mut Vec<u8>, number: u16) -> Result<(), OutOfMemory>
 /// Adds the number's 4 bytes at the end.
 pub fn write_u32(out: &mut Vec<u8>, number: u32) -> Result<(), OutOfMemory>
     ensures added { OnOk result (out.new.items ≡ out.old.items ++ little_bytes 4 number) }
-    ensures refused { OnErr result (out.new.items ≡ out.old.items) }
+    ensures unchanged { OnErr result (out.new.items ≡ out.old.items) }
 {
     let mut bytes = [0; 4];
     LittleEndian::write_u32(&mut bytes, number);
@@ -89,7 +89,7 @@ pub fn write_u32(out: &mut Vec<u8>, number: u32) -> Result<(), OutOfMemory>
 /// Adds the number's 8 bytes at the end.
 pub fn write_u64(out: &mut Vec<u8>, number: u64) -> Result<(), OutOfMemory>
     ensures added { OnOk result (out.new.items ≡ out.old.items ++ little_bytes 8 number) }
-    ensures refused { OnErr result (out.new.items ≡ out.old.items) }
+    ensures unchanged { OnErr result (out.new.items ≡ out.old.items) }
 {
     let mut bytes = [0; 8];
     LittleEndian::write_u64(&mut bytes, number);

@@ -1,4 +1,4 @@
-//! Laws of the fields and of the journal's spellings, over all values and all bytes.
+//! Laws of the fields and of the journal's encodings, over all values and all bytes.
 
 ghost use Rattle.std.specs.Prelude.{◌≡◌, ◌++◌, ◌∷◌, [], ℕ, ◌+◌, ◌*◌, ◌<◌, ◌≤◌, ◌^◌, List, Some, length};
 ghost use Rattle.std.specs.List.{flat_map};
@@ -6,29 +6,29 @@ ghost use Rattle.byteorder.specs.Endian.{little_bytes};
 ghost use Rattle.dp_base.specs.Field.{number_at};
 ghost use Rattle.dp_base.specs.Journal.{Epoch, IsGuest, IsBody, IsSlice, IsAnswer, IsEpoch, header, header_at, record_of, record_at, frame, closed_gate, slice, slice_at, answer, answer_at, epoch_body, epoch_body_at};
 ghost use Rattle.dp_base.specs.declared.slice.Slice.{Slice};
-ghost use Rattle.dp_base.specs.Spelling.{HasOneSpelling};
+ghost use Rattle.dp_base.specs.Encoding.{IsPrefixCode};
 
 use crate::limits::{MAX_BODY_BYTES, MAX_EPOCH_STEPS};
 
-/// A number below 256 to the power n has one spelling in n bytes, and n bytes spell one number. As many fewer
+/// A number below 256 to the power n has one encoding in n bytes, and n bytes encode one number. As many fewer
 /// bytes are left.
 pub fn numbers()
-    ensures spelling { (n : ℕ) → HasOneSpelling (number_at n) (little_bytes n) (λ x. x < 256 ^ n) }
+    ensures code { (n : ℕ) → IsPrefixCode (number_at n) (little_bytes n) (λ x. x < 256 ^ n) }
     ensures left { (n x : ℕ) (bytes rest : List ℕ) →
         number_at n bytes ≡ Some (x, rest) → length bytes ≡ n + length rest }
 {}
 
 /// A guest file has one header, and a header holds one guest file.
 pub fn headers()
-    ensures { HasOneSpelling header_at header IsGuest }
+    ensures { IsPrefixCode header_at header IsGuest }
 {}
 
 /// A body has one record, and a record holds one body.
 pub fn records()
-    ensures { HasOneSpelling record_at record_of IsBody }
+    ensures { IsPrefixCode record_at record_of IsBody }
 {}
 
-/// What an append writes tells the body and all that stands behind it.
+/// What an append writes determines the body and all that stands behind it.
 pub fn frames()
     ensures { (a b x y : List ℕ) → IsBody a → IsBody b → frame a ++ x ≡ frame b ++ y → (a ≡ b) × (x ≡ y) }
 {}
@@ -39,22 +39,22 @@ pub fn closed_gates()
     ensures record { (rest : List ℕ) → record_at (closed_gate ∷ rest) ≡ None }
 {}
 
-/// A slice has one spelling.
+/// A slice has one encoding.
 pub fn slices()
-    ensures { HasOneSpelling slice_at slice IsSlice }
+    ensures { IsPrefixCode slice_at slice IsSlice }
 {}
 
-/// An answer has one spelling.
+/// An answer has one encoding.
 pub fn answers()
-    ensures { HasOneSpelling answer_at answer IsAnswer }
+    ensures { IsPrefixCode answer_at answer IsAnswer }
 {}
 
-/// An epoch has one body, and a body tells one epoch.
+/// An epoch has one body, and a body is of one epoch.
 pub fn epochs()
-    ensures { HasOneSpelling epoch_body_at epoch_body IsEpoch }
+    ensures { IsPrefixCode epoch_body_at epoch_body IsEpoch }
 {}
 
-/// How many bytes each spelling has.
+/// How many bytes each encoding has.
 pub fn lengths()
     ensures header { (guest : List ℕ) → length (header guest) ≡ 9 + length guest }
     ensures record { (body : List ℕ) → length (record_of body) ≡ 5 + length body }

@@ -2,7 +2,7 @@
 //! fields of the journal, and the definitions of the journal's bytes (`specs/Journal.antt`).
 //!
 //! Promises: what a field writer adds is what the reader of the same width takes, and no byte more; a journal
-//! value has one spelling, and no spelling begins another. Stands on `byteorder` for numbers in bytes.
+//! value has one encoding, and no encoding is a prefix of another. Stands on `byteorder` for numbers in bytes.
 //!
 //! An epoch becomes the bytes that an append writes behind the closed gate:
 //!

@@ -119,9 +119,9 @@ fn limits_in_other_words(rt: HostRuntime) {
     assert_eq!(rt; MAX_JOURNAL_BYTES, 64 * MAX_BODY_BYTES as u64);
 }
 
-// Where memory runs out, a field leaves all as it was, and a longer spelling what stood before it.
+// If memory runs out, a field leaves all as it was, and a longer encoding what stood before it.
 #[test]
-fn refused_growth(rt: HostRuntime) -> Result<(), Fail> {
+fn failed_allocations(rt: HostRuntime) -> Result<(), Fail> {
     let alloc = rt.alloc();
     let turns = [Slice {
         tid: Tid(2),

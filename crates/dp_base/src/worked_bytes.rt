@@ -5,10 +5,10 @@ ghost use Rattle.std.specs.Prelude.{◌≡◌, ◌∷◌, [], ◌≤◌, ℕ, Li
 ghost use Rattle.byteorder.specs.Endian.{little_bytes};
 ghost use Rattle.dp_base.specs.Field.{AreBytes, bytes_at, number_at};
 ghost use Rattle.dp_base.specs.Journal.{IsSlice, IsAnswer, IsBody, IsGuest, answer_at, epoch_body, epoch_body_at, frame, header, header_at, journal, record_at, record_of, slice, slice_at};
-ghost use Rattle.dp_base.specs.Spelling.{HasOneSpelling, IsFrontOf};
+ghost use Rattle.dp_base.specs.Encoding.{IsPrefixCode, IsPrefixOf};
 ghost use Rattle.dp_base.specs.declared.answer.Answer.TheVariants.{Read, Clock};
 
-// Fields are taken from the front, lowest byte first.
+// Fields are taken from the start, lowest byte first.
 fn fields()
     ensures lowest_first { number_at 2 (0x34 ∷ 0x12 ∷ 0x99 ∷ []) ≡ Some (0x1234, 0x99 ∷ []) }
     ensures too_few { number_at 2 (0x34 ∷ []) ≡ None }
@@ -19,20 +19,20 @@ fn fields()
     ensures no_byte { AreBytes (256 ∷ []) → ⊥ }
 {}
 
-// A front may have more behind it, and no less.
-fn fronts()
-    ensures more { IsFrontOf (1 ∷ []) (1 ∷ 2 ∷ []) }
-    ensures less { IsFrontOf (1 ∷ 2 ∷ []) (1 ∷ []) → ⊥ }
+// A prefix may have more behind it, and no less.
+fn prefixes()
+    ensures more { IsPrefixOf (1 ∷ []) (1 ∷ 2 ∷ []) }
+    ensures less { IsPrefixOf (1 ∷ 2 ∷ []) (1 ∷ []) → ⊥ }
 {}
 
-// In one byte 256 is spelled as 0 is.
-fn two_with_one_spelling()
-    ensures { HasOneSpelling (number_at 1) (little_bytes 1) (λ x. x ≤ 256) → ⊥ }
+// In one byte 256 has the encoding of 0.
+fn no_code_for_256()
+    ensures { IsPrefixCode (number_at 1) (little_bytes 1) (λ x. x ≤ 256) → ⊥ }
 {}
 
 #[tactic(auto, unfolding(crate::specs::Journal::header_at))]
 fn headers()
-    ensures spelled { header (0xaa ∷ 0xbb ∷ []) ≡ 1 ∷ 0x44 ∷ 0x50 ∷ 0x4a ∷ 0x31 ∷ 2 ∷ 0 ∷ 0 ∷ 0 ∷ 0xaa ∷ 0xbb ∷ [] }
+    ensures encoded { header (0xaa ∷ 0xbb ∷ []) ≡ 1 ∷ 0x44 ∷ 0x50 ∷ 0x4a ∷ 0x31 ∷ 2 ∷ 0 ∷ 0 ∷ 0 ∷ 0xaa ∷ 0xbb ∷ [] }
     ensures read { header_at (1 ∷ 0x44 ∷ 0x50 ∷ 0x4a ∷ 0x31 ∷ 2 ∷ 0 ∷ 0 ∷ 0 ∷ 0xaa ∷ 0xbb ∷ 0 ∷ []) ≡ Some (0xaa ∷ 0xbb ∷ [], 0 ∷ []) }
     ensures empty_guest { header_at (1 ∷ 0x44 ∷ 0x50 ∷ 0x4a ∷ 0x31 ∷ 0 ∷ 0 ∷ 0 ∷ 0 ∷ []) ≡ Some ([], []) }
     ensures gate_alone { header_at (1 ∷ []) ≡ None }
@@ -44,7 +44,7 @@ fn headers()
 
 #[tactic(auto, unfolding(crate::specs::Journal::record_at))]
 fn records()
-    ensures spelled { record_of (0xaa ∷ []) ≡ 1 ∷ 1 ∷ 0 ∷ 0 ∷ 0 ∷ 0xaa ∷ [] }
+    ensures encoded { record_of (0xaa ∷ []) ≡ 1 ∷ 1 ∷ 0 ∷ 0 ∷ 0 ∷ 0xaa ∷ [] }
     ensures framed { frame (0xaa ∷ []) ≡ 1 ∷ 0 ∷ 0 ∷ 0 ∷ 0xaa ∷ 0 ∷ [] }
     ensures read { record_at (1 ∷ 1 ∷ 0 ∷ 0 ∷ 0 ∷ 0xaa ∷ 0 ∷ []) ≡ Some (0xaa ∷ [], 0 ∷ []) }
     ensures torn_gate { record_at (7 ∷ 1 ∷ 0 ∷ 0 ∷ 0 ∷ 0xaa ∷ 0 ∷ []) ≡ None }
@@ -57,7 +57,7 @@ fn records()
 
 #[tactic(auto, unfolding(crate::specs::Journal::slice_at))]
 fn slices()
-    ensures spelled { slice (record { tid = record { 0 = 0x0102 }; steps = 0x03040506 }) ≡ 2 ∷ 1 ∷ 6 ∷ 5 ∷ 4 ∷ 3 ∷ [] }
+    ensures encoded { slice (record { tid = record { 0 = 0x0102 }; steps = 0x03040506 }) ≡ 2 ∷ 1 ∷ 6 ∷ 5 ∷ 4 ∷ 3 ∷ [] }
     ensures read { slice_at (2 ∷ 1 ∷ 6 ∷ 5 ∷ 4 ∷ 3 ∷ 9 ∷ []) ≡ Some (record { tid = record { 0 = 0x0102 }; steps = 0x03040506 }, 9 ∷ []) }
     ensures no_thread { slice_at (0 ∷ 0 ∷ 1 ∷ 0 ∷ 0 ∷ 0 ∷ []) ≡ None }
     ensures no_step { slice_at (1 ∷ 0 ∷ 0 ∷ 0 ∷ 0 ∷ 0 ∷ []) ≡ None }
@@ -82,7 +82,7 @@ fn answers()
 // The body of three steps of thread 1, what follows it, and what is not one.
 #[tactic(auto, unfolding(crate::specs::Journal::epoch_body_at, crate::specs::Journal::many_at, crate::specs::Journal::slice_at, crate::specs::Journal::answer_at, crate::specs::Journal::read_at, crate::specs::Journal::clock_at))]
 fn epochs()
-    ensures spelled { epoch_body (record { slices = record { tid = record { 0 = 1 }; steps = 3 } ∷ record { tid = record { 0 = 2 }; steps = 4 } ∷ []; answers = Clock 5 ∷ Read (7 ∷ []) ∷ [] }) ≡ 0 ∷ 2 ∷ 0 ∷ 0 ∷ 0 ∷ 1 ∷ 0 ∷ 3 ∷ 0 ∷ 0 ∷ 0 ∷ 2 ∷ 0 ∷ 4 ∷ 0 ∷ 0 ∷ 0 ∷ 2 ∷ 0 ∷ 0 ∷ 0 ∷ 1 ∷ 5 ∷ 0 ∷ 0 ∷ 0 ∷ 0 ∷ 0 ∷ 0 ∷ 0 ∷ 0 ∷ 1 ∷ 0 ∷ 7 ∷ [] }
+    ensures encoded { epoch_body (record { slices = record { tid = record { 0 = 1 }; steps = 3 } ∷ record { tid = record { 0 = 2 }; steps = 4 } ∷ []; answers = Clock 5 ∷ Read (7 ∷ []) ∷ [] }) ≡ 0 ∷ 2 ∷ 0 ∷ 0 ∷ 0 ∷ 1 ∷ 0 ∷ 3 ∷ 0 ∷ 0 ∷ 0 ∷ 2 ∷ 0 ∷ 4 ∷ 0 ∷ 0 ∷ 0 ∷ 2 ∷ 0 ∷ 0 ∷ 0 ∷ 1 ∷ 5 ∷ 0 ∷ 0 ∷ 0 ∷ 0 ∷ 0 ∷ 0 ∷ 0 ∷ 0 ∷ 1 ∷ 0 ∷ 7 ∷ [] }
     ensures read { epoch_body_at (0 ∷ 1 ∷ 0 ∷ 0 ∷ 0 ∷ 1 ∷ 0 ∷ 3 ∷ 0 ∷ 0 ∷ 0 ∷ 0 ∷ 0 ∷ 0 ∷ 0 ∷ []) ≡ Some (record { slices = record { tid = record { 0 = 1 }; steps = 3 } ∷ []; answers = [] }, []) }
     ensures behind { epoch_body_at (0 ∷ 1 ∷ 0 ∷ 0 ∷ 0 ∷ 1 ∷ 0 ∷ 3 ∷ 0 ∷ 0 ∷ 0 ∷ 0 ∷ 0 ∷ 0 ∷ 0 ∷ 0 ∷ []) ≡ Some (record { slices = record { tid = record { 0 = 1 }; steps = 3 } ∷ []; answers = [] }, 0 ∷ []) }
     ensures not_whole { epoch_body_at (0 ∷ 1 ∷ 0 ∷ 0 ∷ 0 ∷ 1 ∷ 0 ∷ 3 ∷ 0 ∷ 0 ∷ 0 ∷ 0 ∷ 0 ∷ 0 ∷ []) ≡ None }

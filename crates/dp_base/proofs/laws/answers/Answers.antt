@@ -1,5 +1,5 @@
-use Rattle.dp_base.proofs.Epochs.{answer_spelling}
+use Rattle.dp_base.proofs.Epochs.{answer_code}
 use Rattle.dp_base.proofs.laws.answers.Goals as goal
 
 pub returns : goal.returns
-returns c = answer_spelling
+returns c = answer_code

@@ -1,5 +1,5 @@
-use Rattle.dp_base.proofs.Epochs.{slice_spelling}
+use Rattle.dp_base.proofs.Epochs.{slice_code}
 use Rattle.dp_base.proofs.laws.slices.Goals as goal
 
 pub returns : goal.returns
-returns c = slice_spelling
+returns c = slice_code
