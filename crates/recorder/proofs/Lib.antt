@@ -1,0 +1,2 @@
+pub mod OnDisk
+pub mod Sends

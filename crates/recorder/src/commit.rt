@@ -1,0 +1,50 @@
+// An epoch is committed: its record is appended, and then its output is sent.
+ghost use Rattle.std.specs.Prelude.{◌≡◌, ◌≤◌, ◌^◌, IsErrOf, length};
+ghost use Rattle.disk_model.specs.Counts.{Rose};
+ghost use Rattle.disk_model.specs.Known.{IfKnown};
+ghost use Rattle.recorder.specs.Journaling.{Committed, HasCommitted};
+
+use crate::append::AppendFault;
+use crate::device::send_all;
+use crate::frame::Ready;
+use crate::journal::Journal;
+use disk_model::World;
+
+/// Why an epoch was not committed, or not sent whole.
+#[derive(Clone, Copy, Debug, PartialEq, Eq)]
+pub enum CommitFault {
+    DiskFault,
+    /// The record ends past the room, and nothing was written or sent: the journal's end, and the frame's length.
+    Full { end: u64, need: u64 },
+    /// The record is in the journal, and a prefix of the output was sent.
+    OutputFault,
+}
+
+/// Appends an epoch's record, and sends its output once the record is on the disk. Takes no memory.
+pub fn commit_epoch<W: World>(
+    journal: &mut Journal,
+    world: &mut W,
+    ready: &Ready,
+) -> Result<(), CommitFault>
+    requires { length ready.now.frame ≤ 2 ^ 30 }
+    ensures history { IfKnown (Committed journal.old.end ready.now.frame ready.now.out result)
+        (W.history world.old) (W.history world.new) }
+    ensures numbers { HasCommitted journal.old.end (length ready.now.frame) journal.old.room journal.new.end result }
+    ensures room { journal.new.room ≡ journal.old.room }
+    ensures disk_cause { IsErrOf result CommitFault.DiskFault →
+        Rose (W.disk_faults world.old) (W.disk_faults world.new) }
+    ensures sink_cause { IsErrOf result CommitFault.OutputFault →
+        Rose (W.sink_faults world.old) (W.sink_faults world.new) }
+    ensures disk_count { W.disk_faults world.old ≤ W.disk_faults world.new }
+    ensures sink_count { W.sink_faults world.old ≤ W.sink_faults world.new }
+{
+    match journal.append(world, &ready.frame) {
+        Ok(()) => {}
+        Err(AppendFault::DiskFault) => return Err(CommitFault::DiskFault),
+        Err(AppendFault::Full { end, need }) => return Err(CommitFault::Full { end, need }),
+    }
+    match send_all(world, ready.out.as_slice()) {
+        Ok(()) => Ok(()),
+        Err(_) => Err(CommitFault::OutputFault),
+    }
+}
