@@ -1,4 +1,4 @@
--- The instructions (RISC-V Unprivileged ISA 20191213, chapter 24's listings): which word spells which, and what
+-- The instructions (RISC-V Unprivileged ISA 20191213, chapter 24's listings): which word encodes which, and what
 -- each does. A row for each instruction. ADDI: 2.4; ECALL: 2.8; fields and immediates: 2.2 and 2.3.
 use Rattle.std.specs.Prelude.{◌+◌, ◌-◌, ◌/◌, ◌%◌, ◌^◌, ℕ, Bool, Option, Some, None, ◌==◌, ◌&&◌, nat_lt, if◌then◌else◌}
 use Rattle.guest_kernel.specs.declared.step.Instr.{Instr}
@@ -24,7 +24,7 @@ funct3 word = bits 14 12 word
 abbrev pub rs1 : ℕ → ℕ
 rs1 word = bits 19 15 word
 
--- a number of 12 bits as one of 32, with the sign in front
+-- a number of 12 bits, with the sign extended to 32
 abbrev pub sign_extended : ℕ → ℕ
 sign_extended n = if nat_lt n (2 ^ 11) then n else n + (2 ^ 32 - 2 ^ 12)
 

@@ -23,7 +23,7 @@ pub record ArePages (memory : Memory) : Type 0 where
   pub rising : IsStrictlyIncreasing (map (λ p. p.number) memory)
   pub few : length memory ≤ MAX_PAGES
 
--- a page with these bytes at its front, and zeros behind them
+-- a page with these bytes first, and zeros behind them
 abbrev pub page_with : ℕ → ℕ → List ℕ → Page
 page_with number flags contents =
     record { number = number; flags = flags; bytes = contents ++ replicate (PAGE_BYTES - length contents) 0 }

@@ -2,7 +2,7 @@
 ghost use Rattle.std.specs.Prelude.{◌≡◌, ◌<◌, ◌≤◌, ◌-◌, ◌^◌, List, IfOk, OnOk, OnErr, length};
 ghost use Rattle.dp_base.specs.declared.answer.Answer.{Answer};
 ghost use Rattle.guest_kernel.specs.Call.{called, silent};
-ghost use Rattle.guest_kernel.specs.Turn.{turn, log_of, told_of, state_after, output_after};
+ghost use Rattle.guest_kernel.specs.Turn.{turn, log_of, turn_answer, state_after, output_after};
 
 use crate::hart::Hart;
 use crate::state::{End, State};
@@ -40,8 +40,8 @@ impl State {
         out: &mut Vec<u8>,
     ) -> Result<Turn, OutOfMemory>
         requires { self.old.steps < 2 ^ 64 - 1 }
-        ensures answer { IfOk result (λ told. told
-            ≡ told_of (log_of answer.entry) (turn self.old tid (log_of answer.entry))) }
+        ensures answer { IfOk result (λ turned. turned
+            ≡ turn_answer (log_of answer.entry) (turn self.old tid (log_of answer.entry))) }
         ensures state { OnOk result (self.new
             ≡ state_after self.old (turn self.old tid (log_of answer.entry))) }
         ensures output { OnOk result (out.new.items

@@ -65,7 +65,7 @@ impl Pages {
         self.table.len() as u32
     }
 
-    /// Maps a page behind all that are mapped, with these bytes at its front and zeros behind them. An `Err`
+    /// Maps a page behind all that are mapped, with these bytes first and zeros behind them. An `Err`
     /// changes nothing.
     pub fn map_above(&mut self, number: u32, flags: u8, contents: &[u8]) -> Result<(), OutOfMemory>
         requires above { All (λ p. p.number < number) self.old }

@@ -36,7 +36,7 @@ fn immediate(word: u32) -> u32
     }
 }
 
-/// The instruction that a word spells; none exactly where it is illegal.
+/// The instruction that a word encodes; none exactly where it is illegal.
 pub fn decode(word: u32) -> Option<Instr>
     ensures instruction { result ≡ decoded word }
     ensures operands { IfSome result AreOperands }

@@ -8,7 +8,7 @@ use std::test::Fail;
 
 // A file's headers up to p_filesz, and those behind p_memsz: ELF32, little-endian, RISC-V, one segment that is
 // the whole file at 00010000, entry 00010054.
-const FRONT: [u8; 68] = [
+const HEADERS_START: [u8; 68] = [
     0x7f, 0x45, 0x4c, 0x46, 0x01, 0x01, 0x01, 0x00, 0x00, 0x00, 0x00, 0x00, 0x00, 0x00, 0x00, 0x00,
     0x02, 0x00, 0xf3, 0x00, 0x01, 0x00, 0x00, 0x00, 0x54, 0x00, 0x01, 0x00, 0x34, 0x00, 0x00, 0x00,
     0x00, 0x00, 0x00, 0x00, 0x00, 0x00, 0x00, 0x00, 0x34, 0x00, 0x20, 0x00, 0x01, 0x00, 0x00, 0x00,
@@ -16,7 +16,7 @@ const FRONT: [u8; 68] = [
     0x00, 0x00, 0x01, 0x00,
 ];
 
-const BACK: [u8; 8] = [0x05, 0x00, 0x00, 0x00, 0x00, 0x10, 0x00, 0x00];
+const HEADERS_END: [u8; 8] = [0x05, 0x00, 0x00, 0x00, 0x00, 0x10, 0x00, 0x00];
 
 // addi x10, x0, 7; addi x17, x0, 1; ecall: exit_all(7)
 const EXIT_SEVEN: [u32; 3] = [0x0070_0513, 0x0010_0893, 0x0000_0073];
@@ -25,10 +25,10 @@ const ADDI_TO_X0: u32 = 0x0000_0013;
 
 // A file of these sizes in its headers and these words of code.
 fn guest_of(alloc: Global, filesz: u32, memsz: u32, words: &[u32]) -> Result<Vec<u8>, AllocError> {
-    let mut file = FRONT.to_vec(alloc)?;
+    let mut file = HEADERS_START.to_vec(alloc)?;
     file.extend_from_slice(&filesz.to_le_bytes())?;
     file.extend_from_slice(&memsz.to_le_bytes())?;
-    file.extend_from_slice(&BACK)?;
+    file.extend_from_slice(&HEADERS_END)?;
     for word in words {
         file.extend_from_slice(&word.to_le_bytes())?;
     }
@@ -131,13 +131,13 @@ fn other_headers(rt: HostRuntime) -> Result<(), Fail> {
     Ok(())
 }
 
-// Whether it is a page with these bytes at its front and zeros behind them.
-fn is_page(page: Option<&[u8]>, front: &[u8]) -> bool {
+// Whether it is a page with these bytes first and zeros behind them.
+fn is_page(page: Option<&[u8]>, prefix: &[u8]) -> bool {
     let Some(page) = page else {
         return false;
     };
-    let zeros = page.iter().skip(front.len()).all(|byte| *byte == 0);
-    page.len() == 4096 && page.starts_with(front) && zeros
+    let zeros = page.iter().skip(prefix.len()).all(|byte| *byte == 0);
+    page.len() == 4096 && page.starts_with(prefix) && zeros
 }
 
 #[test]
@@ -178,8 +178,8 @@ fn a_segment_that_fills_its_page(rt: HostRuntime) -> Result<(), Fail> {
     )?;
     assert_eq!(rt; state.pages.flags(0x20), Some(7));
     let mut out = Vec::new(alloc);
-    let told = state.turn(alloc, Tid(1), None, &mut out)?;
-    assert_eq!(rt; (told, state.steps), (Turn::Stepped { used: false }, 1));
+    let answer = state.turn(alloc, Tid(1), None, &mut out)?;
+    assert_eq!(rt; (answer, state.steps), (Turn::Stepped { used: false }, 1));
     assert_eq!(rt; state.end, trap(0, 0x20001));
     Ok(())
 }
@@ -292,7 +292,7 @@ fn turns(rt: HostRuntime) -> Result<(), Fail> {
     let mut state = started(alloc, &EXIT_SEVEN)?;
     let mut out = Vec::new(alloc);
     let went = Turn::Stepped { used: false };
-    for (tid, told) in [
+    for (tid, answer) in [
         (0, Turn::NotRunnable),
         (2, Turn::NotRunnable),
         (1, went),
@@ -303,7 +303,7 @@ fn turns(rt: HostRuntime) -> Result<(), Fail> {
         assert!(rt; state.steps < 9);
         assert_eq!(rt;
             state.turn(alloc, Tid(tid), Some(&Answer::Clock(5)), &mut out)?,
-            told
+            answer
         );
     }
     assert_eq!(rt; (state.end, state.steps, out.len()), (End::Exit(7), 3, 0));
