@@ -8,9 +8,9 @@ use Rattle.dp_base.specs.Journal.{Epoch}
 use Rattle.guest_kernel.specs.declared.state.State.{State}
 use Rattle.guest_kernel.specs.Call.{After, Refusal}
 use Rattle.guest_kernel.specs.Turn.{turn}
-use Rattle.guest_kernel.specs.Slices.{Stop, at, either, turns, slices, slice_ended, joined, run, used_up, chain, onto, chained}
+use Rattle.guest_kernel.specs.Slices.{Stop, at, either, turns, slices, slice_ended, one_slice, joined, run, used_up, chain, onto, chained}
 use Rattle.guest_kernel.proofs.Turns.{relogged, turn-log}
-use Rattle.guest_kernel.proofs.SliceRuns.{either-either, either-alike, slices-append}
+use Rattle.guest_kernel.proofs.SliceRuns.{either-either, either-alike, slices-append, run-one_slice}
 
 -- what went well first, where all did
 pub either_ok : {X E Y F : Type 0} (r : Result X E) (f : E → Result Y F) (g : X → Result Y F) (y : Y) → ((e : E) → (z : F) × (f e ≡ Err z)) → either r f g ≡ Ok y → (x : X) × (r ≡ Ok x) × (g x ≡ Ok y)
@@ -88,6 +88,12 @@ run-append s xs ys first second mid end first_ran second_ran =
       empty = b.empty;
     })
 
+-- one slice more behind a run
+pub run-one_more : (s : State) (xs : List Slice) (tid : Tid) (steps : ℕ) (mid there : After) → run xs (at s [] []) ≡ Ok mid → turns 0 steps tid (at mid.state [] []) ≡ Ok there → there.rest ≡ []
+    → run (xs ++ one_slice tid steps) (at s [] []) ≡ Ok (joined mid (slice_ended tid there))
+run-one_more s xs tid steps mid there ran turned empty =
+    run-append s xs (one_slice tid steps) [] [] mid (slice_ended tid there) ran (run-one_slice tid steps (at mid.state [] []) there turned empty)
+
 -- ---- chains
 
 again : (r : Result (State × List ℕ) ℕ) (count : ℕ) (a b : List ℕ) → chained 1 a (chained count b r) ≡ chained (1 + count) (a ++ b) r
@@ -124,3 +130,13 @@ chain-append s (e ∷ es) bs =
     (λ here. either (either (chain here.state es) (λ n. Err (n + 1)) (onto here.output)) Err (λ mid. chained (suc (length es)) mid.1 (chain mid.0 bs)))
     (λ here. behind_one here.output bs (length es) (chain here.state es) (chain here.state (es ++ bs)) (chain-append here.state es bs))
     ∙ sym (either-either (run e.slices (at s [] e.answers)) (λ stop. Err 0) (λ here. either (chain here.state es) (λ n. Err (n + 1)) (onto here.output)) Err (λ mid. chained (suc (length es)) mid.1 (chain mid.0 bs)))
+
+-- one epoch more behind a chain
+pub chain-one_more : (s : State) (epochs : List Epoch) (e : Epoch) (mid : State) (output : List ℕ) (there : After) → chain s epochs ≡ Ok (mid, output) → run e.slices (at mid [] e.answers) ≡ Ok there
+    → chain s (epochs ++ e ∷ []) ≡ Ok (there.state, output ++ there.output)
+unfolding chain
+chain-one_more s epochs e mid output there chained_ ran =
+    chain-append s epochs (e ∷ [])
+    ∙ ap (λ (r : Result (State × List ℕ) ℕ). either r Err (λ m. chained (length epochs) m.1 (chain m.0 (e ∷ [])))) chained_
+    ∙ ap (λ (r : Result After (Stop × After)). chained (length epochs) output (either r (λ stop. Err 0) (λ here. either (chain here.state []) (λ n. Err (n + 1)) (onto here.output)))) ran
+    ∙ ap (λ (o : List ℕ). Ok (there.state, output ++ o)) (append-nil there.output)

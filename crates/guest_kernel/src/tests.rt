@@ -227,7 +227,7 @@ fn guests_end(rt: HostRuntime) -> Result<(), Fail> {
 #[test]
 fn registers(rt: HostRuntime) -> Result<(), Fail> {
     let alloc = rt.alloc();
-    let cases: [(&[u32], u8, u32); 8] = [
+    let cases: [(&[u32], u8, u32); 11] = [
         // addi x5, x6, immediate behind addi x6, x0, 1
         (&[0x0010_0313, 0x7ff3_0293], 5, 0x0000_0800),
         (&[0x0010_0313, 0x8003_0293], 5, 0xffff_f801),
@@ -235,6 +235,11 @@ fn registers(rt: HostRuntime) -> Result<(), Fail> {
         // addi x0, x0, 5 behind addi x1, x0, 3
         (&[0x0030_0093, 0x0050_0013], 0, 0),
         (&[0x0030_0093, 0x0050_0013], 1, 3),
+        // lui x10, 0x10; lui x1, 0x80000 behind addi x0, x0, 0
+        (&[0x0001_0537, ADDI_TO_X0], 10, 0x0001_0000),
+        (&[ADDI_TO_X0, 0x8000_00b7], 1, 0x8000_0000),
+        // lui x0, 0x10 behind addi x1, x0, 3
+        (&[0x0030_0093, 0x0001_0037], 1, 3),
         // addi x17, x0, 5; ecall: no such call, and its number stays
         (&[0x0050_0893, 0x0000_0073], 10, 0xffff_ffda),
         (&[0x0050_0893, 0x0000_0073], 17, 5),
@@ -323,5 +328,33 @@ fn reservations(rt: HostRuntime) -> Result<(), Fail> {
         state.run_slices(alloc, &[slice(1, steps)], &[], &mut out)?;
         assert_eq!(rt; hart_of(&state).map(|hart| hart.held), Some(held));
     }
+    Ok(())
+}
+
+// addi x10, x0, 1; lui x11, 0x10; addi x11, x11, 120; addi x12, x0, 3; addi x17, x0, 2; ecall: write(1, 10078, 3).
+// Then exit_all(0), and the bytes `hi`, line feed, 0 at 10078 (hexadecimal).
+#[test]
+fn writes_hi(rt: HostRuntime) -> Result<(), Fail> {
+    let alloc = rt.alloc();
+    let words = [
+        0x0010_0513,
+        0x0001_05b7,
+        0x0785_8593,
+        0x0030_0613,
+        0x0020_0893,
+        0x0000_0073,
+        0x0000_0513,
+        0x0010_0893,
+        0x0000_0073,
+        0x000a_6968,
+    ];
+    let mut state = started(alloc, &words)?;
+    let mut out = Vec::new(alloc);
+    let run = state.run_slices(alloc, &[slice(1, 9)], &[], &mut out)?;
+    assert_eq!(rt;
+        (run, state.end, state.steps),
+        (SliceRun::Whole, End::Exit(0), 9)
+    );
+    assert_eq!(rt; out.as_slice(), b"hi\n".as_slice());
     Ok(())
 }
