@@ -8,18 +8,18 @@ use Rattle.dp_base.specs.Journal.{Epoch}
 use Rattle.guest_kernel.specs.declared.state.State.{State}
 use Rattle.guest_kernel.specs.Call.{After, Refusal}
 use Rattle.guest_kernel.specs.Turn.{turn}
-use Rattle.guest_kernel.specs.Slices.{Stop, at, either, turns, slices, slice_ended, joined, run, used_up, chain, onto, chained}
+use Rattle.guest_kernel.specs.Slices.{Stop, at, either, turns, slices, slice_ended, one_slice, joined, run, used_up, chain, onto, chained}
 use Rattle.guest_kernel.proofs.Turns.{relogged, turn-log}
-use Rattle.guest_kernel.proofs.SliceRuns.{either-either, either-alike, slices-append}
+use Rattle.guest_kernel.proofs.SliceRuns.{either-either, either-alike, slices-append, run-one_slice}
 
 -- what went well first, where all did
 pub either_ok : {X E Y F : Type 0} (r : Result X E) (f : E → Result Y F) (g : X → Result Y F) (y : Y) → ((e : E) → (z : F) × (f e ≡ Err z)) → either r f g ≡ Ok y → (x : X) × (r ≡ Ok x) × (g x ≡ Ok y)
 either_ok (Ok x) f g y fails e = (x, refl, e)
 either_ok (Err d) f g y fails e = let q = fails d in let never = q.1 in absurd cc
 
--- with some output in front, and some answers behind the log
+-- with some output before it, and some answers behind the log
 abbrev pub shifted : List ℕ → List Answer → After → After
-shifted front more here = record { state = here.state; output = front ++ here.output; rest = here.rest ++ more }
+shifted prefix more here = record { state = here.state; output = prefix ++ here.output; rest = here.rest ++ more }
 
 turn_shifted : (s : State) (tid : Tid) (log more : List Answer) (after : After) → turn s tid log ≡ Ok after → turn s tid (log ++ more) ≡ Ok (record after { rest = after.rest ++ more })
 turn_shifted s tid log more after is =
@@ -27,26 +27,26 @@ turn_shifted s tid log more after is =
     let rest : after.rest ≡ log = cc in
     turn-log s tid (log ++ more) log ∙ ap (relogged (log ++ more)) is ∙ ap (λ (l : List Answer). Ok (record after { rest = l ++ more })) (sym rest)
 
-pub turns_shifted : (front : List ℕ) (more : List Answer) (taken left : ℕ) (tid : Tid) (here there : After) → turns taken left tid here ≡ Ok there → turns taken left tid (shifted front more here) ≡ Ok (shifted front more there)
+pub turns_shifted : (prefix : List ℕ) (more : List Answer) (taken left : ℕ) (tid : Tid) (here there : After) → turns taken left tid here ≡ Ok there → turns taken left tid (shifted prefix more here) ≡ Ok (shifted prefix more there)
 unfolding turns
-turns_shifted front more taken zero tid here there is = ap (λ (r : Result After (ℕ × After)). either r Err (λ x. Ok (shifted front more x))) is
-turns_shifted front more taken (suc left) tid here there is =
+turns_shifted prefix more taken zero tid here there is = ap (λ (r : Result After (ℕ × After)). either r Err (λ x. Ok (shifted prefix more x))) is
+turns_shifted prefix more taken (suc left) tid here there is =
     let step = either_ok (turn here.state tid here.rest) (λ refusal. Err (taken, here)) (λ after. turns (taken + 1) left tid (joined here after)) there (λ refusal. ((taken, here), refl)) is in
     let after = step.0 in
     let turned = turn_shifted here.state tid here.rest more after step.1 in
-    let regrouped : joined (shifted front more here) (record after { rest = after.rest ++ more }) ≡ shifted front more (joined here after) =
-    ap (λ (o : List ℕ). at after.state o (after.rest ++ more)) (append_assoc front here.output after.output) in
-    ap (λ (r : Result After Refusal). either r (λ refusal. Err (taken, shifted front more here)) (λ b. turns (taken + 1) left tid (joined (shifted front more here) b))) turned
-    ∙ ap (turns (taken + 1) left tid) regrouped ∙ turns_shifted front more (taken + 1) left tid (joined here after) there step.2
+    let regrouped : joined (shifted prefix more here) (record after { rest = after.rest ++ more }) ≡ shifted prefix more (joined here after) =
+    ap (λ (o : List ℕ). at after.state o (after.rest ++ more)) (append_assoc prefix here.output after.output) in
+    ap (λ (r : Result After Refusal). either r (λ refusal. Err (taken, shifted prefix more here)) (λ b. turns (taken + 1) left tid (joined (shifted prefix more here) b))) turned
+    ∙ ap (turns (taken + 1) left tid) regrouped ∙ turns_shifted prefix more (taken + 1) left tid (joined here after) there step.2
 
-pub slices_shifted : (front : List ℕ) (more : List Answer) (done other : ℕ) (xs : List Slice) (here there : After) → slices done xs here ≡ Ok there → slices other xs (shifted front more here) ≡ Ok (shifted front more there)
+pub slices_shifted : (prefix : List ℕ) (more : List Answer) (done other : ℕ) (xs : List Slice) (here there : After) → slices done xs here ≡ Ok there → slices other xs (shifted prefix more here) ≡ Ok (shifted prefix more there)
 unfolding slices
-slices_shifted front more done other [] here there is = ap (λ (r : Result After (Stop × After)). either r Err (λ x. Ok (shifted front more x))) is
-slices_shifted front more done other (x ∷ xs) here there is =
+slices_shifted prefix more done other [] here there is = ap (λ (r : Result After (Stop × After)). either r Err (λ x. Ok (shifted prefix more x))) is
+slices_shifted prefix more done other (x ∷ xs) here there is =
     let step = either_ok (turns 0 x.steps x.tid here) (λ stop. Err (record { slice = done; step = stop.0 }, stop.1)) (λ after. slices (done + 1) xs (slice_ended x.tid after)) there (λ stop. ((record { slice = done; step = stop.0 }, stop.1), refl)) is in
-    let turned = turns_shifted front more 0 x.steps x.tid here step.0 step.1 in
+    let turned = turns_shifted prefix more 0 x.steps x.tid here step.0 step.1 in
     ap (λ (r : Result After (ℕ × After)). either r (λ stop. Err (record { slice = other; step = stop.0 }, stop.1)) (λ after. slices (other + 1) xs (slice_ended x.tid after))) turned
-    ∙ slices_shifted front more (done + 1) (other + 1) xs (slice_ended x.tid step.0) there step.2
+    ∙ slices_shifted prefix more (done + 1) (other + 1) xs (slice_ended x.tid step.0) there step.2
 
 -- a run that is whole has used its log up
 pub record IsWhole (xs : List Slice) (here there : After) : Type 0 where
@@ -72,9 +72,9 @@ run_whole xs here there is =
 
 -- running slices one after another is running their concatenation
 pub run-append : (s : State) (xs ys : List Slice) (first second : List Answer) (mid end : After) → run xs (at s [] first) ≡ Ok mid → run ys (at mid.state [] second) ≡ Ok end → run (xs ++ ys) (at s [] (first ++ second)) ≡ Ok (joined mid end)
-run-append s xs ys first second mid end front back =
-    let a = whole_run xs (at s [] first) mid front in
-    let b = whole_run ys (at mid.state [] second) end back in
+run-append s xs ys first second mid end first_ran second_ran =
+    let a = whole_run xs (at s [] first) mid first_ran in
+    let b = whole_run ys (at mid.state [] second) end second_ran in
     let to_mid : slices 0 xs (at s [] (first ++ second)) ≡ Ok (at mid.state mid.output second) =
     slices_shifted [] second 0 0 xs (at s [] first) mid a.ran ∙ ap (λ (l : List Answer). Ok (at mid.state mid.output (l ++ second))) a.empty in
     let from_mid = slices_shifted mid.output [] 0 (0 + length xs) ys (at mid.state [] second) end b.ran in
@@ -87,6 +87,12 @@ run-append s xs ys first second mid end front back =
           ∙ ap (slices (0 + length xs) ys) start_is ∙ from_mid ∙ ap (λ (x : After). Ok x) end_is;
       empty = b.empty;
     })
+
+-- one slice more behind a run
+pub run-one_more : (s : State) (xs : List Slice) (tid : Tid) (steps : ℕ) (mid there : After) → run xs (at s [] []) ≡ Ok mid → turns 0 steps tid (at mid.state [] []) ≡ Ok there → there.rest ≡ []
+    → run (xs ++ one_slice tid steps) (at s [] []) ≡ Ok (joined mid (slice_ended tid there))
+run-one_more s xs tid steps mid there ran turned empty =
+    run-append s xs (one_slice tid steps) [] [] mid (slice_ended tid there) ran (run-one_slice tid steps (at mid.state [] []) there turned empty)
 
 -- ---- chains
 
@@ -124,3 +130,13 @@ chain-append s (e ∷ es) bs =
     (λ here. either (either (chain here.state es) (λ n. Err (n + 1)) (onto here.output)) Err (λ mid. chained (suc (length es)) mid.1 (chain mid.0 bs)))
     (λ here. behind_one here.output bs (length es) (chain here.state es) (chain here.state (es ++ bs)) (chain-append here.state es bs))
     ∙ sym (either-either (run e.slices (at s [] e.answers)) (λ stop. Err 0) (λ here. either (chain here.state es) (λ n. Err (n + 1)) (onto here.output)) Err (λ mid. chained (suc (length es)) mid.1 (chain mid.0 bs)))
+
+-- one epoch more behind a chain
+pub chain-one_more : (s : State) (epochs : List Epoch) (e : Epoch) (mid : State) (output : List ℕ) (there : After) → chain s epochs ≡ Ok (mid, output) → run e.slices (at mid [] e.answers) ≡ Ok there
+    → chain s (epochs ++ e ∷ []) ≡ Ok (there.state, output ++ there.output)
+unfolding chain
+chain-one_more s epochs e mid output there chained_ ran =
+    chain-append s epochs (e ∷ [])
+    ∙ ap (λ (r : Result (State × List ℕ) ℕ). either r Err (λ m. chained (length epochs) m.1 (chain m.0 (e ∷ [])))) chained_
+    ∙ ap (λ (r : Result After (Stop × After)). chained (length epochs) output (either r (λ stop. Err 0) (λ here. either (chain here.state []) (λ n. Err (n + 1)) (onto here.output)))) ran
+    ∙ ap (λ (o : List ℕ). Ok (there.state, output ++ o)) (append-nil there.output)

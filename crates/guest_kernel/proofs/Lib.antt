@@ -1,6 +1,7 @@
 mod PageTable
+mod Readable
 mod Turns
 mod SliceRuns
 mod TurnTaken
-mod Ending
+mod Lone
 mod Joining

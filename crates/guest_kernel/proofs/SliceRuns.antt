@@ -4,7 +4,7 @@ use Rattle.std.proofs.lemmas.List.{take-append-drop, drop_more, length-take-le, 
 use Rattle.dp_base.specs.declared.answer.Answer.{Answer}
 use Rattle.dp_base.specs.declared.slice.Slice.{Slice}
 use Rattle.dp_base.specs.declared.tid.Tid.{Tid}
-use Rattle.guest_kernel.specs.Call.{After}
+use Rattle.guest_kernel.specs.Call.{After, Refusal}
 use Rattle.guest_kernel.specs.Turn.{turn}
 use Rattle.guest_kernel.specs.Slices.{Stop, either, turns, slices, slice_ended, joined, run, used_up, one_slice}
 use Rattle.guest_kernel.specs.declared.state.State.{State}
@@ -36,6 +36,13 @@ turns-add taken (suc n) m tid here =
     (λ after. either (turns (taken + 1) n tid (joined here after)) Err (λ there. turns ((taken + 1) + n) m tid there))
     (λ after. turns-add (taken + 1) n m tid (joined here after))
     ∙ sym (either-either (turn here.state tid here.rest) (λ refusal. Err (taken, here)) (λ after. turns (taken + 1) n tid (joined here after)) Err (λ there. turns ((taken + 1) + n) m tid there)))
+
+-- one turn behind some
+pub turns-one_more : (n : ℕ) (tid : Tid) (start here after : After) → turns 0 n tid start ≡ Ok here → turn here.state tid here.rest ≡ Ok after → turns 0 (n + 1) tid start ≡ Ok (joined here after)
+unfolding turns
+turns-one_more n tid start here after before turned =
+    turns-add 0 n 1 tid start ∙ ap (λ (r : Result After (ℕ × After)). either r Err (λ x. turns (0 + n) 1 tid x)) before
+    ∙ ap (λ (r : Result After Refusal). either r (λ refusal. Err (0 + n, here)) (λ x. turns (0 + n + 1) 0 tid (joined here x))) turned
 
 pub slices-append : (done : ℕ) (xs ys : List Slice) (here : After) → slices done (xs ++ ys) here ≡ either (slices done xs here) Err (λ there. slices (done + length xs) ys there)
 unfolding slices

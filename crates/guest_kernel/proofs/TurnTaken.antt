@@ -8,7 +8,7 @@ use Rattle.guest_kernel.specs.declared.kernel.Turn.{Turn}
 use Rattle.guest_kernel.specs.declared.kernel.Turn.TheVariants as answers
 use Rattle.guest_kernel.specs.declared.state.State.{State}
 use Rattle.guest_kernel.specs.Call.{After, Refusal, not_runnable, needs_answer, wrong_answer}
-use Rattle.guest_kernel.specs.Turn.{turn, told_of, state_after, output_after}
+use Rattle.guest_kernel.specs.Turn.{turn, turn_answer, state_after, output_after}
 use Rattle.guest_kernel.specs.Slices.{at, either, turns, joined}
 use Rattle.guest_kernel.proofs.SliceRuns.{turns-add}
 use Rattle.guest_kernel.proofs.Turns.{relogged, turn-log, CountsOnce, turn_counts_once}
@@ -26,48 +26,48 @@ pub record IsRefused (s : State) (tid : Tid) (log : List Answer) (out : List ℕ
   pub stops : (taken left : ℕ) → turns taken (suc left) tid (at s out log) ≡ Err (taken, at s out log)
 
 abbrev pub IsNotStepped : Turn → Type 0
-IsNotStepped told = (used : Bool) → told ≡ answers.Stepped used → ⊥
+IsNotStepped answer = (used : Bool) → answer ≡ answers.Stepped used → ⊥
 
 -- the answer where a turn wasn't taken is none of `Stepped`
-refusal_told : (front : List Answer) (x : Refusal) (used : Bool) → answers.Stepped used ≡ told_of front (Err x) → ⊥
-refusal_told front not_runnable used e = cc
-refusal_told front needs_answer used e = cc
-refusal_told front wrong_answer used e = cc
+refusal_answer : (prefix : List Answer) (x : Refusal) (used : Bool) → answers.Stepped used ≡ turn_answer prefix (Err x) → ⊥
+refusal_answer prefix not_runnable used e = cc
+refusal_answer prefix needs_answer used e = cc
+refusal_answer prefix wrong_answer used e = cc
 
-by_result_taken : (s : State) (tid : Tid) (front log : List Answer) (out : List ℕ) (used : Bool) (s' : State) (out' : List ℕ) (r : Result After Refusal)
-    → turn s tid log ≡ relogged log r → r ≡ relogged front r → CountsOnce s r
-    → answers.Stepped used ≡ told_of front r → s' ≡ state_after s r → out' ≡ output_after out r → IsTaken s tid log out used s' out'
+by_result_taken : (s : State) (tid : Tid) (prefix log : List Answer) (out : List ℕ) (used : Bool) (s' : State) (out' : List ℕ) (r : Result After Refusal)
+    → turn s tid log ≡ relogged log r → r ≡ relogged prefix r → CountsOnce s r
+    → answers.Stepped used ≡ turn_answer prefix r → s' ≡ state_after s r → out' ≡ output_after out r → IsTaken s tid log out used s' out'
 unfolding turns
-by_result_taken s tid front log out used s' out' (Err x) by_log by_front counts told state output = absurd (refusal_told front x used told)
-by_result_taken s tid front log out used s' out' (Ok after) by_log by_front counts told state output =
-    let rest : after.rest ≡ front = cc in
-    let tested : used ≡ nat_lt (length after.rest) (length front) = cc in
+by_result_taken s tid prefix log out used s' out' (Err x) by_log by_prefix counts answer state output = absurd (refusal_answer prefix x used answer)
+by_result_taken s tid prefix log out used s' out' (Ok after) by_log by_prefix counts answer state output =
+    let rest : after.rest ≡ prefix = cc in
+    let tested : used ≡ nat_lt (length after.rest) (length prefix) = cc in
     record {
-      unused = tested ∙ ap (λ (l : List Answer). nat_lt (length l) (length front)) rest ∙ le-ltb (length front) (length front) (omega arith);
+      unused = tested ∙ ap (λ (l : List Answer). nat_lt (length l) (length prefix)) rest ∙ le-ltb (length prefix) (length prefix) (omega arith);
       one = λ taken. ap (λ (q : Result After Refusal). either q (λ refusal. Err (taken, at s out log)) (λ (b : After). turns (taken + 1) 0 tid (joined (at s out log) b))) by_log
           ∙ ap (λ (p : State × List ℕ). Ok (at p.0 p.1 log)) (let e : (after.state, out ++ after.output) ≡ (s', out') = cc in e);
       counts = ap (λ (t : State). t.steps) state ∙ counts;
     }
 
-pub turn_taken : (s : State) (tid : Tid) (front log : List Answer) (out : List ℕ) (used : Bool) (s' : State) (out' : List ℕ)
-    → answers.Stepped used ≡ told_of front (turn s tid front) → s' ≡ state_after s (turn s tid front) → out' ≡ output_after out (turn s tid front) → IsTaken s tid log out used s' out'
-turn_taken s tid front log out used s' out' told state output =
-    by_result_taken s tid front log out used s' out' (turn s tid front) (turn-log s tid log front) (turn-log s tid front front) (turn_counts_once s tid front) told state output
+pub turn_taken : (s : State) (tid : Tid) (prefix log : List Answer) (out : List ℕ) (used : Bool) (s' : State) (out' : List ℕ)
+    → answers.Stepped used ≡ turn_answer prefix (turn s tid prefix) → s' ≡ state_after s (turn s tid prefix) → out' ≡ output_after out (turn s tid prefix) → IsTaken s tid log out used s' out'
+turn_taken s tid prefix log out used s' out' answer state output =
+    by_result_taken s tid prefix log out used s' out' (turn s tid prefix) (turn-log s tid log prefix) (turn-log s tid prefix prefix) (turn_counts_once s tid prefix) answer state output
 
-by_result_refused : (s : State) (tid : Tid) (front log : List Answer) (out : List ℕ) (told : Turn) (s' : State) (out' : List ℕ) (r : Result After Refusal)
-    → turn s tid log ≡ relogged log r → told ≡ told_of front r → IsNotStepped told → s' ≡ state_after s r → out' ≡ output_after out r → IsRefused s tid log out s' out'
+by_result_refused : (s : State) (tid : Tid) (prefix log : List Answer) (out : List ℕ) (answer : Turn) (s' : State) (out' : List ℕ) (r : Result After Refusal)
+    → turn s tid log ≡ relogged log r → answer ≡ turn_answer prefix r → IsNotStepped answer → s' ≡ state_after s r → out' ≡ output_after out r → IsRefused s tid log out s' out'
 unfolding turns
-by_result_refused s tid front log out told s' out' (Ok after) by_log is not_stepped state output = absurd (not_stepped (nat_lt (length after.rest) (length front)) is)
-by_result_refused s tid front log out told s' out' (Err x) by_log is not_stepped state output = record {
+by_result_refused s tid prefix log out answer s' out' (Ok after) by_log is not_stepped state output = absurd (not_stepped (nat_lt (length after.rest) (length prefix)) is)
+by_result_refused s tid prefix log out answer s' out' (Err x) by_log is not_stepped state output = record {
   same = state;
   same_out = output;
   stops = λ taken left. ap (λ (q : Result After Refusal). either q (λ refusal. Err (taken, at s out log)) (λ (b : After). turns (taken + 1) left tid (joined (at s out log) b))) by_log;
 }
 
-pub turn_refused : (s : State) (tid : Tid) (front log : List Answer) (out : List ℕ) (told : Turn) (s' : State) (out' : List ℕ)
-    → told ≡ told_of front (turn s tid front) → IsNotStepped told → s' ≡ state_after s (turn s tid front) → out' ≡ output_after out (turn s tid front) → IsRefused s tid log out s' out'
-turn_refused s tid front log out told s' out' is not_stepped state output =
-    by_result_refused s tid front log out told s' out' (turn s tid front) (turn-log s tid log front) is not_stepped state output
+pub turn_refused : (s : State) (tid : Tid) (prefix log : List Answer) (out : List ℕ) (answer : Turn) (s' : State) (out' : List ℕ)
+    → answer ≡ turn_answer prefix (turn s tid prefix) → IsNotStepped answer → s' ≡ state_after s (turn s tid prefix) → out' ≡ output_after out (turn s tid prefix) → IsRefused s tid log out s' out'
+turn_refused s tid prefix log out answer s' out' is not_stepped state output =
+    by_result_refused s tid prefix log out answer s' out' (turn s tid prefix) (turn-log s tid log prefix) is not_stepped state output
 
 -- ---- behind the turns of a slice so far
 

@@ -1,5 +1,6 @@
 -- What a turn never does, by cases on what it is.
-use Rattle.std.proofs.Common.{◌≡◌, ◌+◌, ℕ, true, false, cond, List, Option, Some, None, Result, Ok, Err, refl}
+use Rattle.std.proofs.Common.{◌≡◌, ◌+◌, ℕ, Bool, true, false, cond, List, Option, Some, None, Result, Ok, Err, refl, ap}
+use Rattle.std.proofs.lemmas.Bool.{cond_both}
 use Rattle.dp_base.specs.declared.answer.Answer.{Answer}
 use Rattle.dp_base.specs.declared.tid.Tid.{Tid}
 use Rattle.guest_kernel.specs.declared.hart.Hart.{Hart}
@@ -7,7 +8,7 @@ use Rattle.guest_kernel.specs.declared.thread.Thread.{Thread}
 use Rattle.guest_kernel.specs.declared.thread.Thread.TheVariants.{Runs, Waits, Gone}
 use Rattle.guest_kernel.specs.declared.state.State.{State}
 use Rattle.std.specs.Prelude.{◌==◌}
-use Rattle.guest_kernel.specs.Call.{After, Refusal, not_runnable, silent, called, number_of, exits_all, unknown}
+use Rattle.guest_kernel.specs.Call.{After, Refusal, not_runnable, called, number_of}
 use Rattle.guest_kernel.specs.Instruction.{Effect, goes, calls, traps}
 use Rattle.guest_kernel.specs.State.{has_ended}
 use Rattle.guest_kernel.specs.Step.{effect}
@@ -21,10 +22,14 @@ relogged log (Err refusal) = Err refusal
 
 -- ---- no call takes an answer, so a turn leaves its log as it is and doesn't depend on it
 
+-- row by row of a table
+by_row-log : (log : List Answer) (test : Bool) (x y x' y' : Result After Refusal) → x ≡ relogged log x' → y ≡ relogged log y' → cond test x y ≡ relogged log (cond test x' y')
+by_row-log log true x y x' y' here below = here
+by_row-log log false x y x' y' here below = below
+
 called-log : (s : State) (tid : Tid) (hart : Hart) (clear : ℕ) (log other : List Answer) → called s tid hart clear log ≡ relogged log (called s tid hart clear other)
 called-log s tid hart clear log other =
-    elim (number_of hart == 1) as (λ b. cond b (silent (exits_all s tid hart clear) log) (silent (unknown s tid hart clear) log) ≡ relogged log (cond b (silent (exits_all s tid hart clear) other) (silent (unknown s tid hart clear) other)))
-    [ true ↦ refl | false ↦ refl ]
+    by_row-log log (number_of hart == 1) _ _ _ _ refl (by_row-log log (number_of hart == 2) _ _ _ _ refl refl)
 
 by_effect-log : (s : State) (tid : Tid) (hart : Hart) (clear : ℕ) (log other : List Answer) (e : Effect) → by_effect s tid hart clear log e ≡ relogged log (by_effect s tid hart clear other e)
 by_effect-log s tid hart clear log other (goes after) = refl
@@ -51,7 +56,7 @@ CountsOnce s (Err refusal) = Unit {0}
 
 called_counts : (s : State) (tid : Tid) (hart : Hart) (clear : ℕ) (log : List Answer) → CountsOnce s (called s tid hart clear log)
 called_counts s tid hart clear log =
-    elim (number_of hart == 1) as (λ b. CountsOnce s (cond b (silent (exits_all s tid hart clear) log) (silent (unknown s tid hart clear) log))) [ true ↦ refl | false ↦ refl ]
+    cond_both (number_of hart == 1) _ _ (CountsOnce s) (λ _. refl) (λ _. cond_both (number_of hart == 2) _ _ (CountsOnce s) (λ _. refl) (λ _. refl))
 
 by_effect_counts : (s : State) (tid : Tid) (hart : Hart) (clear : ℕ) (log : List Answer) (e : Effect) → CountsOnce s (by_effect s tid hart clear log e)
 by_effect_counts s tid hart clear log (goes after) = refl
@@ -69,3 +74,9 @@ unfolding turn
 turn_counts_once s tid log =
     elim (has_ended s.end) as (λ b. CountsOnce s (cond b (Err not_runnable) (by_thread s tid log (thread_at s.threads tid))))
     [ true ↦ tt | false ↦ by_thread_counts s tid log (thread_at s.threads tid) ]
+
+-- ---- a guest that has ended has no turn
+
+pub ended_has_no_turn : (s : State) (tid : Tid) (log : List Answer) → has_ended s.end ≡ true → turn s tid log ≡ Err not_runnable
+unfolding turn
+ended_has_no_turn s tid log ended = ap (λ b. cond b (Err not_runnable) (by_thread s tid log (thread_at s.threads tid))) ended

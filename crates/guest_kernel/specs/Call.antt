@@ -1,12 +1,15 @@
 -- The kernel's calls (environment calls: RISC-V Unprivileged ISA 20191213, 2.8; their numbers and meanings are this
--- machine's own). a7 (x17) has the call's number, a0 (x10) its argument and its answer. A row for each call.
-use Rattle.std.specs.Prelude.{◌-◌, ◌^◌, ℕ, List, [], Result, Ok, ◌==◌, if◌then◌else◌}
+-- machine's own). a7 (x17) has the call's number, a0 to a2 (x10 to x12) its arguments, and a0 its answer. A row for
+-- each call.
+use Rattle.std.specs.Prelude.{◌-◌, ◌^◌, ℕ, min, not, List, [], Option, Some, None, Result, Ok, ◌==◌, if◌then◌else◌}
 use Rattle.dp_base.specs.declared.answer.Answer.{Answer}
+use Rattle.dp_base.specs.declared.limits.TheConstants.{MAX_CALL_BYTES}
 use Rattle.dp_base.specs.declared.tid.Tid.{Tid}
 use Rattle.guest_kernel.specs.declared.hart.Hart.{Hart}
 use Rattle.guest_kernel.specs.declared.thread.Thread.TheVariants.{Runs}
 use Rattle.guest_kernel.specs.declared.state.State.{State}
 use Rattle.guest_kernel.specs.declared.state.End.TheVariants as ends
+use Rattle.guest_kernel.specs.Memory.{Memory, readable}
 use Rattle.guest_kernel.specs.Register.{register, with_register, next}
 use Rattle.guest_kernel.specs.State.{with_thread, counted}
 
@@ -22,9 +25,15 @@ pub data Refusal : Type 0 where
   needs_answer : Refusal
   wrong_answer : Refusal
 
+-- a turn that writes these bytes and takes no answer
+abbrev pub writing : State → List ℕ → List Answer → Result After Refusal
+writing s output log = Ok (record { state = counted s; output = output; rest = log })
+
 -- a turn that writes nothing and takes no answer
 abbrev pub silent : State → List Answer → Result After Refusal
-silent s log = Ok (record { state = counted s; output = []; rest = log })
+silent s log = writing s [] log
+
+-- ---- a call's number, arguments and answer
 
 abbrev pub number_of : Hart → ℕ
 number_of hart = register hart 17
@@ -32,22 +41,75 @@ number_of hart = register hart 17
 abbrev pub argument_of : Hart → ℕ
 argument_of hart = register hart 10
 
+abbrev pub second_argument_of : Hart → ℕ
+second_argument_of hart = register hart 11
+
+abbrev pub third_argument_of : Hart → ℕ
+third_argument_of hart = register hart 12
+
 abbrev pub minus : ℕ → ℕ
 minus n = 2 ^ 32 - n
+
+-- no such file descriptor
+abbrev pub EBADF : ℕ
+EBADF = 9
+
+-- memory that the guest may not use so
+abbrev pub EFAULT : ℕ
+EFAULT = 14
+
+-- no such call
+abbrev pub ENOSYS : ℕ
+ENOSYS = 38
 
 -- the thread goes on behind the call, with the answer in a0
 abbrev pub answered : State → Tid → Hart → ℕ → ℕ → State
 answered s tid hart clear value = with_thread s tid (Runs (next (with_register hart 10 value)) clear)
 
+-- ---- the rows
+
 -- 1, exit_all(code): the guest ends with the code; a0 stays
 abbrev pub exits_all : State → Tid → Hart → ℕ → State
 exits_all s tid hart clear = record (with_thread s tid (Runs (next hart) clear)) { end = ends.Exit (argument_of hart) }
 
--- every other number answers -38
+-- what a write answers, and the bytes that it writes
+pub record Written : Type 0 where
+  pub answer : ℕ
+  pub output : List ℕ
+
+abbrev pub nothing_written : ℕ → Written
+nothing_written answer = record { answer = answer; output = [] }
+
+-- so many bytes, where they may all be read
+abbrev pub bytes_written : ℕ → Option (List ℕ) → Written
+bytes_written count None = nothing_written (minus EFAULT)
+bytes_written count (Some bytes) = record { answer = count; output = bytes }
+
+-- how many bytes a call moves that asks for so many
+abbrev pub moved : ℕ → ℕ
+moved len = min len MAX_CALL_BYTES
+
+-- by its arguments, fd, addr and len
+abbrev pub written : Memory → (fd addr len : ℕ) → Written
+written memory fd addr len =
+    if not (fd == 1) then nothing_written (minus EBADF)
+    else if len == 0 then nothing_written 0
+    else bytes_written (moved len) (readable memory addr (moved len))
+
+abbrev pub written_by : Memory → Hart → Written
+written_by memory hart = written memory (argument_of hart) (second_argument_of hart) (third_argument_of hart)
+
+-- 2, write(fd, addr, len): the bytes from addr on are the turn's output
+abbrev pub writes : State → Tid → Hart → ℕ → List Answer → Result After Refusal
+writes s tid hart clear log =
+    writing (answered s tid hart clear (written_by s.pages hart).answer) (written_by s.pages hart).output log
+
+-- every other number
 abbrev pub unknown : State → Tid → Hart → ℕ → State
-unknown s tid hart clear = answered s tid hart clear (minus 38)
+unknown s tid hart clear = answered s tid hart clear (minus ENOSYS)
 
 abbrev pub called : State → Tid → Hart → ℕ → List Answer → Result After Refusal
 called s tid hart clear log =
     if number_of hart == 1 then silent (exits_all s tid hart clear) log
+    else if number_of hart == 2 then writes s tid hart clear log
     else silent (unknown s tid hart clear) log

@@ -1,5 +1,5 @@
 -- The guest's file (System V ABI, ELF32: "ELF Header", "Program Header"). One form is built: 84 to 4,000 bytes, an ELF
--- header and one program header in front, mapped whole at 00010000 (hexadecimal), readable and executable, and
+-- header and one program header first, mapped whole at 00010000 (hexadecimal), readable and executable, and
 -- started right behind the headers.
 use Rattle.std.specs.Prelude.{◌≡◌, ◌≤◌, ℕ, List, [], ◌∷◌, ◌++◌, length, take, replicate}
 use Rattle.byteorder.specs.Endian.{little_bytes}

@@ -12,3 +12,4 @@ pub mod Image
 pub mod Start
 pub mod Slices
 pub mod Stops
+pub mod Lone

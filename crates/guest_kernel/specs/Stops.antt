@@ -14,11 +14,11 @@ at_step None here = Ok here
 at_step (Some step) here = Err (step, here)
 
 -- the answer is that of the run, and the state and the output are where it came to
-abbrev pub told_run : SliceRun → State → List ℕ → Result After (Stop × After) → Type 0
-told_run Whole s output (Ok here) = (s ≡ here.state) × (output ≡ here.output)
-told_run Whole s output (Err stop) = ⊥
-told_run (Stops slice step) s output (Ok here) = ⊥
-told_run (Stops slice step) s output (Err stop) =
+abbrev pub IsRunAnswer : SliceRun → State → List ℕ → Result After (Stop × After) → Type 0
+IsRunAnswer Whole s output (Ok here) = (s ≡ here.state) × (output ≡ here.output)
+IsRunAnswer Whole s output (Err stop) = ⊥
+IsRunAnswer (Stops slice step) s output (Ok here) = ⊥
+IsRunAnswer (Stops slice step) s output (Err stop) =
     (slice ≡ stop.0.slice) × (step ≡ stop.0.step) × (s ≡ stop.1.state) × (output ≡ stop.1.output)
 
 -- some of these turns were taken, and left this

@@ -28,7 +28,7 @@ by_thread s tid log (Some (Runs hart clear)) = by_effect s tid hart clear log (e
 by_thread s tid log (Some (Waits addr hart clear)) = Err not_runnable
 by_thread s tid log (Some (Gone code)) = Err not_runnable
 
--- The turn of a thread, whose calls take their answers from the front of the log. It isn't defined where the guest
+-- The turn of a thread, whose calls take their answers from the start of the log. It isn't defined where the guest
 -- has ended, where the thread was never made or doesn't run, and where the answer is missing or a wrong one.
 unfoldable pub turn : State → Tid → List Answer → Result After Refusal
 turn s tid log = if has_ended s.end then Err not_runnable else by_thread s tid log (thread_at s.threads tid)
@@ -37,12 +37,12 @@ turn s tid log = if has_ended s.end then Err not_runnable else by_thread s tid l
 abbrev pub log_of : Option (Bor Answer) → List Answer
 log_of answer = option_to_list (option_copied answer)
 
--- what the code answers for it
-abbrev pub told_of : List Answer → Result After Refusal → Turn
-told_of log (Ok after) = answers.Stepped (nat_lt (length after.rest) (length log))
-told_of log (Err not_runnable) = answers.NotRunnable
-told_of log (Err needs_answer) = answers.NeedsAnswer
-told_of log (Err wrong_answer) = answers.WrongAnswer
+-- the answer of the code for it
+abbrev pub turn_answer : List Answer → Result After Refusal → Turn
+turn_answer log (Ok after) = answers.Stepped (nat_lt (length after.rest) (length log))
+turn_answer log (Err not_runnable) = answers.NotRunnable
+turn_answer log (Err needs_answer) = answers.NeedsAnswer
+turn_answer log (Err wrong_answer) = answers.WrongAnswer
 
 -- the state and the output behind it; where it isn't defined, they are those before it
 abbrev pub state_after : State → Result After Refusal → State

@@ -1,13 +1,18 @@
 // The kernel: whose turn it is, what the turn does, and the calls.
-ghost use Rattle.std.specs.Prelude.{◌≡◌, ◌<◌, ◌≤◌, ◌-◌, ◌^◌, List, IfOk, OnOk, OnErr, length};
+ghost use Rattle.std.specs.Prelude.{◌≡◌, ◌<◌, ◌≤◌, ◌-◌, ◌^◌, ◌++◌, List, IfOk, OnOk, OnErr, length, false};
 ghost use Rattle.dp_base.specs.declared.answer.Answer.{Answer};
-ghost use Rattle.guest_kernel.specs.Call.{called, silent};
-ghost use Rattle.guest_kernel.specs.Turn.{turn, log_of, told_of, state_after, output_after};
+ghost use Rattle.guest_kernel.specs.Call.{called, written_by};
+ghost use Rattle.guest_kernel.specs.declared.kernel.Turn.TheVariants as answers;
+ghost use Rattle.guest_kernel.specs.State.{counted};
+ghost use Rattle.guest_kernel.specs.Turn.{turn, log_of, turn_answer, state_after, output_after};
 
 use crate::hart::Hart;
+use crate::pages::Pages;
 use crate::state::{End, State};
 use crate::step::{Stepped, exec};
 use crate::thread::Thread;
+use dp_base::field::write_bytes;
+use dp_base::limits::MAX_CALL_BYTES;
 use dp_base::{Answer, OutOfMemory, Tid};
 use std::alloc::Global;
 
@@ -24,10 +29,20 @@ pub enum Turn {
     NotRunnable,
 }
 
+// File descriptor 1.
+const STANDARD_OUTPUT: u32 = 1;
+
 const EXIT_ALL: u32 = 1;
 
-// -38, no such call.
-const NO_SUCH_CALL: u32 = 0xffff_ffda;
+const WRITE: u32 = 2;
+
+// The answers of calls that fail: -9, no such file descriptor; -14, memory that the guest may not use so; -38, no
+// such call.
+const EBADF: u32 = 0xffff_fff7;
+
+const EFAULT: u32 = 0xffff_fff2;
+
+const ENOSYS: u32 = 0xffff_ffda;
 
 impl State {
     /// One turn of a thread. What it writes is added to `out`. An `Err` changes nothing.
@@ -40,8 +55,8 @@ impl State {
         out: &mut Vec<u8>,
     ) -> Result<Turn, OutOfMemory>
         requires { self.old.steps < 2 ^ 64 - 1 }
-        ensures answer { IfOk result (λ told. told
-            ≡ told_of (log_of answer.entry) (turn self.old tid (log_of answer.entry))) }
+        ensures answer { IfOk result (λ turned. turned
+            ≡ turn_answer (log_of answer.entry) (turn self.old tid (log_of answer.entry))) }
         ensures state { OnOk result (self.new
             ≡ state_after self.old (turn self.old tid (log_of answer.entry))) }
         ensures output { OnOk result (out.new.items
@@ -58,24 +73,146 @@ impl State {
         let steps = self.steps + 1;
         match exec(&mut hart, &self.pages) {
             Stepped::Went => self.threads.set(tid, Thread::Runs { hart, clear }),
-            Stepped::Ecall => self.call(tid, hart, clear),
+            Stepped::Ecall => self.call(alloc, tid, hart, clear, out)?,
             Stepped::Trap { cause, value } => self.end = End::Trap { tid, cause, value },
         }
         self.steps = steps;
         Ok(Turn::Stepped { used: false })
     }
 
-    // The call at which a thread stands.
-    fn call(&mut self, tid: Tid, mut hart: Hart, clear: u32)
+    // The call at which a thread stands, all but the step's count. An `Err` changes nothing.
+    fn call(
+        &mut self,
+        alloc: Global,
+        tid: Tid,
+        mut hart: Hart,
+        clear: u32,
+        out: &mut Vec<u8>,
+    ) -> Result<(), OutOfMemory>
         requires made { tid.0 ≤ length self.old.threads }
         requires numbered { 0 < tid.0 }
-        ensures { (log : List Answer) → called self.old tid hart clear log ≡ silent self.new log }
+        ensures answer { OnOk result ((log : List Answer) →
+            turn_answer log (called self.old tid hart clear log) ≡ answers.Stepped false) }
+        ensures state { OnOk result ((log : List Answer) →
+            counted self.new ≡ state_after self.old (called self.old tid hart clear log)) }
+        ensures output { OnOk result ((log : List Answer) →
+            out.new.items ≡ output_after out.old.items (called self.old tid hart clear log)) }
+        ensures err { OnErr result (self.new ≡ self.old) }
+        ensures err_output { OnErr result (out.new.items ≡ out.old.items) }
     {
         match hart.register(17) {
             EXIT_ALL => self.end = End::Exit(hart.register(10)),
-            _ => hart.set_register(10, NO_SUCH_CALL),
+            WRITE => {
+                let answer = write(alloc, &self.pages, &hart, out)?;
+                hart.set_register(10, answer);
+            }
+            _ => hart.set_register(10, ENOSYS),
         }
         hart.pc = hart.pc.wrapping_add(4);
         self.threads.set(tid, Thread::Runs { hart, clear });
+        Ok(())
+    }
+}
+
+// The answer of a write by the arguments in these registers; what it writes is added to `out`.
+fn write(alloc: Global, pages: &Pages, hart: &Hart, out: &mut Vec<u8>) -> Result<u32, OutOfMemory>
+    ensures answer { IfOk result (λ answer. answer ≡ (written_by pages.now hart.now).answer) }
+    ensures output { OnOk result (out.new.items
+        ≡ out.old.items ++ (written_by pages.now hart.now).output) }
+    ensures err { OnErr result (out.new.items ≡ out.old.items) }
+{
+    if hart.register(10) != STANDARD_OUTPUT {
+        return Ok(EBADF);
+    }
+    if hart.register(12) == 0 {
+        return Ok(0);
+    }
+    let count = hart.register(12).min(MAX_CALL_BYTES);
+    match pages.readable(alloc, hart.register(11), count)? {
+        Some(bytes) => {
+            write_bytes(out, &bytes)?;
+            Ok(count)
+        }
+        None => Ok(EFAULT),
+    }
+}
+
+#[cfg(test)]
+mod tests {
+    use super::*;
+    use crate::thread::Threads;
+    use std::test::Fail;
+
+    // A guest that stands at an ecall, with these arguments and x17 2. Its page 10 (hexadecimal) may only be executed,
+    // page 13 be executed and written; the others may be read.
+    fn at_write(alloc: Global, arguments: [u32; 3]) -> Result<State, Fail> {
+        let mut page = [0; 4096];
+        page[4094] = b'a';
+        page[4095] = b'b';
+        let mut pages = Pages::new(alloc);
+        pages.map_above(0, 4, &[])?;
+        pages.map_above(0x10, 1, &[0x73])?;
+        pages.map_above(0x11, 4, &page)?;
+        pages.map_above(0x12, 7, b"cd")?;
+        pages.map_above(0x13, 3, &[])?;
+        pages.map_above(0xffffe, 4, &[])?;
+        let mut hart = Hart {
+            pc: 0x10000,
+            x: [7; 31],
+            held: Some(4),
+        };
+        let [fd, addr, len] = arguments;
+        hart.set_register(10, fd);
+        hart.set_register(11, addr);
+        hart.set_register(12, len);
+        hart.set_register(17, 2);
+        Ok(State {
+            pages,
+            heap: 0x14000,
+            brk: 0x14000,
+            threads: Threads::one(alloc, Thread::Runs { hart, clear: 8 })?,
+            input: 0,
+            steps: 0,
+            end: End::None,
+        })
+    }
+
+    #[test]
+    fn writes(rt: HostRuntime) -> Result<(), Fail> {
+        let alloc = rt.alloc();
+        // fd, addr and len; the answer; how many bytes are written, and how they start
+        let cases: [([u32; 3], u32, usize, &[u8]); 18] = [
+            ([0, 0x11ffe, 4], 0xffff_fff7, 0, b""),
+            ([2, 0x11ffe, 4], 0xffff_fff7, 0, b""),
+            ([0xffff_ffff, 0x11ffe, 4], 0xffff_fff7, 0, b""),
+            ([2, 0x11ffe, 0], 0xffff_fff7, 0, b""),
+            ([1, 0x50000, 0], 0, 0, b""),
+            ([1, 0x50000, 1], 0xffff_fff2, 0, b""),
+            ([1, 0x10000, 1], 0xffff_fff2, 0, b""),
+            ([1, 0x10fff, 2], 0xffff_fff2, 0, b""),
+            ([1, 0x12fff, 2], 0xffff_fff2, 0, b""),
+            ([1, 0x12fff, 1], 1, 1, b"\0"),
+            ([1, 0xffff_eff0, 16], 16, 16, b"\0"),
+            ([1, 0xffff_eff0, 17], 0xffff_fff2, 0, b""),
+            ([1, 0xffff_ffff, 2], 0xffff_fff2, 0, b""),
+            ([1, 0x11ffe, 4], 4, 4, b"abcd"),
+            ([1, 0x12000, 4096], 4096, 4096, b"cd\0"),
+            ([1, 0x12000, 4097], 4096, 4096, b"cd\0"),
+            ([1, 0x11ffe, 0xffff_ffff], 4096, 4096, b"abcd\0"),
+            ([1, 0x12001, 4096], 0xffff_fff2, 0, b""),
+        ];
+        for (arguments, answer, len, first) in cases {
+            let mut state = at_write(alloc, arguments)?;
+            assert_eq!(rt; state.steps, 0);
+            let mut out = Vec::from_slice(alloc, b"x")?;
+            let turn = state.turn(alloc, Tid(1), None, &mut out)?;
+            assert_eq!(rt; (turn, state.steps), (Turn::Stepped { used: false }, 1));
+            assert!(rt; out.len() == len + 1 && out[1..].starts_with(first));
+            let Some(Thread::Runs { hart, clear }) = state.threads.get(Tid(1)) else {
+                return Err("thread 1 runs".into());
+            };
+            assert_eq!(rt; (hart.register(10), hart.pc, *clear), (answer, 0x10004, 8));
+        }
+        Ok(())
     }
 }

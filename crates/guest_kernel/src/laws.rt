@@ -1,8 +1,9 @@
 //! What follows from the definitions alone. Each function's contract is a law over all guests, states, slices and
 //! logs; a call of it costs nothing and hands the law to the caller's proof.
 
-ghost use Rattle.std.specs.Prelude.{◌≡◌, ◌+◌, ◌<◌, ◌≤◌, ◌++◌, ℕ, List, [], length, true, false, Ok, Err};
+ghost use Rattle.std.specs.Prelude.{◌≡◌, ◌+◌, ◌≤◌, ◌++◌, ℕ, List, [], ◌∷◌, length, true, false, Ok, Err};
 ghost use Rattle.dp_base.specs.declared.answer.Answer.{Answer};
+ghost use Rattle.dp_base.specs.declared.limits.TheConstants.{MAX_CALL_BYTES};
 ghost use Rattle.dp_base.specs.declared.slice.Slice.{Slice};
 ghost use Rattle.dp_base.specs.declared.tid.Tid.{Tid};
 ghost use Rattle.dp_base.specs.Journal.{Epoch};
@@ -10,11 +11,12 @@ ghost use Rattle.guest_kernel.specs.declared.hart.Hart.{Hart};
 ghost use Rattle.guest_kernel.specs.declared.image.Image.{Image};
 ghost use Rattle.guest_kernel.specs.declared.state.State.{State};
 ghost use Rattle.guest_kernel.specs.Call.{After, Refusal, not_runnable};
-ghost use Rattle.guest_kernel.specs.Image.{IsGuestFile, IsImageOf};
+ghost use Rattle.guest_kernel.specs.Image.{IsImageOf};
+ghost use Rattle.guest_kernel.specs.Lone.{RunsAlone};
 ghost use Rattle.guest_kernel.specs.Register.{register, with_register};
 ghost use Rattle.guest_kernel.specs.Slices.{at, either, joined, turns, run, chain, chained, one_slice, slice_ended};
 ghost use Rattle.guest_kernel.specs.Start.{start_of, start_state, first_thread};
-ghost use Rattle.guest_kernel.specs.State.{has_ended};
+ghost use Rattle.guest_kernel.specs.State.{has_ended, without_reservation};
 ghost use Rattle.guest_kernel.specs.Turn.{turn, state_after};
 
 /// x0 reads 0 in every hart, so in every state that a run reaches, and a write to it changes nothing.
@@ -55,22 +57,14 @@ pub fn an_image_starts_as_its_file()
     ensures { (file : List ℕ) (image : Image) → IsImageOf file image → start_of image ≡ start_state file }
 {}
 
-/// A guest of the one form that is built ends within 980 steps of its thread.
-pub fn a_guest_ends_within_980_steps()
-    ensures { (file : List ℕ) → IsGuestFile file → (steps : ℕ) × (steps ≤ 980) × (there : After)
-        × (run (one_slice first_thread steps) (at (start_state file) [] []) ≡ Ok there)
-        × (has_ended there.state.end ≡ true) }
-{}
-
-/// While such a guest hasn't ended, it has taken fewer than 980 steps and has a next one, which writes nothing and
-/// takes no answer.
-pub fn a_guest_goes_on_until_it_ends()
-    ensures { (file : List ℕ) (steps : ℕ) (here : After) → IsGuestFile file →
-        turns 0 steps first_thread (at (start_state file) [] []) ≡ Ok here →
-        has_ended here.state.end ≡ false →
-        (steps < 980) × (after : After)
-        × (turn here.state first_thread here.rest ≡ Ok after)
-        × (after.output ≡ []) × (after.rest ≡ here.rest) }
+/// A guest whose one thread runs: it has a turn until it ends, which takes no answer and writes at most 4,096 bytes, and
+/// its thread still runs behind the turn and behind the end of a slice.
+pub fn a_lone_thread_goes_on()
+    ensures start { (file : List ℕ) → RunsAlone (start_state file) }
+    ensures turn { (s : State) (log : List Answer) → RunsAlone s → has_ended s.end ≡ false →
+        (after : After) × (turn s first_thread log ≡ Ok after) × RunsAlone after.state
+        × (length after.output ≤ MAX_CALL_BYTES) × (after.rest ≡ log) }
+    ensures slice { (s : State) → RunsAlone s → RunsAlone (without_reservation s first_thread) }
 {}
 
 /// A turn behind some turns of its thread is one turn more.
@@ -84,4 +78,18 @@ pub fn turns_are_a_slice()
     ensures run { (tid : Tid) (steps : ℕ) (start there : After) → turns 0 steps tid start ≡ Ok there →
         there.rest ≡ [] → run (one_slice tid steps) start ≡ Ok (slice_ended tid there) }
     ensures end { (tid : Tid) (there : After) → (slice_ended tid there).state.end ≡ there.state.end }
+{}
+
+/// A slice behind a run is a run of one slice more.
+pub fn a_slice_more()
+    ensures { (s : State) (xs : List Slice) (tid : Tid) (steps : ℕ) (mid there : After) →
+        run xs (at s [] []) ≡ Ok mid → turns 0 steps tid (at mid.state [] []) ≡ Ok there → there.rest ≡ [] →
+        run (xs ++ one_slice tid steps) (at s [] []) ≡ Ok (joined mid (slice_ended tid there)) }
+{}
+
+/// One epoch behind a chain is a chain of one epoch more.
+pub fn an_epoch_more()
+    ensures { (s : State) (epochs : List Epoch) (e : Epoch) (mid : State) (output : List ℕ) (there : After) →
+        chain s epochs ≡ Ok (mid, output) → run e.slices (at mid [] e.answers) ≡ Ok there →
+        chain s (epochs ++ e ∷ []) ≡ Ok (there.state, output ++ there.output) }
 {}

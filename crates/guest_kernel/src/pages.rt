@@ -1,7 +1,7 @@
 // Guest memory: a table of pages, seen as the list of its pages in rising order of number.
-ghost use Rattle.std.specs.Prelude.{◌≡◌, ◌^◌, ◌<◌, ◌≤◌, ◌++◌, [], ◌∷◌, All, OnOk, OnErr, IfSome, length, replicate, ◌-◌};
+ghost use Rattle.std.specs.Prelude.{◌≡◌, ◌^◌, ◌<◌, ◌≤◌, ◌++◌, [], ◌∷◌, All, OnOk, OnErr, IfOk, IfSome, length, replicate, ◌-◌};
 ghost use Rattle.std.specs.Option.{option_copied, option_map};
-ghost use Rattle.guest_kernel.specs.Memory.{fetch, code_byte, page_at, page_with, ArePages, IsPage};
+ghost use Rattle.guest_kernel.specs.Memory.{fetch, code_byte, readable, readable_byte, page_at, page_with, ArePages, IsPage};
 
 use dp_base::OutOfMemory;
 use dp_base::limits::{MAX_PAGES, PAGE_BYTES, PAGE_NUMBERS};
@@ -65,7 +65,7 @@ impl Pages {
         self.table.len() as u32
     }
 
-    /// Maps a page behind all that are mapped, with these bytes at its front and zeros behind them. An `Err`
+    /// Maps a page behind all that are mapped, with these bytes first and zeros behind them. An `Err`
     /// changes nothing.
     pub fn map_above(&mut self, number: u32, flags: u8, contents: &[u8]) -> Result<(), OutOfMemory>
         requires above { All (λ p. p.number < number) self.old }
@@ -123,6 +123,39 @@ impl Pages {
     {
         let page = self.page(address / 4096)?;
         if page.flags % 2 == 1 {
+            Some(page.bytes[(address % 4096) as usize])
+        } else {
+            None
+        }
+    }
+
+    /// The bytes from an address on, so many; none where one of them may not be read.
+    pub fn readable(
+        &self,
+        alloc: Global,
+        address: u32,
+        count: u32,
+    ) -> Result<Option<Vec<u8>>, OutOfMemory>
+        ensures { IfOk result (λ bytes. option_map (λ b. b.items) bytes
+            ≡ readable self.now address count) }
+    {
+        let mut bytes = Vec::new(alloc);
+        for place in 0..count {
+            let Some(byte) = self.readable_byte(u64::from(address) + u64::from(place)) else {
+                return Ok(None);
+            };
+            bytes.push(byte)?;
+        }
+        Ok(Some(bytes))
+    }
+
+    // The byte at an address, where it may be read.
+    fn readable_byte(&self, address: u64) -> Option<u8>
+        requires { address < 2 ^ 33 }
+        ensures { result ≡ readable_byte self.now address }
+    {
+        let page = self.page(address / 4096)?;
+        if page.flags / 4 % 2 == 1 {
             Some(page.bytes[(address % 4096) as usize])
         } else {
             None

@@ -2,7 +2,7 @@
 ghost use Rattle.std.specs.Prelude.{◌≡◌, ◌+◌, ◌<◌, ◌≤◌, ◌^◌, IfOk, OnErr, length, drop};
 ghost use Rattle.dp_base.specs.Journal.{steps_of};
 ghost use Rattle.guest_kernel.specs.Slices.{at, turns, run};
-ghost use Rattle.guest_kernel.specs.Stops.{at_step, told_run, IsAfterSome, IsAfterTurns};
+ghost use Rattle.guest_kernel.specs.Stops.{at_step, IsRunAnswer, IsAfterSome, IsAfterTurns};
 
 use crate::kernel::Turn;
 use crate::state::State;
@@ -32,7 +32,7 @@ impl State {
         requires few_steps { self.old.steps < 2 ^ 63 + 2 ^ 47 }
         requires little_input { self.old.input < 2 ^ 63 + 2 ^ 47 }
         requires few_more { steps_of slices.now < 2 ^ 62 }
-        ensures run { IfOk result (λ told. told_run told self.new out.new.items
+        ensures run { IfOk result (λ answer. IsRunAnswer answer self.new out.new.items
             (run slices.now (at self.old out.old.items answers.now))) }
         ensures err { OnErr result (IsAfterSome slices.now (at self.old out.old.items answers.now)
             self.new out.new.items) }

@@ -160,8 +160,11 @@ mod tests {
             state.end = end;
             assert_eq!(rt; state.ended(), end != End::None);
             let mut out = Vec::new(rt.alloc());
-            let told = state.turn(rt.alloc(), Tid(tid), None, &mut out)?;
-            assert_eq!(rt; (told, state.end, state.steps), (Turn::NotRunnable, end, 0));
+            let answer = state.turn(rt.alloc(), Tid(tid), None, &mut out)?;
+            assert_eq!(rt;
+                (answer, state.end, state.steps),
+                (Turn::NotRunnable, end, 0)
+            );
         }
         Ok(())
     }

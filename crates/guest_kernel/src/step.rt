@@ -1,14 +1,15 @@
 ghost use Rattle.std.specs.Prelude.{◌≡◌, IfSome};
-ghost use Rattle.guest_kernel.specs.Instruction.{decoded, immediate_i};
+ghost use Rattle.guest_kernel.specs.Instruction.{decoded, immediate_i, immediate_u};
 ghost use Rattle.guest_kernel.specs.Step.{effect, answer_for, hart_after};
 ghost use Rattle.guest_kernel.specs.Operands.{AreOperands};
 
 use crate::hart::Hart;
 use crate::pages::Pages;
 
-/// An instruction, its registers by number and its immediate with the sign extended to 32 bits.
+/// An instruction, its registers by number and its immediate in 32 bits.
 #[derive(Clone, Copy, Debug, PartialEq, Eq)]
 pub enum Instr {
+    Lui { rd: u8, imm: u32 },
     Addi { rd: u8, rs1: u8, imm: u32 },
     Ecall,
 }
@@ -24,8 +25,15 @@ pub enum Stepped {
     Trap { cause: u8, value: u32 },
 }
 
+// Bits 31 to 12 in place, the others 0.
+fn immediate_u(word: u32) -> u32
+    ensures value { result ≡ immediate_u word }
+{
+    word >> 12 << 12
+}
+
 // Bits 31 to 20, with the sign extended.
-fn immediate(word: u32) -> u32
+fn immediate_i(word: u32) -> u32
     ensures value { result ≡ immediate_i word }
 {
     let bits = word >> 20;
@@ -36,18 +44,24 @@ fn immediate(word: u32) -> u32
     }
 }
 
-/// The instruction that a word spells; none exactly where it is illegal.
+/// The instruction that a word encodes; none exactly where it is illegal.
 pub fn decode(word: u32) -> Option<Instr>
     ensures instruction { result ≡ decoded word }
     ensures operands { IfSome result AreOperands }
 {
     let opcode = word & 0x7f;
     let funct3 = (word >> 12) & 7;
+    if opcode == 0x37 {
+        return Some(Instr::Lui {
+            rd: ((word >> 7) & 0x1f) as u8,
+            imm: immediate_u(word),
+        });
+    }
     if opcode == 0x13 && funct3 == 0 {
         return Some(Instr::Addi {
             rd: ((word >> 7) & 0x1f) as u8,
             rs1: ((word >> 15) & 0x1f) as u8,
-            imm: immediate(word),
+            imm: immediate_i(word),
         });
     }
     if word == 0x73 {
@@ -74,6 +88,11 @@ pub fn exec(hart: &mut Hart, pages: &Pages) -> Stepped
         };
     };
     match decode(word) {
+        Some(Instr::Lui { rd, imm }) => {
+            hart.set_register(rd, imm);
+            hart.pc = hart.pc.wrapping_add(4);
+            Stepped::Went
+        }
         Some(Instr::Addi { rd, rs1, imm }) => {
             let sum = hart.register(rs1).wrapping_add(imm);
             hart.set_register(rd, sum);
@@ -95,15 +114,21 @@ mod tests {
 
     #[test]
     fn words(rt: HostRuntime) {
+        let lui = |rd, imm| Some(Instr::Lui { rd, imm });
         let addi = |rd, rs1, imm| Some(Instr::Addi { rd, rs1, imm });
         let cases = [
+            (0x0001_0537, lui(10, 0x0001_0000)),
+            (0x8000_00b7, lui(1, 0x8000_0000)),
+            (0xffff_ffb7, lui(31, 0xffff_f000)),
+            (0x0000_0037, lui(0, 0)),
             (0x0070_0513, addi(10, 0, 7)),
             // the opcode ends at bit 6, and rd begins at bit 7
             (0x0000_0093, addi(1, 0, 0)),
             (0x7fff_8f93, addi(31, 31, 0x7ff)),
             (0x8000_0013, addi(0, 0, 0xffff_f800)),
             (0x0000_0073, Some(Instr::Ecall)),
-            // EBREAK, ECALL with rd 1, SLLI, ANDI, ADD, C.NOP, zeros and ones
+            // AUIPC, EBREAK, ECALL with rd 1, SLLI, ANDI, ADD, C.NOP, zeros and ones
+            (0x0001_0517, None),
             (0x0010_0073, None),
             (0x0000_00f3, None),
             (0x0000_1013, None),

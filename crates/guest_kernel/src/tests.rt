@@ -8,7 +8,7 @@ use std::test::Fail;
 
 // A file's headers up to p_filesz, and those behind p_memsz: ELF32, little-endian, RISC-V, one segment that is
 // the whole file at 00010000, entry 00010054.
-const FRONT: [u8; 68] = [
+const HEADERS_START: [u8; 68] = [
     0x7f, 0x45, 0x4c, 0x46, 0x01, 0x01, 0x01, 0x00, 0x00, 0x00, 0x00, 0x00, 0x00, 0x00, 0x00, 0x00,
     0x02, 0x00, 0xf3, 0x00, 0x01, 0x00, 0x00, 0x00, 0x54, 0x00, 0x01, 0x00, 0x34, 0x00, 0x00, 0x00,
     0x00, 0x00, 0x00, 0x00, 0x00, 0x00, 0x00, 0x00, 0x34, 0x00, 0x20, 0x00, 0x01, 0x00, 0x00, 0x00,
@@ -16,7 +16,7 @@ const FRONT: [u8; 68] = [
     0x00, 0x00, 0x01, 0x00,
 ];
 
-const BACK: [u8; 8] = [0x05, 0x00, 0x00, 0x00, 0x00, 0x10, 0x00, 0x00];
+const HEADERS_END: [u8; 8] = [0x05, 0x00, 0x00, 0x00, 0x00, 0x10, 0x00, 0x00];
 
 // addi x10, x0, 7; addi x17, x0, 1; ecall: exit_all(7)
 const EXIT_SEVEN: [u32; 3] = [0x0070_0513, 0x0010_0893, 0x0000_0073];
@@ -25,10 +25,10 @@ const ADDI_TO_X0: u32 = 0x0000_0013;
 
 // A file of these sizes in its headers and these words of code.
 fn guest_of(alloc: Global, filesz: u32, memsz: u32, words: &[u32]) -> Result<Vec<u8>, AllocError> {
-    let mut file = FRONT.to_vec(alloc)?;
+    let mut file = HEADERS_START.to_vec(alloc)?;
     file.extend_from_slice(&filesz.to_le_bytes())?;
     file.extend_from_slice(&memsz.to_le_bytes())?;
-    file.extend_from_slice(&BACK)?;
+    file.extend_from_slice(&HEADERS_END)?;
     for word in words {
         file.extend_from_slice(&word.to_le_bytes())?;
     }
@@ -131,13 +131,13 @@ fn other_headers(rt: HostRuntime) -> Result<(), Fail> {
     Ok(())
 }
 
-// Whether it is a page with these bytes at its front and zeros behind them.
-fn is_page(page: Option<&[u8]>, front: &[u8]) -> bool {
+// Whether it is a page with these bytes first and zeros behind them.
+fn is_page(page: Option<&[u8]>, prefix: &[u8]) -> bool {
     let Some(page) = page else {
         return false;
     };
-    let zeros = page.iter().skip(front.len()).all(|byte| *byte == 0);
-    page.len() == 4096 && page.starts_with(front) && zeros
+    let zeros = page.iter().skip(prefix.len()).all(|byte| *byte == 0);
+    page.len() == 4096 && page.starts_with(prefix) && zeros
 }
 
 #[test]
@@ -178,8 +178,8 @@ fn a_segment_that_fills_its_page(rt: HostRuntime) -> Result<(), Fail> {
     )?;
     assert_eq!(rt; state.pages.flags(0x20), Some(7));
     let mut out = Vec::new(alloc);
-    let told = state.turn(alloc, Tid(1), None, &mut out)?;
-    assert_eq!(rt; (told, state.steps), (Turn::Stepped { used: false }, 1));
+    let answer = state.turn(alloc, Tid(1), None, &mut out)?;
+    assert_eq!(rt; (answer, state.steps), (Turn::Stepped { used: false }, 1));
     assert_eq!(rt; state.end, trap(0, 0x20001));
     Ok(())
 }
@@ -227,7 +227,7 @@ fn guests_end(rt: HostRuntime) -> Result<(), Fail> {
 #[test]
 fn registers(rt: HostRuntime) -> Result<(), Fail> {
     let alloc = rt.alloc();
-    let cases: [(&[u32], u8, u32); 8] = [
+    let cases: [(&[u32], u8, u32); 11] = [
         // addi x5, x6, immediate behind addi x6, x0, 1
         (&[0x0010_0313, 0x7ff3_0293], 5, 0x0000_0800),
         (&[0x0010_0313, 0x8003_0293], 5, 0xffff_f801),
@@ -235,6 +235,11 @@ fn registers(rt: HostRuntime) -> Result<(), Fail> {
         // addi x0, x0, 5 behind addi x1, x0, 3
         (&[0x0030_0093, 0x0050_0013], 0, 0),
         (&[0x0030_0093, 0x0050_0013], 1, 3),
+        // lui x10, 0x10; lui x1, 0x80000 behind addi x0, x0, 0
+        (&[0x0001_0537, ADDI_TO_X0], 10, 0x0001_0000),
+        (&[ADDI_TO_X0, 0x8000_00b7], 1, 0x8000_0000),
+        // lui x0, 0x10 behind addi x1, x0, 3
+        (&[0x0030_0093, 0x0001_0037], 1, 3),
         // addi x17, x0, 5; ecall: no such call, and its number stays
         (&[0x0050_0893, 0x0000_0073], 10, 0xffff_ffda),
         (&[0x0050_0893, 0x0000_0073], 17, 5),
@@ -292,7 +297,7 @@ fn turns(rt: HostRuntime) -> Result<(), Fail> {
     let mut state = started(alloc, &EXIT_SEVEN)?;
     let mut out = Vec::new(alloc);
     let went = Turn::Stepped { used: false };
-    for (tid, told) in [
+    for (tid, answer) in [
         (0, Turn::NotRunnable),
         (2, Turn::NotRunnable),
         (1, went),
@@ -303,7 +308,7 @@ fn turns(rt: HostRuntime) -> Result<(), Fail> {
         assert!(rt; state.steps < 9);
         assert_eq!(rt;
             state.turn(alloc, Tid(tid), Some(&Answer::Clock(5)), &mut out)?,
-            told
+            answer
         );
     }
     assert_eq!(rt; (state.end, state.steps, out.len()), (End::Exit(7), 3, 0));
@@ -323,5 +328,33 @@ fn reservations(rt: HostRuntime) -> Result<(), Fail> {
         state.run_slices(alloc, &[slice(1, steps)], &[], &mut out)?;
         assert_eq!(rt; hart_of(&state).map(|hart| hart.held), Some(held));
     }
+    Ok(())
+}
+
+// addi x10, x0, 1; lui x11, 0x10; addi x11, x11, 120; addi x12, x0, 3; addi x17, x0, 2; ecall: write(1, 10078, 3).
+// Then exit_all(0), and the bytes `hi`, line feed, 0 at 10078 (hexadecimal).
+#[test]
+fn writes_hi(rt: HostRuntime) -> Result<(), Fail> {
+    let alloc = rt.alloc();
+    let words = [
+        0x0010_0513,
+        0x0001_05b7,
+        0x0785_8593,
+        0x0030_0613,
+        0x0020_0893,
+        0x0000_0073,
+        0x0000_0513,
+        0x0010_0893,
+        0x0000_0073,
+        0x000a_6968,
+    ];
+    let mut state = started(alloc, &words)?;
+    let mut out = Vec::new(alloc);
+    let run = state.run_slices(alloc, &[slice(1, 9)], &[], &mut out)?;
+    assert_eq!(rt;
+        (run, state.end, state.steps),
+        (SliceRun::Whole, End::Exit(0), 9)
+    );
+    assert_eq!(rt; out.as_slice(), b"hi\n".as_slice());
     Ok(())
 }

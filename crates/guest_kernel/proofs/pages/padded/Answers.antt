@@ -5,5 +5,5 @@ use Rattle.guest_kernel.proofs.pages.padded.Goals as goal
 pub returns-clause-bytes : goal.returns-clause-bytes
 returns-clause-bytes c =
     let contents = c.args.contents.now in
-    ap (λ (front : List ℕ). front ++ drop (length contents) (replicate 4096 0)) c.copy_from_slice.ensures.after
-    ∙ ap (λ (back : List ℕ). contents ++ back) (drop-replicate (length contents) 4096 0)
+    ap (λ (prefix : List ℕ). prefix ++ drop (length contents) (replicate 4096 0)) c.copy_from_slice.ensures.after
+    ∙ ap (λ (zeros : List ℕ). contents ++ zeros) (drop-replicate (length contents) 4096 0)
