@@ -73,11 +73,12 @@ pub fn turns_count_on()
         turn here.state tid here.rest ≡ Ok after → turns 0 (steps + 1) tid start ≡ Ok (joined here after) }
 {}
 
-/// The turns of a thread that use the log up are a run of one slice, and the end of a slice ends no guest.
+/// The turns of a thread that use the log up are a run of one slice. The end of a slice ends no guest and is no step.
 pub fn turns_are_a_slice()
     ensures run { (tid : Tid) (steps : ℕ) (start there : After) → turns 0 steps tid start ≡ Ok there →
         there.rest ≡ [] → run (one_slice tid steps) start ≡ Ok (slice_ended tid there) }
     ensures end { (tid : Tid) (there : After) → (slice_ended tid there).state.end ≡ there.state.end }
+    ensures steps { (tid : Tid) (there : After) → (slice_ended tid there).state.steps ≡ there.state.steps }
 {}
 
 /// A slice behind a run is a run of one slice more.

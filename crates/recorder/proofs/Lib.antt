@@ -1,2 +1,3 @@
 pub mod OnDisk
 pub mod Sends
+pub mod Slicing

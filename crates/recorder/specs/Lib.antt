@@ -1,2 +1,4 @@
 pub mod Writing
 pub mod Journaling
+pub mod EpochRun
+pub mod Cut

@@ -1,4 +1,4 @@
-use Rattle.guest_kernel.proofs.SliceRuns.{run-one_slice, without_reservation-end}
+use Rattle.guest_kernel.proofs.SliceRuns.{run-one_slice, without_reservation-end, without_reservation-steps}
 use Rattle.guest_kernel.proofs.laws.turns_are_a_slice.Goals as goal
 
 pub returns-clause-run : goal.returns-clause-run
@@ -6,3 +6,6 @@ returns-clause-run c = λ tid steps start there ran empty. run-one_slice tid ste
 
 pub returns-clause-end : goal.returns-clause-end
 returns-clause-end c = λ tid there. without_reservation-end there.state tid
+
+pub returns-clause-steps : goal.returns-clause-steps
+returns-clause-steps c = λ tid there. without_reservation-steps there.state tid
