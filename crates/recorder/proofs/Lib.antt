@@ -1,3 +1,4 @@
 pub mod OnDisk
 pub mod Sends
 pub mod Slicing
+pub mod Rounds

@@ -1,15 +1,14 @@
 -- What a begun journal and an appended epoch leave on the disk.
-use Rattle.std.proofs.Common.{◌≡◌, ℕ, ◌+◌, ◌-◌, ◌≤◌, true, false, List, [], ◌∷◌, ◌++◌, length, take, drop, Option, Some, None, Ok, Err, refl, sym, ◌∙◌, ap, subst, arith, append_assoc, length-append}
+use Rattle.std.proofs.Common.{◌≡◌, ℕ, ◌+◌, ◌-◌, true, false, List, [], ◌∷◌, ◌++◌, length, take, drop, Option, Some, None, Ok, Err, refl, sym, ◌∙◌, ap, subst, arith, append_assoc, length-append}
 use Rattle.std.specs.List.{flat_map}
 use Rattle.std.proofs.lemmas.List.{append-nil, drop_all, take_all, take_at, drop_at}
 use Rattle.dp_base.specs.Journal.{Epoch, open_gate, closed_gate, header, header_body, record_of, frame, epoch_body, journal}
-use Rattle.disk_model.specs.History.{History, IsSynced}
+use Rattle.disk_model.specs.History.{History}
 use Rattle.disk_model.specs.Known.{IfKnown, IsLength, known_disk, overwritten}
-use Rattle.recorder.specs.declared.journal.Journal.{Journal}
 use Rattle.recorder.specs.declared.commit.CommitFault.TheVariants as commits
 use Rattle.recorder.specs.declared.append.AppendFault.TheVariants as appends
 use Rattle.recorder.specs.Writing.{SentNothing, IsWrittenThrough, Sent}
-use Rattle.recorder.specs.Journaling.{Stands, Begun, Appended, Committed}
+use Rattle.recorder.specs.Journaling.{Stands, Appended, Committed}
 
 -- ---- what is written
 
@@ -51,6 +50,12 @@ journal-push guest epochs e =
     ∙ ap (λ (l : List ℕ). l ++ closed_gate ∷ [])
     (append_assoc (header guest) (flat_map record_for epochs) (record_for e) ∙ ap (λ (l : List ℕ). header guest ++ l) (sym (flat_map-push epochs e)))
     ∙ sym (journal-records guest (epochs ++ e ∷ []))
+
+pub length-journal-push : (guest : List ℕ) (epochs : List Epoch) (e : Epoch) → length (journal guest (epochs ++ e ∷ [])) ≡ length (journal guest epochs) + length (frame (epoch_body e))
+length-journal-push guest epochs e =
+    let old = ap (λ (l : List ℕ). length l) (journal-records guest epochs) in
+    let new_ = ap (λ (l : List ℕ). length l) (journal-push guest epochs e) in
+    omega (arith, old, new_, length-append (records guest epochs) (closed_gate ∷ []), length-append (records guest epochs) (open_gate ∷ frame (epoch_body e)))
 
 -- ---- append
 

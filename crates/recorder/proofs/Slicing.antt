@@ -1,23 +1,22 @@
 -- Turns of a slice, and slices of an epoch, so far.
-use Rattle.std.proofs.Common.{◌≡◌, ◌⊎◌, inl, inr, ℕ, zero, suc, ◌+◌, ◌-◌, ◌*◌, ◌^◌, ◌<◌, ◌≤◌, Bool, true, false, cond, ◌||◌, leb, List, [], ◌∷◌, ◌++◌, length, Option, Some, None, Result, Ok, Err, refl, sym, ap, subst, ◌∙◌, append_assoc, add-zero, arith}
-use Rattle.std.specs.Prelude.{nat_le, sum_by}
+use Rattle.std.proofs.Common.{◌≡◌, ◌⊎◌, inl, inr, ℕ, ◌+◌, ◌-◌, ◌*◌, ◌^◌, ◌<◌, ◌≤◌, Bool, true, false, ◌||◌, List, [], ◌∷◌, ◌++◌, length, Ok, refl, sym, ap, ◌∙◌, append_assoc, arith}
+use Rattle.std.specs.Prelude.{nat_le}
 use Rattle.std.specs.List.{flat_map, AllByRecursion}
 use Rattle.std.proofs.lemmas.Bool.{leb-false, or_parts}
-use Rattle.std.proofs.lemmas.List.Sums.{sum_by-append}
+use Rattle.std.proofs.lemmas.List.Sums.{sum_by-cons, sum_by_push}
 use Rattle.std.proofs.lemmas.List.{append-nil, length-append, length_push}
 use Rattle.dp_base.specs.declared.answer.Answer.{Answer}
 use Rattle.dp_base.specs.declared.limits.TheConstants.{EPOCH_END_BYTES, MAX_CALL_BYTES, MAX_BODY_BYTES, MAX_EPOCH_STEPS}
 use Rattle.dp_base.specs.declared.slice.Slice.{Slice}
 use Rattle.dp_base.specs.Journal.{Epoch, IsSlice, IsEpoch, IsBody, epoch_body, steps_of, answer}
 use Rattle.guest_kernel.specs.declared.state.State.{State}
-use Rattle.guest_kernel.specs.Call.{After, Refusal}
+use Rattle.guest_kernel.specs.Call.{After}
 use Rattle.guest_kernel.specs.Lone.{RunsAlone}
 use Rattle.guest_kernel.specs.Slices.{at, joined, turns, slices, run, one_slice, slice_ended}
 use Rattle.guest_kernel.specs.Start.{first_thread}
 use Rattle.guest_kernel.specs.State.{has_ended, without_reservation}
-use Rattle.guest_kernel.specs.Turn.{turn}
 use Rattle.recorder.specs.declared.bounds.Bounds.{Bounds}
-use Rattle.recorder.specs.EpochRun.{IsCut, RunsTo, IsSliceRun, ends_epoch}
+use Rattle.recorder.specs.EpochRun.{IsCut, IsSliceRun, ends_epoch}
 
 -- an epoch that goes on is one of a guest that does
 pub still_runs : (s : State) (out : List ℕ) → ends_epoch s out ≡ false → has_ended s.end ≡ false
@@ -70,7 +69,11 @@ one_turn before output most steps s out after so_far below turned rest alone few
 -- ---- slices
 
 steps_of-push : (xs : List Slice) (x : Slice) → steps_of (xs ++ x ∷ []) ≡ steps_of xs + x.steps
-steps_of-push xs x = sum_by-append (λ (s : Slice). s.steps) xs (x ∷ []) ∙ omega arith
+steps_of-push xs x = sum_by_push (λ (s : Slice). s.steps) xs x
+
+pub positive_steps : (xs : List Slice) → AllByRecursion IsSlice xs → 0 < length xs → 0 < steps_of xs
+positive_steps [] are some = absurd (omega arith)
+positive_steps (x ∷ xs) are some = let first : 0 < x.steps = are.0.2 in omega (arith, first, sum_by-cons (λ (s : Slice). s.steps) x xs)
 
 pub all-push : {X : Type 0} (P : X → Type 0) (xs : List X) (x : X) → AllByRecursion P xs → P x → AllByRecursion P (xs ++ x ∷ [])
 all-push P [] x are is = (is, tt)

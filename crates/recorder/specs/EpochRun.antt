@@ -2,10 +2,8 @@
 use Rattle.std.specs.Prelude.{◌≡◌, ◌⊎◌, ◌<◌, ◌≤◌, ◌+◌, ℕ, Bool, true, List, [], ◌++◌, length, Ok, ◌||◌, nat_le}
 use Rattle.std.specs.List.{AllByRecursion}
 use Rattle.dp_base.specs.Journal.{Epoch, IsBody, IsEpoch, epoch_body, steps_of}
-use Rattle.dp_base.specs.declared.limits.TheConstants.{EPOCH_END_BYTES, MAX_CALL_BYTES, MAX_EPOCH_STEPS}
-use Rattle.dp_base.specs.declared.slice.Slice.{Slice}
+use Rattle.dp_base.specs.declared.limits.TheConstants.{EPOCH_END_BYTES, MAX_CALL_BYTES}
 use Rattle.guest_kernel.specs.declared.state.State.{State}
-use Rattle.guest_kernel.specs.Call.{After}
 use Rattle.guest_kernel.specs.Lone.{RunsAlone}
 use Rattle.guest_kernel.specs.Slices.{at, turns, run}
 use Rattle.guest_kernel.specs.Start.{first_thread}
@@ -17,13 +15,16 @@ abbrev pub ends_epoch : State → List ℕ → Bool
 ends_epoch s output = has_ended s.end || nat_le EPOCH_END_BYTES (length output)
 
 -- Within its bounds: so many steps at most, each slice of so many at most, its record fits, and it ends only where it must.
-pub record IsCut (bounds : Bounds) (e : Epoch) (end : State) (output : List ℕ) : Type 0 where
+pub record IsCutWithin (most slice : ℕ) (e : Epoch) (end : State) (output : List ℕ) : Type 0 where
   pub is_epoch : IsEpoch e
   pub fits : IsBody (epoch_body e)
-  pub few_steps : steps_of e.slices ≤ bounds.steps
-  pub short_slices : AllByRecursion (λ s. s.steps ≤ bounds.slice) e.slices
+  pub few_steps : steps_of e.slices ≤ most
+  pub short_slices : AllByRecursion (λ s. s.steps ≤ slice) e.slices
   pub little_output : length output < EPOCH_END_BYTES + MAX_CALL_BYTES
-  pub stops : (steps_of e.slices ≡ bounds.steps) ⊎ (ends_epoch end output ≡ true)
+  pub stops : (steps_of e.slices ≡ most) ⊎ (ends_epoch end output ≡ true)
+
+abbrev pub IsCut : Bounds → Epoch → State → List ℕ → Type 0
+IsCut bounds e end output = IsCutWithin bounds.steps bounds.slice e end output
 
 -- it runs from this state to that one, which writes this
 pub record RunsTo (start : State) (e : Epoch) (end : State) (output : List ℕ) : Type 0 where

@@ -2,3 +2,5 @@ pub mod Writing
 pub mod Journaling
 pub mod EpochRun
 pub mod Cut
+pub mod Faults
+pub mod Recording

@@ -1,8 +1,7 @@
-use Rattle.std.proofs.Common.{arith, refl, ◌∙◌, subst, sym, ap, Result, is_ok, false, Bool}
+use Rattle.std.proofs.Common.{arith, refl, ◌∙◌, false}
 use Rattle.std.proofs.lemmas.Result.{err_from_is_err_and}
-use Rattle.disk_model.specs.Known.{IfKnown}
 use Rattle.disk_model.proofs.Knowing.{known-then, known-same}
-use Rattle.recorder.specs.Writing.{IsSent, Sent}
+use Rattle.recorder.specs.Writing.{Sent}
 use Rattle.recorder.proofs.Sends.{none_sent, sent_more, not_all_sent}
 use Rattle.recorder.proofs.device.send_all.Goals as goal
 

@@ -1,14 +1,11 @@
-use Rattle.std.proofs.Common.{◌≡◌, ◌++◌, ◌≤◌, ◌-◌, ◌⊎◌, inl, inr, false, true, List, ℕ, [], ◌∷◌, Result, Ok, refl, sym, ap, ◌∙◌, subst, arith}
-use Rattle.dp_base.specs.Journal as journals
+use Rattle.std.proofs.Common.{◌≡◌, ◌++◌, ◌-◌, ◌⊎◌, inl, inr, true, List, ℕ, [], refl, sym, ap, ◌∙◌, subst, arith}
 use Rattle.dp_base.specs.declared.answer.Answer.{Answer}
 use Rattle.dp_base.specs.declared.slice.Slice.{Slice}
 use Rattle.guest_kernel.specs.declared.state.State.{State}
-use Rattle.guest_kernel.specs.Call.{After}
-use Rattle.guest_kernel.specs.Slices.{Stop, at, run, one_slice}
+use Rattle.guest_kernel.specs.Slices.{at, one_slice}
 use Rattle.guest_kernel.specs.Start.{first_thread}
-use Rattle.guest_kernel.specs.State.{without_reservation}
 use Rattle.recorder.specs.Cut.{IsCutFrom}
-use Rattle.recorder.specs.EpochRun.{ends_epoch, IsCut, RunsTo}
+use Rattle.recorder.specs.EpochRun.{ends_epoch}
 use Rattle.recorder.proofs.Slicing.{EpochSoFar, no_slice, slice_more, epoch_cut, none_run}
 use Rattle.recorder.proofs.epoch.run_epoch.Goals as goal
 use Rattle.recorder.proofs.epoch.run_epoch.Goals.{then-slices-test+else-not-must_end, else-slices-test}

@@ -1,10 +1,9 @@
-use Rattle.std.proofs.Common.{◌≡◌, ◌+◌, ◌++◌, ◌≤◌, ◌⊎◌, inl, inr, length, false, true, List, ℕ, [], sym, ap, ◌∙◌, subst, arith}
+use Rattle.std.proofs.Common.{◌≡◌, ◌+◌, ◌++◌, false, List, ℕ, [], sym, ap, ◌∙◌, subst}
 use Rattle.guest_kernel.specs.declared.state.State.{State}
 use Rattle.guest_kernel.specs.Turn.{turn_answer, state_after, output_after}
 use Rattle.guest_kernel.specs.Slices.{at}
 use Rattle.guest_kernel.specs.Start.{first_thread}
 use Rattle.recorder.specs.EpochRun.{ends_epoch}
-use Rattle.guest_kernel.specs.State.{has_ended}
 use Rattle.recorder.proofs.Slicing.{SliceSoFar, no_turn, one_turn, still_runs}
 use Rattle.recorder.proofs.epoch.run_slice.Goals as goal
 

@@ -1,4 +1,4 @@
-use Rattle.std.proofs.Common.{arith, rules, ◌≡◌, ◌++◌, ◌∷◌, [], refl}
+use Rattle.std.proofs.Common.{arith, rules, ◌≡◌, ◌++◌, ◌∷◌, []}
 use Rattle.dp_base.specs.Journal.{header_body, closed_gate}
 use Rattle.disk_model.proofs.Knowing.{known-then}
 use Rattle.recorder.proofs.OnDisk.{found, first_put, second_put, IsBegun, begun}

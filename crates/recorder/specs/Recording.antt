@@ -1,0 +1,104 @@
+-- What a recording comes to: a run of the guest, cut into epochs, which is in the journal and was sent. This project's own.
+use Rattle.std.specs.Prelude.{◌≡◌, ◌⊎◌, ◌<◌, ◌≤◌, ◌+◌, ◌-◌, min, ℕ, true, false, List, [], ◌∷◌, ◌++◌, length, take, Option, Result, Ok, Err, ⊤}
+use Rattle.dp_base.specs.Encoding.{IsPrefixOf}
+use Rattle.dp_base.specs.Journal.{Epoch, epoch_body, frame, journal}
+use Rattle.disk_model.specs.History.{History}
+use Rattle.disk_model.specs.Known.{IfKnown}
+use Rattle.guest_kernel.specs.declared.state.State.{State}
+use Rattle.guest_kernel.specs.Slices.{at, run, chain}
+use Rattle.guest_kernel.specs.State.{has_ended}
+use Rattle.recorder.specs.declared.options.Options.{Options}
+use Rattle.recorder.specs.declared.report.Report.{Report}
+use Rattle.recorder.specs.declared.record_fault.RecordFault.{RecordFault}
+use Rattle.recorder.specs.declared.record_fault.RecordFault.TheVariants as faults
+use Rattle.recorder.specs.EpochRun.{IsCutWithin}
+use Rattle.recorder.specs.Journaling.{Stands}
+
+-- ---- a run in epochs
+
+-- how many steps an epoch that starts here may have
+abbrev pub epoch_steps : Options → State → ℕ
+epoch_steps options s = min options.epoch (options.limit - s.steps)
+
+-- an epoch from this state to that one, as the options cut it
+pub record IsNext (options : Options) (s : State) (e : Epoch) (end : State) (output : List ℕ) : Type 0 where
+  pub ran : run e.slices (at s [] e.answers) ≡ Ok (at end output [])
+  pub cut : IsCutWithin (epoch_steps options s) options.slice e end output
+
+-- each of them from the end of the one before
+abbrev pub EachIsNext : Options → State → List Epoch → Type 0
+EachIsNext options s [] = ⊤
+EachIsNext options s (e ∷ epochs) = (end : State) × (output : List ℕ) × IsNext options s e end output × EachIsNext options end epochs
+
+-- a run of a guest from a state
+pub record Run (options : Options) (start : State) : Type 0 where
+  pub epochs : List Epoch
+  pub end : State
+  pub output : List ℕ
+  pub chained : chain start epochs ≡ Ok (end, output)
+  pub each : EachIsNext options start epochs
+  pub counted : end.steps ≤ options.limit
+
+-- ---- what is on the disk and was sent
+
+-- on a disk that was empty, the journal has the run, and its whole output was sent
+pub record IsRecorded (guest : List ℕ) (epochs : List Epoch) (output : List ℕ) (before after : History) : Type 0 where
+  pub empty : before.disk ≡ []
+  pub stands : Stands guest epochs after
+  pub sent : after.sent ≡ before.sent ++ output
+  pub noted : after.noted ≡ before.noted
+
+-- The journal has the run and this epoch, and of the epoch's output a prefix was sent.
+pub record IsPartlySent (guest : List ℕ) (epochs : List Epoch) (last : Epoch) (output last_output : List ℕ) (before after : History) : Type 0 where
+  pub empty : before.disk ≡ []
+  pub stands : Stands guest (epochs ++ last ∷ []) after
+  pub count : ℕ
+  pub sent : after.sent ≡ before.sent ++ (output ++ take count last_output)
+  pub noted : after.noted ≡ before.noted
+
+-- The run's whole output was sent, and no more. What the last sync had left on the disk begins with its journal.
+pub record IsInterrupted (guest : List ℕ) (epochs : List Epoch) (output : List ℕ) (before after : History) : Type 0 where
+  pub sent : after.sent ≡ before.sent ++ output
+  pub noted : after.noted ≡ before.noted
+  pub on_disk : (epochs ≡ []) ⊎ IsPrefixOf (journal guest epochs) after.pending.synced
+  pub untouched : (before.disk ≡ []) ⊎ (after ≡ before)
+
+-- nothing was written or sent
+abbrev pub IsUntouched : History → History → Type 0
+IsUntouched before after = (before.disk ≡ []) × (after ≡ before)
+
+abbrev pub IsInUse : ℕ → History → History → Type 0
+IsInUse len before after = (len ≡ length before.disk) × (after ≡ before)
+
+-- ---- by its answer
+
+abbrev pub report_of : List Epoch → State → List ℕ → Report
+report_of epochs end output =
+    record { epochs = length epochs; squashes = 0; steps = end.steps; sent = length output; end = end.end }
+
+-- no room for the header, or for the epoch that is next
+abbrev pub HasNoRoom : (guest : List ℕ) → (start : State) → Options → (end need : ℕ) → Option History → Option History → Type 0
+HasNoRoom guest start options end need before after =
+    ((end ≡ 0) × (need ≡ 10 + length guest) × (options.room < need) × IfKnown IsUntouched before after)
+    ⊎ ((r : Run options start) × (has_ended r.end.end ≡ false) × (r.end.steps < options.limit)
+    × (next : Epoch) × (there : State) × (output : List ℕ) × IsNext options r.end next there output
+    × (end ≡ length (journal guest r.epochs)) × (need ≡ length (frame (epoch_body next))) × (options.room < end + need)
+    × IfKnown (IsRecorded guest r.epochs r.output) before after)
+
+abbrev pub Recorded : (guest : List ℕ) → (start : State) → Options → Option History → Option History → Result Report RecordFault → Type 0
+Recorded guest start options before after (Ok report) =
+    (r : Run options start) × (has_ended r.end.end ≡ true) × (report ≡ report_of r.epochs r.end r.output)
+    × IfKnown (IsRecorded guest r.epochs r.output) before after
+Recorded guest start options before after (Err (faults.StepLimit n)) =
+    (r : Run options start) × (has_ended r.end.end ≡ false) × (n ≡ r.end.steps) × (n ≡ options.limit)
+    × IfKnown (IsRecorded guest r.epochs r.output) before after
+Recorded guest start options before after (Err (faults.JournalFull end need)) = HasNoRoom guest start options end need before after
+Recorded guest start options before after (Err faults.OutOfMemory) =
+    IfKnown IsUntouched before after ⊎ ((r : Run options start) × (has_ended r.end.end ≡ false) × (r.end.steps < options.limit)
+    × IfKnown (IsRecorded guest r.epochs r.output) before after)
+Recorded guest start options before after (Err (faults.JournalInUse len)) = (0 < len) × IfKnown (IsInUse len) before after
+Recorded guest start options before after (Err faults.DiskFault) =
+    (r : Run options start) × IfKnown (IsInterrupted guest r.epochs r.output) before after
+Recorded guest start options before after (Err faults.OutputFault) =
+    (r : Run options start) × (last : Epoch) × (there : State) × (output : List ℕ) × IsNext options r.end last there output
+    × IfKnown (IsPartlySent guest r.epochs last r.output output) before after

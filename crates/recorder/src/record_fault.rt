@@ -1,0 +1,58 @@
+// Why a recording stopped before the guest's end.
+ghost use Rattle.std.specs.Prelude.{◌≡◌};
+ghost use Rattle.recorder.specs.Faults.{of_begin, of_commit};
+ghost use Rattle.recorder.specs.declared.record_fault.RecordFault.TheVariants as faults;
+
+use crate::begin::BeginFault;
+use crate::commit::CommitFault;
+use dp_base::OutOfMemory;
+
+/// Why a recording stopped before the guest's end. What is committed stays committed.
+#[derive(Clone, Copy, Debug, PartialEq, Eq)]
+pub enum RecordFault {
+    /// The disk failed. The journal has the epochs whose output was sent, and at most the one that was being written.
+    DiskFault,
+    /// The output failed. The journal has the epoch whose output was being sent, and a prefix of that output was sent.
+    OutputFault,
+    /// The disk has this many bytes already. Nothing was written.
+    JournalInUse(u64),
+    /// The guest took this many steps, as many as it may, and hasn't ended.
+    StepLimit(u64),
+    /// The next record ends past the room: the journal's end, and how many bytes are needed from there on. It wasn't
+    /// written.
+    JournalFull { end: u64, need: u64 },
+    OutOfMemory,
+}
+
+impl From<BeginFault> for RecordFault {
+    ghost from_gives = { λ fault e. e ≡ of_begin fault };
+
+    fn from(fault: BeginFault) -> Self {
+        match fault {
+            BeginFault::InUse { len } => RecordFault::JournalInUse(len),
+            BeginFault::DiskFault => RecordFault::DiskFault,
+            BeginFault::Full { end, need } => RecordFault::JournalFull { end, need },
+            BeginFault::OutOfMemory => RecordFault::OutOfMemory,
+        }
+    }
+}
+
+impl From<CommitFault> for RecordFault {
+    ghost from_gives = { λ fault e. e ≡ of_commit fault };
+
+    fn from(fault: CommitFault) -> Self {
+        match fault {
+            CommitFault::DiskFault => RecordFault::DiskFault,
+            CommitFault::Full { end, need } => RecordFault::JournalFull { end, need },
+            CommitFault::OutputFault => RecordFault::OutputFault,
+        }
+    }
+}
+
+impl From<OutOfMemory> for RecordFault {
+    ghost from_gives = { λ _ e. e ≡ faults.OutOfMemory };
+
+    fn from(_: OutOfMemory) -> Self {
+        RecordFault::OutOfMemory
+    }
+}
