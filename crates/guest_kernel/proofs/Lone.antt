@@ -1,5 +1,5 @@
 -- A guest whose one thread runs goes on until it ends.
-use Rattle.std.proofs.Common.{◌≡◌, ◌+◌, ◌≤◌, ℕ, true, false, cond, not, min, List, [], ◌∷◌, length, Option, Some, None, Result, Ok, Err, refl, sym, ap, subst, ◌∙◌, arith}
+use Rattle.std.proofs.Common.{◌≡◌, ◌+◌, ◌≤◌, ℕ, false, cond, not, List, [], ◌∷◌, length, Option, Some, None, Result, Ok, Err, refl, sym, ap, subst, ◌∙◌, arith}
 use Rattle.std.specs.Prelude.{◌==◌, slice_set}
 use Rattle.std.proofs.Math.Nat.{min-le_right}
 use Rattle.std.proofs.lemmas.Bool.{cond_both}
@@ -9,7 +9,7 @@ use Rattle.guest_kernel.specs.declared.hart.Hart.{Hart}
 use Rattle.guest_kernel.specs.declared.state.State.{State}
 use Rattle.guest_kernel.specs.declared.thread.Thread.{Thread}
 use Rattle.guest_kernel.specs.declared.thread.Thread.TheVariants.{Runs}
-use Rattle.guest_kernel.specs.Call.{After, Refusal, Written, not_runnable, number_of, argument_of, second_argument_of, third_argument_of, nothing_written, bytes_written, moved, written, written_by, minus, ENOSYS}
+use Rattle.guest_kernel.specs.Call.{After, Refusal, Written, not_runnable, number_of, argument_of, second_argument_of, third_argument_of, bytes_written, moved, written, written_by, minus, ENOSYS}
 use Rattle.guest_kernel.specs.Instruction.{Effect, goes, calls, traps}
 use Rattle.guest_kernel.specs.Lone.{RunsAlone}
 use Rattle.guest_kernel.specs.Memory.{Memory, readable}

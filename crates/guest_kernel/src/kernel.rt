@@ -207,7 +207,10 @@ mod tests {
             let mut out = Vec::from_slice(alloc, b"x")?;
             let turn = state.turn(alloc, Tid(1), None, &mut out)?;
             assert_eq!(rt; (turn, state.steps), (Turn::Stepped { used: false }, 1));
-            assert!(rt; out.len() == len + 1 && out[1..].starts_with(first));
+            let [b'x', written @ ..] = out.as_slice() else {
+                return Err("the bytes before stay".into());
+            };
+            assert!(rt; written.len() == len && written.starts_with(first));
             let Some(Thread::Runs { hart, clear }) = state.threads.get(Tid(1)) else {
                 return Err("thread 1 runs".into());
             };
