@@ -1,5 +1,5 @@
 -- A guest whose one thread runs goes on until it ends.
-use Rattle.std.proofs.Common.{◌≡◌, ◌+◌, ◌≤◌, ℕ, true, false, cond, not, min, List, [], ◌∷◌, length, Option, Some, None, Result, Ok, Err, refl, sym, ap, subst, ◌∙◌, arith}
+use Rattle.std.proofs.Common.{◌≡◌, ◌+◌, ◌≤◌, ℕ, false, cond, not, List, [], ◌∷◌, length, Option, Some, None, Result, Ok, Err, refl, sym, ap, subst, ◌∙◌, arith}
 use Rattle.std.specs.Prelude.{◌==◌, slice_set}
 use Rattle.std.proofs.Math.Nat.{min-le_right}
 use Rattle.std.proofs.lemmas.Bool.{cond_both}
@@ -9,7 +9,7 @@ use Rattle.guest_kernel.specs.declared.hart.Hart.{Hart}
 use Rattle.guest_kernel.specs.declared.state.State.{State}
 use Rattle.guest_kernel.specs.declared.thread.Thread.{Thread}
 use Rattle.guest_kernel.specs.declared.thread.Thread.TheVariants.{Runs}
-use Rattle.guest_kernel.specs.Call.{After, Refusal, Written, not_runnable, number_of, argument_of, second_argument_of, third_argument_of, nothing_written, bytes_written, moved, written, written_by, minus, ENOSYS}
+use Rattle.guest_kernel.specs.Call.{After, Refusal, Written, not_runnable, a7, a0, a1, a2, bytes_written, moved, written, written_by, minus, ENOSYS}
 use Rattle.guest_kernel.specs.Instruction.{Effect, goes, calls, traps}
 use Rattle.guest_kernel.specs.Lone.{RunsAlone}
 use Rattle.guest_kernel.specs.Memory.{Memory, readable}
@@ -71,7 +71,7 @@ module _ (s : State) (log : List Answer) (alone : RunsAlone s) where
   }
   effect_goes_on calls =
       let w = written_by s.pages alone.hart in
-      cond_both (number_of alone.hart == 1) _ _ (GoesOn log)
+      cond_both (a7 alone.hart == 1) _ _ (GoesOn log)
       (λ _. record {
         after = _;
         is = refl;
@@ -79,8 +79,8 @@ module _ (s : State) (log : List Answer) (alone : RunsAlone s) where
         short = omega arith;
         rest = refl;
       })
-      (λ _. cond_both (number_of alone.hart == 2) _ _ (GoesOn log)
-      (λ _. answered_goes_on w.answer w.output (written_is_short s.pages (argument_of alone.hart) (second_argument_of alone.hart) (third_argument_of alone.hart)))
+      (λ _. cond_both (a7 alone.hart == 2) _ _ (GoesOn log)
+      (λ _. answered_goes_on w.answer w.output (written_is_short s.pages (a0 alone.hart) (a1 alone.hart) (a2 alone.hart)))
       (λ _. answered_goes_on (minus ENOSYS) [] (omega arith)))
   effect_goes_on (traps cause value) = record {
     after = _;

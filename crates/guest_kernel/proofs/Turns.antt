@@ -8,7 +8,7 @@ use Rattle.guest_kernel.specs.declared.thread.Thread.{Thread}
 use Rattle.guest_kernel.specs.declared.thread.Thread.TheVariants.{Runs, Waits, Gone}
 use Rattle.guest_kernel.specs.declared.state.State.{State}
 use Rattle.std.specs.Prelude.{◌==◌}
-use Rattle.guest_kernel.specs.Call.{After, Refusal, not_runnable, called, number_of}
+use Rattle.guest_kernel.specs.Call.{After, Refusal, not_runnable, called, a7}
 use Rattle.guest_kernel.specs.Instruction.{Effect, goes, calls, traps}
 use Rattle.guest_kernel.specs.State.{has_ended}
 use Rattle.guest_kernel.specs.Step.{effect}
@@ -29,7 +29,7 @@ by_row-log log false x y x' y' here below = below
 
 called-log : (s : State) (tid : Tid) (hart : Hart) (clear : ℕ) (log other : List Answer) → called s tid hart clear log ≡ relogged log (called s tid hart clear other)
 called-log s tid hart clear log other =
-    by_row-log log (number_of hart == 1) _ _ _ _ refl (by_row-log log (number_of hart == 2) _ _ _ _ refl refl)
+    by_row-log log (a7 hart == 1) _ _ _ _ refl (by_row-log log (a7 hart == 2) _ _ _ _ refl refl)
 
 by_effect-log : (s : State) (tid : Tid) (hart : Hart) (clear : ℕ) (log other : List Answer) (e : Effect) → by_effect s tid hart clear log e ≡ relogged log (by_effect s tid hart clear other e)
 by_effect-log s tid hart clear log other (goes after) = refl
@@ -56,7 +56,7 @@ CountsOnce s (Err refusal) = Unit {0}
 
 called_counts : (s : State) (tid : Tid) (hart : Hart) (clear : ℕ) (log : List Answer) → CountsOnce s (called s tid hart clear log)
 called_counts s tid hart clear log =
-    cond_both (number_of hart == 1) _ _ (CountsOnce s) (λ _. refl) (λ _. cond_both (number_of hart == 2) _ _ (CountsOnce s) (λ _. refl) (λ _. refl))
+    cond_both (a7 hart == 1) _ _ (CountsOnce s) (λ _. refl) (λ _. cond_both (a7 hart == 2) _ _ (CountsOnce s) (λ _. refl) (λ _. refl))
 
 by_effect_counts : (s : State) (tid : Tid) (hart : Hart) (clear : ℕ) (log : List Answer) (e : Effect) → CountsOnce s (by_effect s tid hart clear log e)
 by_effect_counts s tid hart clear log (goes after) = refl

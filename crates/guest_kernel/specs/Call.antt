@@ -1,6 +1,6 @@
 -- The kernel's calls (environment calls: RISC-V Unprivileged ISA 20191213, 2.8; their numbers and meanings are this
--- machine's own). a7 (x17) has the call's number, a0 to a2 (x10 to x12) its arguments, and a0 its answer. A row for
--- each call.
+-- machine's own). Register a7 (x17) has the call's number, a0 to a2 (x10 to x12) its arguments, and a0 its answer. A
+-- row for each call.
 use Rattle.std.specs.Prelude.{◌-◌, ◌^◌, ℕ, min, not, List, [], Option, Some, None, Result, Ok, ◌==◌, if◌then◌else◌}
 use Rattle.dp_base.specs.declared.answer.Answer.{Answer}
 use Rattle.dp_base.specs.declared.limits.TheConstants.{MAX_CALL_BYTES}
@@ -33,28 +33,28 @@ writing s output log = Ok (record { state = counted s; output = output; rest = l
 abbrev pub silent : State → List Answer → Result After Refusal
 silent s log = writing s [] log
 
--- ---- a call's number, arguments and answer
+-- ---- a call's arguments, number and answer
 
-abbrev pub number_of : Hart → ℕ
-number_of hart = register hart 17
+abbrev pub a0 : Hart → ℕ
+a0 hart = register hart 10
 
-abbrev pub argument_of : Hart → ℕ
-argument_of hart = register hart 10
+abbrev pub a1 : Hart → ℕ
+a1 hart = register hart 11
 
-abbrev pub second_argument_of : Hart → ℕ
-second_argument_of hart = register hart 11
+abbrev pub a2 : Hart → ℕ
+a2 hart = register hart 12
 
-abbrev pub third_argument_of : Hart → ℕ
-third_argument_of hart = register hart 12
+abbrev pub a7 : Hart → ℕ
+a7 hart = register hart 17
 
 abbrev pub minus : ℕ → ℕ
 minus n = 2 ^ 32 - n
 
--- no such file descriptor
+-- bad file descriptor
 abbrev pub EBADF : ℕ
 EBADF = 9
 
--- memory that the guest may not use so
+-- bad address
 abbrev pub EFAULT : ℕ
 EFAULT = 14
 
@@ -70,7 +70,7 @@ answered s tid hart clear value = with_thread s tid (Runs (next (with_register h
 
 -- 1, exit_all(code): the guest ends with the code; a0 stays
 abbrev pub exits_all : State → Tid → Hart → ℕ → State
-exits_all s tid hart clear = record (with_thread s tid (Runs (next hart) clear)) { end = ends.Exit (argument_of hart) }
+exits_all s tid hart clear = record (with_thread s tid (Runs (next hart) clear)) { end = ends.Exit (a0 hart) }
 
 -- what a write answers, and the bytes that it writes
 pub record Written : Type 0 where
@@ -85,11 +85,11 @@ abbrev pub bytes_written : ℕ → Option (List ℕ) → Written
 bytes_written count None = nothing_written (minus EFAULT)
 bytes_written count (Some bytes) = record { answer = count; output = bytes }
 
--- how many bytes a call moves that asks for so many
+-- how many of the bytes that are asked for one call moves
 abbrev pub moved : ℕ → ℕ
 moved len = min len MAX_CALL_BYTES
 
--- by its arguments, fd, addr and len
+-- by memory and the call's arguments
 abbrev pub written : Memory → (fd addr len : ℕ) → Written
 written memory fd addr len =
     if not (fd == 1) then nothing_written (minus EBADF)
@@ -97,7 +97,7 @@ written memory fd addr len =
     else bytes_written (moved len) (readable memory addr (moved len))
 
 abbrev pub written_by : Memory → Hart → Written
-written_by memory hart = written memory (argument_of hart) (second_argument_of hart) (third_argument_of hart)
+written_by memory hart = written memory (a0 hart) (a1 hart) (a2 hart)
 
 -- 2, write(fd, addr, len): the bytes from addr on are the turn's output
 abbrev pub writes : State → Tid → Hart → ℕ → List Answer → Result After Refusal
@@ -110,6 +110,6 @@ unknown s tid hart clear = answered s tid hart clear (minus ENOSYS)
 
 abbrev pub called : State → Tid → Hart → ℕ → List Answer → Result After Refusal
 called s tid hart clear log =
-    if number_of hart == 1 then silent (exits_all s tid hart clear) log
-    else if number_of hart == 2 then writes s tid hart clear log
+    if a7 hart == 1 then silent (exits_all s tid hart clear) log
+    else if a7 hart == 2 then writes s tid hart clear log
     else silent (unknown s tid hart clear) log

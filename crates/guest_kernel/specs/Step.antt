@@ -28,7 +28,7 @@ of_word hart (Some word) = of_instruction hart word (decoded word)
 abbrev pub effect : Hart → Memory → Effect
 effect hart memory = if hart.pc % 4 == 0 then of_word hart (fetch memory hart.pc) else traps misaligned hart.pc
 
--- what the code answers for an effect, and where it leaves the hart
+-- the answer of `exec` for an effect, and where it leaves the hart
 abbrev pub answer_for : Effect → Stepped
 answer_for (goes hart) = answers.Went
 answer_for calls = answers.Ecall

@@ -37,7 +37,7 @@ turn s tid log = if has_ended s.end then Err not_runnable else by_thread s tid l
 abbrev pub log_of : Option (Bor Answer) → List Answer
 log_of answer = option_to_list (option_copied answer)
 
--- the answer of the code for it
+-- the answer of `State::turn`
 abbrev pub turn_answer : List Answer → Result After Refusal → Turn
 turn_answer log (Ok after) = answers.Stepped (nat_lt (length after.rest) (length log))
 turn_answer log (Err not_runnable) = answers.NotRunnable

@@ -18,7 +18,7 @@ const ENTRY: u32 = 0x10054;
 
 const READ_AND_EXECUTE: u8 = 5;
 
-/// The image of a guest's file (System V ABI, ELF32).
+/// Returns the image of a guest's file (System V ABI, ELF32), or `NotBuilt` exactly if the file isn't a guest's.
 pub fn load(alloc: Global, file: &[u8]) -> Result<Image, ImageFault>
     ensures accepted { IfOk result (λ image. IsGuestFile file.now) }
     ensures image { IfOk result (λ image. IsImageOf file.now image) }

@@ -13,7 +13,7 @@ pub struct Hart {
 }
 
 impl Hart {
-    /// What a register reads as; x0 reads 0.
+    /// Reads a register; x0 reads 0.
     pub fn register(&self, number: u8) -> u32
         requires { number < 32 }
         ensures { result ≡ register self.now number }

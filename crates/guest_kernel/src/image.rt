@@ -38,7 +38,7 @@ impl Model for Segments {
 }
 
 impl Segments {
-    /// The one segment of an image.
+    /// Makes the segments of an image that has one.
     pub(crate) fn one(alloc: Global, segment: Segment) -> Result<Self, OutOfMemory>
         requires { IsSegment segment }
         ensures { IfOk result (λ segments. segments ≡ segment ∷ []) }
@@ -48,7 +48,7 @@ impl Segments {
         Ok(Segments { items })
     }
 
-    /// The segments, first to last.
+    /// Returns the segments, first to last.
     pub fn as_slice(&self) -> &[Segment]
         ensures segments { result.now ≡ self.now }
         ensures kept { AreSegments self.now }

@@ -16,7 +16,7 @@ use dp_base::limits::MAX_CALL_BYTES;
 use dp_base::{Answer, OutOfMemory, Tid};
 use std::alloc::Global;
 
-/// What a call for a turn came to. After the last three nothing has changed.
+/// The outcome of a call for a turn. After the last three nothing has changed.
 #[derive(Clone, Copy, Debug, PartialEq, Eq)]
 pub enum Turn {
     /// The turn was taken, and whether it used the answer.
@@ -29,15 +29,23 @@ pub enum Turn {
     NotRunnable,
 }
 
-// File descriptor 1.
+// The registers of a call: its arguments, the first of which becomes its answer, and its number.
+const A0: u8 = 10;
+
+const A1: u8 = 11;
+
+const A2: u8 = 12;
+
+const A7: u8 = 17;
+
+// A file descriptor.
 const STANDARD_OUTPUT: u32 = 1;
 
 const EXIT_ALL: u32 = 1;
 
 const WRITE: u32 = 2;
 
-// The answers of calls that fail: -9, no such file descriptor; -14, memory that the guest may not use so; -38, no
-// such call.
+// The answers of calls that fail: -9, bad file descriptor; -14, bad address; -38, no such call.
 const EBADF: u32 = 0xffff_fff7;
 
 const EFAULT: u32 = 0xffff_fff2;
@@ -45,7 +53,7 @@ const EFAULT: u32 = 0xffff_fff2;
 const ENOSYS: u32 = 0xffff_ffda;
 
 impl State {
-    /// One turn of a thread. What it writes is added to `out`. An `Err` changes nothing.
+    /// Takes one turn of a thread. What it writes is appended to `out`. An `Err` changes nothing.
     #[tactic(auto, unfolding(crate::specs::Turn::turn))]
     pub fn turn(
         &mut self,
@@ -80,7 +88,7 @@ impl State {
         Ok(Turn::Stepped { used: false })
     }
 
-    // The call at which a thread stands, all but the step's count. An `Err` changes nothing.
+    // Does the call at which a thread stands, and leaves the step to be counted. An `Err` changes nothing.
     fn call(
         &mut self,
         alloc: Global,
@@ -100,13 +108,13 @@ impl State {
         ensures err { OnErr result (self.new ≡ self.old) }
         ensures err_output { OnErr result (out.new.items ≡ out.old.items) }
     {
-        match hart.register(17) {
-            EXIT_ALL => self.end = End::Exit(hart.register(10)),
+        match hart.register(A7) {
+            EXIT_ALL => self.end = End::Exit(hart.register(A0)),
             WRITE => {
                 let answer = write(alloc, &self.pages, &hart, out)?;
-                hart.set_register(10, answer);
+                hart.set_register(A0, answer);
             }
-            _ => hart.set_register(10, ENOSYS),
+            _ => hart.set_register(A0, ENOSYS),
         }
         hart.pc = hart.pc.wrapping_add(4);
         self.threads.set(tid, Thread::Runs { hart, clear });
@@ -114,21 +122,21 @@ impl State {
     }
 }
 
-// The answer of a write by the arguments in these registers; what it writes is added to `out`.
+// Appends the bytes of a write to `out` and returns the call's answer. `hart` has its arguments.
 fn write(alloc: Global, pages: &Pages, hart: &Hart, out: &mut Vec<u8>) -> Result<u32, OutOfMemory>
     ensures answer { IfOk result (λ answer. answer ≡ (written_by pages.now hart.now).answer) }
     ensures output { OnOk result (out.new.items
         ≡ out.old.items ++ (written_by pages.now hart.now).output) }
     ensures err { OnErr result (out.new.items ≡ out.old.items) }
 {
-    if hart.register(10) != STANDARD_OUTPUT {
+    if hart.register(A0) != STANDARD_OUTPUT {
         return Ok(EBADF);
     }
-    if hart.register(12) == 0 {
+    if hart.register(A2) == 0 {
         return Ok(0);
     }
-    let count = hart.register(12).min(MAX_CALL_BYTES);
-    match pages.readable(alloc, hart.register(11), count)? {
+    let count = hart.register(A2).min(MAX_CALL_BYTES);
+    match pages.readable(alloc, hart.register(A1), count)? {
         Some(bytes) => {
             write_bytes(out, &bytes)?;
             Ok(count)
@@ -162,10 +170,10 @@ mod tests {
             held: Some(4),
         };
         let [fd, addr, len] = arguments;
-        hart.set_register(10, fd);
-        hart.set_register(11, addr);
-        hart.set_register(12, len);
-        hart.set_register(17, 2);
+        hart.set_register(A0, fd);
+        hart.set_register(A1, addr);
+        hart.set_register(A2, len);
+        hart.set_register(A7, 2);
         Ok(State {
             pages,
             heap: 0x14000,
@@ -207,11 +215,14 @@ mod tests {
             let mut out = Vec::from_slice(alloc, b"x")?;
             let turn = state.turn(alloc, Tid(1), None, &mut out)?;
             assert_eq!(rt; (turn, state.steps), (Turn::Stepped { used: false }, 1));
-            assert!(rt; out.len() == len + 1 && out[1..].starts_with(first));
+            let [b'x', written @ ..] = out.as_slice() else {
+                return Err("the bytes before stay".into());
+            };
+            assert!(rt; written.len() == len && written.starts_with(first));
             let Some(Thread::Runs { hart, clear }) = state.threads.get(Tid(1)) else {
                 return Err("thread 1 runs".into());
             };
-            assert_eq!(rt; (hart.register(10), hart.pc, *clear), (answer, 0x10004, 8));
+            assert_eq!(rt; (hart.register(A0), hart.pc, *clear), (answer, 0x10004, 8));
         }
         Ok(())
     }

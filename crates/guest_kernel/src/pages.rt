@@ -48,7 +48,7 @@ impl Model for Pages {
 }
 
 impl Pages {
-    /// No page.
+    /// Makes a table of no pages.
     pub fn new(alloc: Global) -> Self
         ensures { result ≡ [] }
     {
@@ -57,7 +57,7 @@ impl Pages {
         }
     }
 
-    /// How many pages are mapped.
+    /// Returns how many pages are mapped.
     pub fn pages(&self) -> u32
         ensures count { result ≡ length self.now }
         ensures kept { ArePages self.now }
@@ -85,14 +85,14 @@ impl Pages {
         Ok(())
     }
 
-    /// The flags of the page with this number, where one is mapped.
+    /// Returns the flags of the page with this number, or `None` if none is mapped.
     pub fn flags(&self, number: u32) -> Option<u8>
         ensures { result ≡ option_map (λ p. p.flags) (page_at self.now number) }
     {
         self.page(u64::from(number)).map(|page| page.flags)
     }
 
-    /// The 4,096 bytes of the page with this number, where one is mapped.
+    /// Returns the 4,096 bytes of the page with this number, or `None` if none is mapped.
     pub fn page_bytes(&self, number: u32) -> Option<&[u8]>
         ensures bytes { option_copied result ≡ option_map (λ p. p.bytes) (page_at self.now number) }
         ensures whole { IfSome result (λ bytes. length bytes.now ≡ PAGE_BYTES) }
@@ -103,7 +103,7 @@ impl Pages {
         }
     }
 
-    /// The word at an address, the lowest byte first; none where some byte of it may not be executed.
+    /// Returns the word at an address, the lowest byte first, or `None` if one of its bytes may not be executed.
     #[tactic(auto, unfolding(crate::specs::Memory::fetch))]
     pub fn fetch(&self, address: u32) -> Option<u32>
         ensures { result ≡ fetch self.now address }
@@ -129,7 +129,7 @@ impl Pages {
         }
     }
 
-    /// The bytes from an address on, so many; none where one of them may not be read.
+    /// Returns the `count` bytes from `address` on, or `None` if one of them may not be read.
     pub fn readable(
         &self,
         alloc: Global,

@@ -22,7 +22,7 @@ impl Model for SliceLog {
 }
 
 impl SliceLog {
-    /// An empty log.
+    /// Makes an empty log.
     pub fn new(alloc: Global) -> Self
         ensures { result ≡ [] }
     {
@@ -31,7 +31,7 @@ impl SliceLog {
         }
     }
 
-    /// Adds one at the end. An `Err` changes nothing.
+    /// Appends one slice. An `Err` changes nothing.
     pub fn put(&mut self, item: Slice) -> Result<(), OutOfMemory>
         ensures ok { OnOk result (self.new ≡ self.old ++ item ∷ []) }
         ensures err { OnErr result (self.new ≡ self.old) }
@@ -40,7 +40,7 @@ impl SliceLog {
         Ok(())
     }
 
-    /// The one at a place, which moves on by one; none exactly where the place is past the end, and then it stays.
+    /// Returns the slice at `at`, and moves `at` on by one. Returns `None` exactly if there is none; `at` then stays.
     pub fn next(&self, at: &mut usize) -> Option<&Slice>
         ensures item { option_copied result ≡ slice_get self.now at.old }
         ensures place { at.new ≡ at.old + (if is_some result then 1 else 0) }
@@ -50,7 +50,7 @@ impl SliceLog {
         Some(item)
     }
 
-    /// The slices, first to last.
+    /// Returns the slices, first to last.
     pub fn as_slice(&self) -> &[Slice]
         ensures { result.now ≡ self.now }
     {

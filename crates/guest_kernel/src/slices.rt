@@ -9,18 +9,18 @@ use crate::state::State;
 use dp_base::{Answer, OutOfMemory, Slice};
 use std::alloc::Global;
 
-/// Where a run of slices came to.
+/// How far a run of slices came.
 #[derive(Clone, Copy, Debug, PartialEq, Eq)]
 pub enum SliceRun {
     /// Each turn was taken, and each answer was used.
     Whole,
-    /// The first turn that isn't defined: so many slices were done before it, and so many steps of its own. Where
-    /// answers are left over: behind the last slice, at step 0.
+    /// The first turn that isn't defined comes behind so many whole slices, and so many steps of the next one. If
+    /// answers are left over, it comes behind the last slice, at step 0.
     Stops { slice: usize, step: u32 },
 }
 
 impl State {
-    /// Runs slices one after another, with a log of answers. What the guest writes is added to `out`. After `Stops`
+    /// Runs slices one after another, with a log of answers. What the guest writes is appended to `out`. After `Stops`
     /// and after an `Err` the state and `out` are those behind the turns before.
     pub fn run_slices(
         &mut self,

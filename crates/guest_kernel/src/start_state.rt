@@ -17,7 +17,7 @@ const READ_AND_WRITE: u8 = 6;
 
 const SP: u8 = 2;
 
-/// The state in which a guest starts: thread 1 at the entry with its stack pointer, all other registers 0.
+/// Makes the state in which a guest starts: thread 1 at the entry with its stack pointer, all other registers 0.
 pub fn start(alloc: Global, image: &Image) -> Result<State, OutOfMemory>
     ensures { IfOk result (λ state. state ≡ start_of image.now) }
 {

@@ -36,7 +36,7 @@ pub struct State {
 }
 
 impl State {
-    /// Whether the guest has ended.
+    /// Returns whether the guest has ended.
     pub fn ended(&self) -> bool
         ensures { result ≡ has_ended self.now.end }
     {

@@ -14,7 +14,7 @@ pub enum Instr {
     Ecall,
 }
 
-/// What a step of a hart came to.
+/// The outcome of a step of a hart.
 #[derive(Clone, Copy, Debug, PartialEq, Eq)]
 pub enum Stepped {
     /// The instruction is done.
@@ -44,7 +44,7 @@ fn immediate_i(word: u32) -> u32
     }
 }
 
-/// The instruction that a word encodes; none exactly where it is illegal.
+/// Returns the instruction that a word encodes, or `None` exactly if it is illegal.
 pub fn decode(word: u32) -> Option<Instr>
     ensures instruction { result ≡ decoded word }
     ensures operands { IfSome result AreOperands }
@@ -70,7 +70,7 @@ pub fn decode(word: u32) -> Option<Instr>
     None
 }
 
-/// One step of a hart. After `Ecall` and `Trap` the hart is unchanged.
+/// Takes one step of a hart. After `Ecall` and `Trap` the hart is unchanged.
 pub fn exec(hart: &mut Hart, pages: &Pages) -> Stepped
     ensures answer { result ≡ answer_for (effect hart.old pages.now) }
     ensures hart { hart.new ≡ hart_after (effect hart.old pages.now) hart.old }

@@ -39,7 +39,7 @@ impl Model for Threads {
 }
 
 impl Threads {
-    /// The one thread that a guest starts with.
+    /// Makes the threads of a guest that starts: this one.
     pub fn one(alloc: Global, thread: Thread) -> Result<Self, OutOfMemory>
         ensures { IfOk result (λ threads. threads ≡ thread ∷ []) }
     {
@@ -48,7 +48,7 @@ impl Threads {
         Ok(Threads { items })
     }
 
-    /// How many threads were made.
+    /// Returns how many threads were made.
     pub fn len(&self) -> usize
         ensures count { result ≡ length self.now }
         ensures few { result ≤ MAX_THREADS }
@@ -56,7 +56,7 @@ impl Threads {
         self.items.len()
     }
 
-    /// The thread with this number; none where no such thread was made.
+    /// Returns the thread with this number, or `None` if no such thread was made.
     pub fn get(&self, tid: Tid) -> Option<&Thread>
         ensures { option_copied result ≡ thread_at self.now tid }
     {

@@ -1,7 +1,6 @@
-use Rattle.std.proofs.Common.{◌≡◌, ℕ, List, [], ◌∷◌, ap, ◌∙◌}
-use Rattle.guest_kernel.specs.declared.image.Image.{Image}
+use Rattle.std.proofs.Common.{List, [], ◌∷◌, ap, ◌∙◌}
 use Rattle.guest_kernel.specs.declared.image.Segment.{Segment}
-use Rattle.guest_kernel.specs.Image.{IsImageOf, entry, mapped_whole}
+use Rattle.guest_kernel.specs.Image.{entry, mapped_whole}
 use Rattle.guest_kernel.specs.Segment.{heap_start}
 use Rattle.guest_kernel.specs.Start.{started}
 use Rattle.guest_kernel.proofs.laws.an_image_starts_as_its_file.Goals as goal
