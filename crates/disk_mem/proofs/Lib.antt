@@ -1,0 +1,4 @@
+pub mod Filled
+pub mod Keeps
+pub mod Named
+pub mod Spans

@@ -1,0 +1,83 @@
+-- What a read gives is one of the images that a crash may leave.
+use Rattle.std.proofs.Common.{◌≡◌, ◌⊎◌, inl, inr, true, false, ℕ, ◌+◌, ◌-◌, ◌<◌, ◌≤◌, max, List, [], ◌∷◌, ◌++◌, length, take, drop, replicate, get_or, refl, ◌∙◌, subst, arith, rules, length-append, length-take, length-drop}
+use Rattle.std.proofs.lemmas.List.{get_or-take, length-replicate, places}
+use Rattle.std.proofs.Math.ListN.{get_or-append}
+use Rattle.dp_base.specs.Field.{AreBytes}
+use Rattle.disk_model.specs.History.{Pending, History, IsOutside, IsImage, nothing_pending, write_pending}
+use Rattle.disk_model.specs.Known.{overwritten}
+use Rattle.disk_model.specs.Steps.{cut_pending}
+use Rattle.disk_model.specs.declared.world.Stream.TheVariants.{Out, Note}
+use Rattle.disk_mem.specs.declared.call.Call.{Call}
+use Rattle.disk_mem.specs.declared.call.Call.TheVariants.{Attach, Len, Read, Write, Cut, Sync, Emit}
+use Rattle.disk_mem.specs.Replay.{filled, start, after_call, replay}
+
+pub record Spans (p : Pending) (disk : List ℕ) : Type 0 where
+  pub no_shorter : p.least ≤ length disk
+  pub no_longer : length disk ≤ p.greatest
+  pub stays : (i : ℕ) → i < p.least → IsOutside p.ranges i → get_or disk i 0 ≡ get_or p.synced i 0
+
+length-filled : (at : ℕ) (disk : List ℕ) → length (filled at disk) ≡ max (length disk) at
+length-filled at disk = omega (arith, length-append disk (replicate (at - length disk) 0), length-replicate {A = ℕ} (at - length disk) 0)
+
+length-overwritten : (at : ℕ) (bytes disk : List ℕ) → at ≤ length disk → length (overwritten at bytes disk) ≡ max (length disk) (at + length bytes)
+length-overwritten at bytes disk within =
+    omega (arith, length-append (take at disk ++ bytes) (drop (at + length bytes) disk), length-append (take at disk) bytes, length-take at disk, length-drop (at + length bytes) disk)
+
+-- outside of its range a write leaves what was there
+overwritten-outside : (at : ℕ) (bytes disk : List ℕ) (i : ℕ) → at ≤ length disk → i < length disk → (i < at) ⊎ (at + length bytes ≤ i) → get_or (overwritten at bytes disk) i 0 ≡ get_or disk i 0
+overwritten-outside at bytes disk i within below (inl before) = search (rules, places)
+overwritten-outside at bytes disk i within below (inr behind) = search (rules, places)
+
+spans-write : (at : ℕ) (bytes : List ℕ) (p : Pending) (disk : List ℕ) → Spans p disk → Spans (write_pending at (length bytes) p) (overwritten at bytes (filled at disk))
+spans-write at bytes p disk is =
+    let long = length-filled at disk in
+    let within : at ≤ length (filled at disk) = omega (arith, long) in
+    let size = length-overwritten at bytes (filled at disk) within in
+    record {
+      no_shorter = omega (arith, long, size, is.no_shorter);
+      no_longer = omega (arith, long, size, is.no_longer);
+      stays = λ i below out.
+          overwritten-outside at bytes (filled at disk) i within (omega (arith, long, is.no_shorter, below)) out.0
+          ∙ get_or-append disk (replicate (at - length disk) 0) 0 i (omega (arith, is.no_shorter, below))
+          ∙ is.stays i below out.1;
+    }
+
+spans-failed-write : (at count : ℕ) (p : Pending) (disk : List ℕ) → Spans p disk → Spans (write_pending at count p) disk
+spans-failed-write at count p disk is = record { no_shorter = is.no_shorter; no_longer = omega (arith, is.no_longer); stays = λ i below out. is.stays i below out.1 }
+
+pub spans-synced : (disk : List ℕ) → Spans (nothing_pending disk) disk
+spans-synced disk = record { no_shorter = omega arith; no_longer = omega arith; stays = λ i below out. refl }
+
+spans-cut : (size : ℕ) (p : Pending) (disk : List ℕ) → Spans p disk → Spans (cut_pending size p) (take size disk)
+spans-cut size p disk is = record {
+  no_shorter = omega (arith, length-take size disk, is.no_shorter);
+  no_longer = omega (arith, length-take size disk, is.no_longer);
+  stays = λ i below out. get_or-take size disk i 0 (omega (arith, below)) ∙ is.stays i (omega (arith, below)) out;
+}
+
+spans-failed-cut : (size : ℕ) (p : Pending) (disk : List ℕ) → Spans p disk → Spans (cut_pending size p) disk
+spans-failed-cut size p disk is = record { no_shorter = omega (arith, is.no_shorter); no_longer = is.no_longer; stays = λ i below out. is.stays i (omega (arith, below)) out }
+
+spans-call : (call : Call) (h : History) → Spans h.pending h.disk → Spans (after_call call h).pending (after_call call h).disk
+spans-call (Attach ok) h is = is
+spans-call (Len ok) h is = is
+spans-call (Read at count ok) h is = is
+spans-call (Write at bytes true) h is = spans-write at bytes.items h.pending h.disk is
+spans-call (Write at bytes false) h is = spans-failed-write at (length bytes.items) h.pending h.disk is
+spans-call (Cut size true) h is = spans-cut size h.pending h.disk is
+spans-call (Cut size false) h is = spans-failed-cut size h.pending h.disk is
+spans-call (Sync true) h is = spans-synced h.disk
+spans-call (Sync false) h is = is
+spans-call (Emit Out piece count ok) h is = is
+spans-call (Emit Note piece count ok) h is = is
+
+spans-replay : (calls : List Call) (h : History) → Spans h.pending h.disk → Spans (replay h calls).pending (replay h calls).disk
+unfolding replay
+spans-replay [] h is = is
+spans-replay (call ∷ calls) h is = spans-replay calls (after_call call h) (spans-call call h is)
+
+pub read-is-image : (first : List ℕ) (calls : List Call) (now : History) (disk : List ℕ) → replay (start first) calls ≡ now → (replay (start first) calls).disk ≡ disk → AreBytes disk → IsImage now.pending disk
+read-is-image first calls now disk same is bytes =
+    let spans = spans-replay calls (start first) (spans-synced first) in
+    let here : Spans (replay (start first) calls).pending disk = subst (λ (d : List ℕ). Spans (replay (start first) calls).pending d) is spans in
+    subst (λ (h : History). IsImage h.pending disk) same (record { no_shorter = here.no_shorter; no_longer = here.no_longer; stays = here.stays; bytes = bytes })

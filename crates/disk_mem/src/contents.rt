@@ -1,0 +1,271 @@
+// What a world in memory holds.
+ghost use Rattle.std.specs.Prelude.{◌≡◌, ◌+◌, ◌≤◌, ℕ, List, [], min, length, take, drop, ◌-◌, ◌++◌, ◌∷◌, IfOk, OnOk, OnErr, true};
+ghost use Rattle.dp_base.specs.Field.{AreBytes};
+ghost use Rattle.disk_model.specs.History.{IsImage};
+ghost use Rattle.disk_model.specs.Known.{overwritten};
+ghost use Rattle.disk_model.specs.Steps.{emitted};
+ghost use Rattle.disk_mem.specs.Replay.{filled, start, stream_of, after_write, after_cut, after_call, replay};
+ghost use Rattle.disk_mem.specs.Contents.{IsQuiet};
+
+use crate::Call;
+use disk_model::Stream;
+use dp_base::OutOfMemory;
+use std::alloc::Global;
+use std::marker::Model;
+
+/// A disk, what two streams have got, and the record of all calls. The clauses see its history.
+///
+/// A change is recorded before it is made, and what it needs is allocated before that. So one that answers `OutOfMemory`
+/// changes nothing.
+#[derive(Drop)]
+pub struct Contents {
+    alloc: Global,
+    first: Vec<u8>,
+    disk: Vec<u8>,
+    sent: Vec<u8>,
+    noted: Vec<u8>,
+    calls: Vec<Call>,
+}
+
+impl Model for Contents {
+    ghost use Rattle.disk_model.specs.History.{History};
+    ghost use Rattle.disk_mem.specs.Replay.{start, replay};
+    ghost use Rattle.disk_mem.specs.Contents.{IsContentOf};
+
+    ghost Value = { History };
+
+    ghost view = { λ c. replay (start c.first.items) c.calls.items };
+
+    ghost invariant = { λ c. IsContentOf (replay (start c.first.items) c.calls.items) c.disk.items c.sent.items c.noted.items };
+}
+
+impl Contents {
+    /// An empty disk, and an empty record.
+    pub fn new(alloc: Global) -> Contents
+        ensures { result ≡ start [] }
+    {
+        Contents {
+            alloc,
+            first: Vec::new(alloc),
+            disk: Vec::new(alloc),
+            sent: Vec::new(alloc),
+            noted: Vec::new(alloc),
+            calls: Vec::new(alloc),
+        }
+    }
+
+    /// A disk with these bytes, and an empty record.
+    pub fn of_disk(alloc: Global, bytes: &[u8]) -> Result<Contents, OutOfMemory>
+        ensures { IfOk result (λ c. c ≡ start bytes.now) }
+    {
+        let first = bytes.to_vec(alloc)?;
+        let disk = bytes.to_vec(alloc)?;
+        Ok(Contents {
+            alloc,
+            first,
+            disk,
+            sent: Vec::new(alloc),
+            noted: Vec::new(alloc),
+            calls: Vec::new(alloc),
+        })
+    }
+
+    /// What a read of the whole disk gives. It is one of the images that a crash may leave now.
+    pub fn disk(&self) -> &[u8]
+        ensures whole { result.now ≡ self.now.disk }
+        ensures image { IsImage self.now.pending result.now }
+    {
+        let bytes = self.disk.as_slice();
+        are_bytes(bytes);
+        bytes
+    }
+
+    /// What a stream has got.
+    pub fn sent(&self, to: Stream) -> &[u8]
+        ensures { result.now ≡ stream_of to self.now }
+    {
+        match to {
+            Stream::Out => &self.sent,
+            Stream::Note => &self.noted,
+        }
+    }
+
+    /// The record of all calls, in order. The history is their replay over the bytes that the disk had first.
+    pub fn calls(&self) -> &[Call]
+        ensures { (first : List ℕ) × (self.now ≡ replay (start first) result.now) }
+    {
+        &self.calls
+    }
+
+    /// Copies bytes of the disk from an offset on into the start of a buffer. Returns how many.
+    pub fn copy_to(&self, at: u64, buf: &mut [u8]) -> usize
+        ensures count { result ≡ min (length buf.old) (length self.now.disk - at) }
+        ensures copied { buf.new ≡ take result (drop at self.now.disk) ++ drop result buf.old }
+    {
+        let start = (at as usize).min(self.disk.len());
+        let rest = &self.disk[start..];
+        let count = rest.len().min(buf.len());
+        buf[..count].copy_from_slice(&rest[..count]);
+        count
+    }
+
+    /// Records a call that leaves the disk and the streams as they are.
+    pub fn keep(&mut self, call: Call) -> Result<(), OutOfMemory>
+        requires { IsQuiet call self.old }
+        ensures ok { OnOk result (self.new ≡ after_call call self.old) }
+        ensures err { OnErr result (self.new ≡ self.old) }
+    {
+        push_call(&mut self.calls, call)?;
+        Ok(())
+    }
+
+    /// Writes bytes at an offset, behind zero bytes if it is past the end. If not `ok` it only records the write.
+    pub fn write(&mut self, at: u64, bytes: &[u8], ok: bool) -> Result<(), OutOfMemory>
+        ensures ok { OnOk result (self.new ≡ after_write at bytes.now ok self.old) }
+        ensures err { OnErr result (self.new ≡ self.old) }
+    {
+        let copy = bytes.to_vec(self.alloc)?;
+        let call = Call::Write {
+            at,
+            bytes: copy,
+            ok,
+        };
+        if ok {
+            overwrite(&mut self.disk, &mut self.calls, call, at, bytes)?;
+            return Ok(());
+        }
+        push_call(&mut self.calls, call)?;
+        Ok(())
+    }
+
+    /// Cuts the disk to a length. If not `ok` it only records the cut.
+    pub fn cut(&mut self, len: u64, ok: bool) -> Result<(), OutOfMemory>
+        ensures ok { OnOk result (self.new ≡ after_cut len ok self.old) }
+        ensures err { OnErr result (self.new ≡ self.old) }
+    {
+        push_call(&mut self.calls, Call::Cut { len, ok })?;
+        if ok {
+            self.disk.truncate(len as usize);
+        }
+        Ok(())
+    }
+
+    /// Sends the first bytes of a piece.
+    pub fn emit(
+        &mut self,
+        to: Stream,
+        piece: &[u8],
+        taken: usize,
+        ok: bool,
+    ) -> Result<(), OutOfMemory>
+        requires { taken ≤ length piece.now }
+        ensures ok { OnOk result (self.new ≡ emitted to piece.now taken self.old) }
+        ensures err { OnErr result (self.new ≡ self.old) }
+    {
+        let copy = piece.to_vec(self.alloc)?;
+        let call = Call::Emit {
+            to,
+            piece: copy,
+            taken,
+            ok,
+        };
+        match to {
+            Stream::Out => {
+                send(&mut self.sent, &mut self.calls, call, &piece[..taken])?;
+                Ok(())
+            }
+            Stream::Note => {
+                send(&mut self.noted, &mut self.calls, call, &piece[..taken])?;
+                Ok(())
+            }
+        }
+    }
+}
+
+// Puts a call at the end of a record.
+fn push_call(calls: &mut Vec<Call>, call: Call) -> Result<(), OutOfMemory>
+    ensures ok { OnOk result (calls.new.items ≡ calls.old.items ++ call ∷ []) }
+    ensures err { OnErr result (calls.new.items ≡ calls.old.items) }
+{
+    match calls.push(call) {
+        Ok(()) => Ok(()),
+        Err(_) => Err(OutOfMemory),
+    }
+}
+
+// A slice of u8 is of bytes.
+fn are_bytes(bytes: &[u8])
+    ensures { AreBytes bytes.now }
+{}
+
+// Writes bytes at an offset, behind zero bytes if it is past the end, and records the call.
+fn overwrite(
+    disk: &mut Vec<u8>,
+    calls: &mut Vec<Call>,
+    call: Call,
+    at: u64,
+    bytes: &[u8],
+) -> Result<(), OutOfMemory>
+    ensures recorded { OnOk result (calls.new.items ≡ calls.old.items ++ call ∷ []) }
+    ensures written { OnOk result (disk.new.items ≡ overwritten at bytes.now (filled at disk.old.items)) }
+    ensures no_call { OnErr result (calls.new.items ≡ calls.old.items) }
+    ensures no_byte { OnErr result (disk.new.items ≡ disk.old.items) }
+{
+    let start = at as usize;
+    let Some(end) = start.checked_add(bytes.len()) else {
+        return Err(OutOfMemory);
+    };
+    let len = disk.len();
+    fill_up(disk, end)?;
+    match push_call(calls, call) {
+        Ok(()) => {
+            write_within(disk, start, bytes);
+            Ok(())
+        }
+        Err(OutOfMemory) => {
+            disk.truncate(len);
+            Err(OutOfMemory)
+        }
+    }
+}
+
+// Sends bytes to a stream, and records the call.
+fn send(
+    stream: &mut Vec<u8>,
+    calls: &mut Vec<Call>,
+    call: Call,
+    bytes: &[u8],
+) -> Result<(), OutOfMemory>
+    ensures recorded { OnOk result (calls.new.items ≡ calls.old.items ++ call ∷ []) }
+    ensures sent { OnOk result (stream.new.items ≡ stream.old.items ++ bytes.now) }
+    ensures no_call { OnErr result (calls.new.items ≡ calls.old.items) }
+    ensures no_byte { OnErr result (stream.new.items ≡ stream.old.items) }
+{
+    let len = stream.len();
+    stream.extend_from_slice(bytes)?;
+    match push_call(calls, call) {
+        Ok(()) => Ok(()),
+        Err(OutOfMemory) => {
+            stream.truncate(len);
+            Err(OutOfMemory)
+        }
+    }
+}
+
+// Makes them at least this many, with zero bytes at the end.
+fn fill_up(content: &mut Vec<u8>, count: usize) -> Result<(), OutOfMemory>
+    ensures ok { OnOk result (content.new.items ≡ filled count content.old.items) }
+    ensures err { OnErr result (content.new.items ≡ content.old.items) }
+{
+    if content.len() < count {
+        content.resize(count, 0)?;
+    }
+    Ok(())
+}
+
+fn write_within(content: &mut Vec<u8>, start: usize, bytes: &[u8])
+    requires { start + length bytes.now ≤ length content.old.items }
+    ensures { content.new.items ≡ overwritten start bytes.now content.old.items }
+{
+    content[start..start + bytes.len()].copy_from_slice(bytes);
+}

@@ -1,0 +1,30 @@
+//! The outside of a recorder in memory: `MemWorld` is a disk and two output streams, `MemFiles` are files by name.
+//!
+//! Promises: a call fails by its number, as the `Fails` of its kind says, or since an allocation fails, and for no other
+//! reason; what stands after each call is known exactly, also after one that fails. A `MemWorld` keeps a record of all its
+//! calls, and its history is the replay of that record. Stands on `disk_model` for the traits that these meet.
+//!
+//! ```text
+//! let disk = Fails::At(CallNumbers::from_vec(numbers));      // the numbers are 3
+//! let mut world = MemWorld::new(alloc, disk, Fails::Never, 4096)?;
+//! world.attach("journal", true)?;                            // call 1
+//! let end = world.len()?;                                    // call 2
+//! if world.write_at(end, record).is_err() {                  // call 3: not one byte of it is written
+//!     return Ok(world.disk_fault_count());                   // 1
+//! }
+//! ```
+#![tactic(auto)]
+
+mod call;
+mod contents;
+mod counter;
+mod fails;
+mod mem_files;
+mod mem_world;
+mod named_file;
+
+pub use call::Call;
+pub use fails::{CallNumbers, Fails};
+pub use mem_files::MemFiles;
+pub use mem_world::MemWorld;
+pub use named_file::NamedFile;
