@@ -1,5 +1,4 @@
 pub mod Command
-pub mod Recording
 pub mod StatusNumber
-pub mod Fresh
-pub mod EpochRecord
+pub mod Running
+pub mod Answer

@@ -1,24 +1,20 @@
 //! The whole program as one call, `run`: from the words of a command and the world around it to a status.
 //!
-//! Promises (the contract of `run`): where it answers `Ok`, the disk reads as the journal of this guest with one
-//! epoch, which the machine's definition runs from the guest's start state to its end; each other status comes only
-//! for its own cause. Stands on `guest_kernel`, `disk_model` and `dp_base`.
+//! Promises (the contract of `run`): if it answers `Ok`, `StepLimit` or `JournalFull`, the disk reads as the journal of this
+//! guest with a chain of epochs from its start state, and what was sent is exactly that chain's output; after each other
+//! status what stands is named, and each comes only for its own cause. Stands on `recorder`, `guest_kernel` and
+//! `disk_model`.
 //!
 //! ```text
-//! let (world, status) = run(&rt, alloc, &words, guest, world);
+//! let (world, status) = run(&rt, alloc, &words, &mut files, world);
 //! ExitCode::from(status.number())
 //! ```
 #![tactic(auto)]
 
+mod answer;
 mod command;
-mod epoch;
-mod journal;
-mod recorder;
 mod status;
 mod top;
 
 pub use status::Status;
 pub use top::run;
-
-#[cfg(test)]
-mod tests;

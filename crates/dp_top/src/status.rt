@@ -4,15 +4,25 @@ ghost use Rattle.dp_top.specs.StatusNumber.{status_number};
 /// What a command came to.
 #[derive(Clone, Copy, Debug, PartialEq, Eq)]
 pub enum Status {
-    /// All is done.
+    /// The guest has ended.
     Ok,
     /// The words are no command.
     Usage,
+    /// The guest's file can't be read.
+    GuestFault,
     /// The guest's file is refused, with the fault's number.
     BadImage(u32),
     /// A call on the disk failed.
     DiskFault,
-    /// A growth was refused.
+    /// An emit failed.
+    OutputFault,
+    /// The journal's file has this many bytes already.
+    JournalInUse(u64),
+    /// The guest took this many steps, as many as it may, and hasn't ended.
+    StepLimit(u64),
+    /// The next record ends past the journal's room: the journal's end, and how many bytes are needed from there on.
+    JournalFull { end: u64, need: u64 },
+    /// An allocation failed.
     OutOfMemory,
 }
 
@@ -24,8 +34,13 @@ impl Status {
         match self {
             Status::Ok => 0,
             Status::Usage => 2,
+            Status::GuestFault => 3,
             Status::BadImage(_) => 4,
             Status::DiskFault => 6,
+            Status::OutputFault => 7,
+            Status::JournalInUse(_) => 8,
+            Status::StepLimit(_) => 11,
+            Status::JournalFull { .. } => 12,
             Status::OutOfMemory => 13,
         }
     }
