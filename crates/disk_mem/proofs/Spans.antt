@@ -10,6 +10,7 @@ use Rattle.disk_model.specs.declared.world.Stream.TheVariants.{Out, Note}
 use Rattle.disk_mem.specs.declared.call.Call.{Call}
 use Rattle.disk_mem.specs.declared.call.Call.TheVariants.{Attach, Len, Read, Write, Cut, Sync, Emit}
 use Rattle.disk_mem.specs.Replay.{filled, start, after_call, replay}
+use Rattle.disk_mem.specs.Recording.{Recording, recording}
 
 pub record Spans (p : Pending) (disk : List ℕ) : Type 0 where
   pub no_shorter : p.least ≤ length disk
@@ -62,8 +63,8 @@ spans-call : (call : Call) (h : History) → Spans h.pending h.disk → Spans (a
 spans-call (Attach ok) h is = is
 spans-call (Len ok) h is = is
 spans-call (Read at count ok) h is = is
-spans-call (Write at bytes true) h is = spans-write at bytes.items h.pending h.disk is
-spans-call (Write at bytes false) h is = spans-failed-write at (length bytes.items) h.pending h.disk is
+spans-call (Write at bytes true) h is = spans-write at bytes h.pending h.disk is
+spans-call (Write at bytes false) h is = spans-failed-write at (length bytes) h.pending h.disk is
 spans-call (Cut size true) h is = spans-cut size h.pending h.disk is
 spans-call (Cut size false) h is = spans-failed-cut size h.pending h.disk is
 spans-call (Sync true) h is = spans-synced h.disk
@@ -76,8 +77,8 @@ unfolding replay
 spans-replay [] h is = is
 spans-replay (call ∷ calls) h is = spans-replay calls (after_call call h) (spans-call call h is)
 
-pub read-is-image : (first : List ℕ) (calls : List Call) (now : History) (disk : List ℕ) → replay (start first) calls ≡ now → (replay (start first) calls).disk ≡ disk → AreBytes disk → IsImage now.pending disk
+pub read-is-image : (first : List ℕ) (calls : List Call) (now : Recording) (disk : List ℕ) → recording first calls ≡ now → (replay (start first) calls).disk ≡ disk → AreBytes disk → IsImage now.history.pending disk
 read-is-image first calls now disk same is bytes =
     let spans = spans-replay calls (start first) (spans-synced first) in
     let here : Spans (replay (start first) calls).pending disk = subst (λ (d : List ℕ). Spans (replay (start first) calls).pending d) is spans in
-    subst (λ (h : History). IsImage h.pending disk) same (record { no_shorter = here.no_shorter; no_longer = here.no_longer; stays = here.stays; bytes = bytes })
+    subst (λ (r : Recording). IsImage r.history.pending disk) same (record { no_shorter = here.no_shorter; no_longer = here.no_longer; stays = here.stays; bytes = bytes })

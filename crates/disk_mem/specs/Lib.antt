@@ -1,6 +1,6 @@
 pub mod Counted
 pub mod Fails
 pub mod Replay
-pub mod Contents
+pub mod Recording
 pub mod MemoryWorld
 pub mod MemoryFiles

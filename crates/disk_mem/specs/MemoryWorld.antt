@@ -1,10 +1,11 @@
 -- A world in memory, and what stands after each of its calls. This project's own.
-use Rattle.std.specs.Prelude.{◌≡◌, ℕ, ◌⊎◌, Bool, true, false, []}
+use Rattle.std.specs.Prelude.{◌≡◌, ℕ, ◌⊎◌, Bool, true, false, List, [], ◌∷◌, ◌++◌}
 use Rattle.disk_model.specs.History.{History}
+use Rattle.disk_mem.specs.declared.call.Call.{Call}
 use Rattle.disk_mem.specs.declared.fails.Fails.{Fails}
 use Rattle.disk_mem.specs.Counted.{counted}
 use Rattle.disk_mem.specs.Fails.{fails_at}
-use Rattle.disk_mem.specs.Replay.{start}
+use Rattle.disk_mem.specs.Replay.{start, after_call}
 
 pub record MemoryWorld : Type 0 where
   -- which calls on the disk fail, and which emits
@@ -12,8 +13,11 @@ pub record MemoryWorld : Type 0 where
   pub sink_fails : Fails
   -- how many bytes one emit takes at most
   pub piece : ℕ
+  -- the bytes that the disk had first, all calls since, and the history that they led to
+  pub first : List ℕ
+  pub calls : List Call
   pub history : History
-  -- how many calls on the disk and emits there were, and how many of them failed
+  -- how many calls on the disk and how many emits there were, and how many of them failed
   pub disk_calls : ℕ
   pub emits : ℕ
   pub disk_faults : ℕ
@@ -21,12 +25,14 @@ pub record MemoryWorld : Type 0 where
   -- whether some call failed since an allocation failed
   pub allocation_failed : Bool
 
--- before the first call
+-- before the first call, with an empty disk
 abbrev pub fresh : (fails sink_fails : Fails) → ℕ → MemoryWorld
 fresh fails sink_fails piece = record {
   fails = fails;
   sink_fails = sink_fails;
   piece = piece;
+  first = [];
+  calls = [];
   history = start [];
   disk_calls = 0;
   emits = 0;
@@ -35,41 +41,49 @@ fresh fails sink_fails piece = record {
   allocation_failed = false;
 }
 
--- whether the next call on the disk, or the next emit, fails by its number
+-- with these bytes on the disk, and an empty record
+abbrev pub restarted : List ℕ → MemoryWorld → MemoryWorld
+restarted bytes m = record m { first = bytes; calls = []; history = start bytes }
+
+-- with one call more in the record
+abbrev pub called : Call → MemoryWorld → MemoryWorld
+called call m = record m { calls = m.calls ++ call ∷ []; history = after_call call m.history }
+
+-- ---- calls on the disk
+
+-- whether the next one fails by its number
 abbrev pub fails_next : MemoryWorld → Bool
 fails_next m = fails_at m.fails (counted m.disk_calls)
+
+-- after one that was answered Ok
+abbrev pub did : Call → MemoryWorld → MemoryWorld
+did call m = record (called call m) { disk_calls = counted m.disk_calls }
+
+-- after one that failed by its number
+abbrev pub failed : Call → MemoryWorld → MemoryWorld
+failed call m = record (did call m) { disk_faults = counted m.disk_faults }
+
+-- after one for which an allocation failed
+abbrev pub unallocated : MemoryWorld → MemoryWorld
+unallocated m = record m { disk_calls = counted m.disk_calls; disk_faults = counted m.disk_faults; allocation_failed = true }
+
+-- after one that was answered Failed, which the record has so if it failed by its number
+abbrev pub IsFailed : Call → MemoryWorld → MemoryWorld → Type 0
+IsFailed call m new = ((fails_next m ≡ true) × (new ≡ failed call m)) ⊎ (new ≡ unallocated m)
+
+-- ---- emits
 
 abbrev pub emit_fails_next : MemoryWorld → Bool
 emit_fails_next m = fails_at m.sink_fails (counted m.emits)
 
--- ---- after a call on the disk
+abbrev pub did_emit : Call → MemoryWorld → MemoryWorld
+did_emit call m = record (called call m) { emits = counted m.emits }
 
--- one that was answered Ok, and led to this history
-abbrev pub did : History → MemoryWorld → MemoryWorld
-did after m = record m { history = after; disk_calls = counted m.disk_calls }
-
--- one that failed by its number, and led to this history
-abbrev pub failed : History → MemoryWorld → MemoryWorld
-failed after m = record (did after m) { disk_faults = counted m.disk_faults }
-
--- one that failed since an allocation failed, which leaves the history
-abbrev pub unallocated : MemoryWorld → MemoryWorld
-unallocated m = record (failed m.history m) { allocation_failed = true }
-
--- One that was answered Failed. By its number it leads to this history.
-abbrev pub IsFailed : History → MemoryWorld → MemoryWorld → Type 0
-IsFailed after m new = ((fails_next m ≡ true) × (new ≡ failed after m)) ⊎ (new ≡ unallocated m)
-
--- ---- after an emit
-
-abbrev pub did_emit : History → MemoryWorld → MemoryWorld
-did_emit after m = record m { history = after; emits = counted m.emits }
-
-abbrev pub failed_emit : History → MemoryWorld → MemoryWorld
-failed_emit after m = record (did_emit after m) { sink_faults = counted m.sink_faults }
+abbrev pub failed_emit : Call → MemoryWorld → MemoryWorld
+failed_emit call m = record (did_emit call m) { sink_faults = counted m.sink_faults }
 
 abbrev pub unallocated_emit : MemoryWorld → MemoryWorld
-unallocated_emit m = record (failed_emit m.history m) { allocation_failed = true }
+unallocated_emit m = record m { emits = counted m.emits; sink_faults = counted m.sink_faults; allocation_failed = true }
 
-abbrev pub IsFailedEmit : History → MemoryWorld → MemoryWorld → Type 0
-IsFailedEmit after m new = ((emit_fails_next m ≡ true) × (new ≡ failed_emit after m)) ⊎ (new ≡ unallocated_emit m)
+abbrev pub IsFailedEmit : Call → MemoryWorld → MemoryWorld → Type 0
+IsFailedEmit call m new = ((emit_fails_next m ≡ true) × (new ≡ failed_emit call m)) ⊎ (new ≡ unallocated_emit m)

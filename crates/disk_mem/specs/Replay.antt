@@ -1,5 +1,5 @@
 -- The history of a world in memory: the replay of its calls over the bytes that its disk had first. This project's own.
-use Rattle.std.specs.Prelude.{ℕ, ◌-◌, Bool, true, false, List, [], ◌∷◌, ◌++◌, length, take, replicate}
+use Rattle.std.specs.Prelude.{ℕ, ◌-◌, true, false, List, [], ◌∷◌, ◌++◌, length, take, replicate}
 use Rattle.disk_model.specs.declared.world.Stream.{Stream}
 use Rattle.disk_model.specs.declared.world.Stream.TheVariants.{Out, Note}
 use Rattle.disk_model.specs.History.{History, nothing_pending}
@@ -21,28 +21,18 @@ abbrev pub stream_of : Stream → History → List ℕ
 stream_of Out h = h.sent
 stream_of Note h = h.noted
 
--- Behind each call. The flag says whether the call was answered Ok, or failed by its number.
-
-abbrev pub after_write : (at : ℕ) → List ℕ → Bool → History → History
-after_write at bytes true h = written at (length bytes) (overwritten at bytes (filled at h.disk)) h
-after_write at bytes false h = written at (length bytes) h.disk h
-
-abbrev pub after_cut : ℕ → Bool → History → History
-after_cut size true h = truncated size (take size h.disk) h
-after_cut size false h = truncated size h.disk h
-
-abbrev pub after_sync : Bool → History → History
-after_sync true h = record (passed h) { pending = nothing_pending h.disk }
-after_sync false h = passed h
-
+-- Behind each call. One that failed by its number wrote, cut or sent nothing, but what it meant to write or cut is pending.
 abbrev pub after_call : Call → History → History
 after_call (Attach ok) h = h
 after_call (Len ok) h = h
 after_call (Read at count ok) h = h
-after_call (Write at bytes ok) h = after_write at bytes.items ok h
-after_call (Cut size ok) h = after_cut size ok h
-after_call (Sync ok) h = after_sync ok h
-after_call (Emit to piece taken ok) h = emitted to piece.items taken h
+after_call (Write at bytes true) h = written at (length bytes) (overwritten at bytes (filled at h.disk)) h
+after_call (Write at bytes false) h = written at (length bytes) h.disk h
+after_call (Cut size true) h = truncated size (take size h.disk) h
+after_call (Cut size false) h = truncated size h.disk h
+after_call (Sync true) h = record (passed h) { pending = nothing_pending h.disk }
+after_call (Sync false) h = passed h
+after_call (Emit to piece taken ok) h = emitted to piece taken h
 
 -- behind all of them
 unfoldable pub replay : History → List Call → History

@@ -1,5 +1,6 @@
 // One call, as a record keeps it.
 use disk_model::Stream;
+use dp_base::Bytes;
 
 /// A call on a `MemWorld`. `ok` is `false` if the call failed by its number.
 #[derive(Debug, Drop)]
@@ -19,7 +20,7 @@ pub enum Call {
     /// A write at an offset, and its bytes. One that failed wrote none of them.
     Write {
         at: u64,
-        bytes: Vec<u8>,
+        bytes: Bytes,
         ok: bool,
     },
     /// A cut to a length, in bytes. One that failed cut nothing.
@@ -33,7 +34,7 @@ pub enum Call {
     /// An emit of a piece, and how many of its bytes were taken: 0 if it failed.
     Emit {
         to: Stream,
-        piece: Vec<u8>,
+        piece: Bytes,
         taken: usize,
         ok: bool,
     },

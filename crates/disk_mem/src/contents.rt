@@ -1,19 +1,19 @@
 // What a world in memory holds.
-ghost use Rattle.std.specs.Prelude.{◌≡◌, ◌+◌, ◌≤◌, ℕ, List, [], min, length, take, drop, ◌-◌, ◌++◌, ◌∷◌, IfOk, OnOk, OnErr, true};
+ghost use Rattle.std.specs.Prelude.{◌≡◌, ◌+◌, ◌≤◌, [], min, length, take, drop, ◌-◌, ◌++◌, ◌∷◌, IfOk, OnOk, OnErr};
 ghost use Rattle.dp_base.specs.Field.{AreBytes};
 ghost use Rattle.disk_model.specs.History.{IsImage};
 ghost use Rattle.disk_model.specs.Known.{overwritten};
-ghost use Rattle.disk_model.specs.Steps.{emitted};
-ghost use Rattle.disk_mem.specs.Replay.{filled, start, stream_of, after_write, after_cut, after_call, replay};
-ghost use Rattle.disk_mem.specs.Contents.{IsQuiet};
+ghost use Rattle.disk_mem.specs.declared.call.Call.TheVariants.{Write, Cut, Emit};
+ghost use Rattle.disk_mem.specs.Replay.{filled, start, stream_of, replay};
+ghost use Rattle.disk_mem.specs.Recording.{started, recorded, IsQuiet};
 
 use crate::Call;
 use disk_model::Stream;
-use dp_base::OutOfMemory;
+use dp_base::{Bytes, OutOfMemory};
 use std::alloc::Global;
 use std::marker::Model;
 
-/// A disk, what two streams have got, and the record of all calls. The clauses see its history.
+/// A disk, what two streams have got, and the record of all calls. Clauses see the record, and the history.
 ///
 /// A change is recorded before it is made, and what it needs is allocated before that. So one that answers `OutOfMemory`
 /// changes nothing.
@@ -28,13 +28,12 @@ pub struct Contents {
 }
 
 impl Model for Contents {
-    ghost use Rattle.disk_model.specs.History.{History};
     ghost use Rattle.disk_mem.specs.Replay.{start, replay};
-    ghost use Rattle.disk_mem.specs.Contents.{IsContentOf};
+    ghost use Rattle.disk_mem.specs.Recording.{Recording, recording, IsContentOf};
 
-    ghost Value = { History };
+    ghost Value = { Recording };
 
-    ghost view = { λ c. replay (start c.first.items) c.calls.items };
+    ghost view = { λ c. recording c.first.items c.calls.items };
 
     ghost invariant = { λ c. IsContentOf (replay (start c.first.items) c.calls.items) c.disk.items c.sent.items c.noted.items };
 }
@@ -42,7 +41,7 @@ impl Model for Contents {
 impl Contents {
     /// An empty disk, and an empty record.
     pub fn new(alloc: Global) -> Contents
-        ensures { result ≡ start [] }
+        ensures { result ≡ started [] }
     {
         Contents {
             alloc,
@@ -56,7 +55,7 @@ impl Contents {
 
     /// A disk with these bytes, and an empty record.
     pub fn of_disk(alloc: Global, bytes: &[u8]) -> Result<Contents, OutOfMemory>
-        ensures { IfOk result (λ c. c ≡ start bytes.now) }
+        ensures { IfOk result (λ c. c ≡ started bytes.now) }
     {
         let first = bytes.to_vec(alloc)?;
         let disk = bytes.to_vec(alloc)?;
@@ -72,8 +71,8 @@ impl Contents {
 
     /// What a read of the whole disk gives. It is one of the images that a crash may leave now.
     pub fn disk(&self) -> &[u8]
-        ensures whole { result.now ≡ self.now.disk }
-        ensures image { IsImage self.now.pending result.now }
+        ensures whole { result.now ≡ self.now.history.disk }
+        ensures image { IsImage self.now.history.pending result.now }
     {
         let bytes = self.disk.as_slice();
         are_bytes(bytes);
@@ -82,7 +81,7 @@ impl Contents {
 
     /// What a stream has got.
     pub fn sent(&self, to: Stream) -> &[u8]
-        ensures { result.now ≡ stream_of to self.now }
+        ensures { result.now ≡ stream_of to self.now.history }
     {
         match to {
             Stream::Out => &self.sent,
@@ -92,15 +91,16 @@ impl Contents {
 
     /// The record of all calls, in order. The history is their replay over the bytes that the disk had first.
     pub fn calls(&self) -> &[Call]
-        ensures { (first : List ℕ) × (self.now ≡ replay (start first) result.now) }
+        ensures record { result.now ≡ self.now.calls }
+        ensures replay { self.now.history ≡ replay (start self.now.first) result.now }
     {
         &self.calls
     }
 
     /// Copies bytes of the disk from an offset on into the start of a buffer. Returns how many.
     pub fn copy_to(&self, at: u64, buf: &mut [u8]) -> usize
-        ensures count { result ≡ min (length buf.old) (length self.now.disk - at) }
-        ensures copied { buf.new ≡ take result (drop at self.now.disk) ++ drop result buf.old }
+        ensures count { result ≡ min (length buf.old) (length self.now.history.disk - at) }
+        ensures copied { buf.new ≡ take result (drop at self.now.history.disk) ++ drop result buf.old }
     {
         let start = (at as usize).min(self.disk.len());
         let rest = &self.disk[start..];
@@ -111,8 +111,8 @@ impl Contents {
 
     /// Records a call that leaves the disk and the streams as they are.
     pub fn keep(&mut self, call: Call) -> Result<(), OutOfMemory>
-        requires { IsQuiet call self.old }
-        ensures ok { OnOk result (self.new ≡ after_call call self.old) }
+        requires { IsQuiet call self.old.history }
+        ensures ok { OnOk result (self.new ≡ recorded call self.old) }
         ensures err { OnErr result (self.new ≡ self.old) }
     {
         push_call(&mut self.calls, call)?;
@@ -121,10 +121,10 @@ impl Contents {
 
     /// Writes bytes at an offset, behind zero bytes if it is past the end. If not `ok` it only records the write.
     pub fn write(&mut self, at: u64, bytes: &[u8], ok: bool) -> Result<(), OutOfMemory>
-        ensures ok { OnOk result (self.new ≡ after_write at bytes.now ok self.old) }
+        ensures ok { OnOk result (self.new ≡ recorded (Write at bytes.now ok) self.old) }
         ensures err { OnErr result (self.new ≡ self.old) }
     {
-        let copy = bytes.to_vec(self.alloc)?;
+        let copy = copy_of(self.alloc, bytes)?;
         let call = Call::Write {
             at,
             bytes: copy,
@@ -140,7 +140,7 @@ impl Contents {
 
     /// Cuts the disk to a length. If not `ok` it only records the cut.
     pub fn cut(&mut self, len: u64, ok: bool) -> Result<(), OutOfMemory>
-        ensures ok { OnOk result (self.new ≡ after_cut len ok self.old) }
+        ensures ok { OnOk result (self.new ≡ recorded (Cut len ok) self.old) }
         ensures err { OnErr result (self.new ≡ self.old) }
     {
         push_call(&mut self.calls, Call::Cut { len, ok })?;
@@ -159,10 +159,10 @@ impl Contents {
         ok: bool,
     ) -> Result<(), OutOfMemory>
         requires { taken ≤ length piece.now }
-        ensures ok { OnOk result (self.new ≡ emitted to piece.now taken self.old) }
+        ensures ok { OnOk result (self.new ≡ recorded (Emit to piece.now taken ok) self.old) }
         ensures err { OnErr result (self.new ≡ self.old) }
     {
-        let copy = piece.to_vec(self.alloc)?;
+        let copy = copy_of(self.alloc, piece)?;
         let call = Call::Emit {
             to,
             piece: copy,
@@ -180,6 +180,12 @@ impl Contents {
             }
         }
     }
+}
+
+fn copy_of(alloc: Global, bytes: &[u8]) -> Result<Bytes, OutOfMemory>
+    ensures { IfOk result (λ copy. copy ≡ bytes.now) }
+{
+    Ok(Bytes::from_vec(bytes.to_vec(alloc)?))
 }
 
 // Puts a call at the end of a record.

@@ -22,6 +22,8 @@ mod fails;
 mod mem_files;
 mod mem_world;
 mod named_file;
+#[cfg(test)]
+mod tests;
 
 pub use call::Call;
 pub use fails::{CallNumbers, Fails};

@@ -5,8 +5,9 @@ ghost use Rattle.disk_model.specs.History.{IsImage};
 ghost use Rattle.disk_model.specs.Known.{known_disk, IfKnown, IsLength, IsWritten};
 ghost use Rattle.disk_model.specs.Steps.{IsRead, Wrote, Truncated, Synced, Emitted, emitted};
 ghost use Rattle.disk_mem.specs.declared.fails.Fails.TheVariants.{Never};
-ghost use Rattle.disk_mem.specs.Replay.{start, stream_of, replay, after_write, after_cut, after_sync};
-ghost use Rattle.disk_mem.specs.MemoryWorld.{fresh, fails_next, emit_fails_next, did, did_emit, IsFailed, IsFailedEmit};
+ghost use Rattle.disk_mem.specs.declared.call.Call.TheVariants.{Attach, Len, Read, Write, Cut, Sync, Emit};
+ghost use Rattle.disk_mem.specs.Replay.{start, stream_of, replay};
+ghost use Rattle.disk_mem.specs.MemoryWorld.{fresh, restarted, fails_next, emit_fails_next, did, did_emit, IsFailed, IsFailedEmit};
 
 use crate::contents::Contents;
 use crate::counter::Counter;
@@ -37,7 +38,7 @@ impl Model for MemWorld {
 
     ghost Value = { MemoryWorld };
 
-    ghost view = { λ m. record { fails = m.disk.fails; sink_fails = m.sink.fails; piece = m.piece; history = m.contents; disk_calls = m.disk.calls; emits = m.sink.calls; disk_faults = m.disk.faults; sink_faults = m.sink.faults; allocation_failed = m.allocation_failed } };
+    ghost view = { λ m. record { fails = m.disk.fails; sink_fails = m.sink.fails; piece = m.piece; first = m.contents.first; calls = m.contents.calls; history = m.contents.history; disk_calls = m.disk.calls; emits = m.sink.calls; disk_faults = m.disk.faults; sink_faults = m.sink.faults; allocation_failed = m.allocation_failed } };
 
     ghost invariant = { λ m. 0 < m.piece };
 }
@@ -59,7 +60,7 @@ impl MemWorld {
 
     /// The same world with these bytes on its disk, nothing pending, an empty record, and nothing sent.
     pub fn of_disk(self, alloc: Global, bytes: &[u8]) -> Result<MemWorld, OutOfMemory>
-        ensures { IfOk result (λ world. world ≡ record self { history = start bytes.now }) }
+        ensures { IfOk result (λ world. world ≡ restarted bytes.now self) }
     {
         let contents = Contents::of_disk(alloc, bytes)?;
         Ok(MemWorld {
@@ -88,7 +89,8 @@ impl MemWorld {
 
     /// The record of all calls, in order. The history is their replay over the bytes that the disk had first.
     pub fn calls(&self) -> &[Call]
-        ensures { (first : List ℕ) × (self.now.history ≡ replay (start first) result.now) }
+        ensures record { result.now ≡ self.now.calls }
+        ensures replay { self.now.history ≡ replay (start self.now.first) result.now }
     {
         self.contents.calls()
     }
@@ -145,8 +147,8 @@ impl World for MemWorld {
         ensures planned { IsTrue (fails_next self.old) → IsErr result }
         ensures only { IsErr result → (fails_next self.old ≡ true) ⊎ (self.new.allocation_failed ≡ true) }
         ensures never { self.old.fails ≡ Never → IsErr result → IsTrue self.new.allocation_failed }
-        ensures ok { OnOk result (self.new ≡ did self.old.history self.old) }
-        ensures err { OnErr result (IsFailed self.old.history self.old self.new) }
+        ensures ok { OnOk result (self.new ≡ did (Attach true) self.old) }
+        ensures err { OnErr result (IsFailed (Attach false) self.old self.new) }
     {
         // The disk is there from the start.
         let ok = self.disk.count_call();
@@ -171,8 +173,8 @@ impl World for MemWorld {
         ensures planned { IsTrue (fails_next self.old) → IsErr result }
         ensures only { IsErr result → (fails_next self.old ≡ true) ⊎ (self.new.allocation_failed ≡ true) }
         ensures never { self.old.fails ≡ Never → IsErr result → IsTrue self.new.allocation_failed }
-        ensures ok { OnOk result (self.new ≡ did self.old.history self.old) }
-        ensures err { OnErr result (IsFailed self.old.history self.old self.new) }
+        ensures ok { OnOk result (self.new ≡ did (Len true) self.old) }
+        ensures err { OnErr result (IsFailed (Len false) self.old self.new) }
     {
         let ok = self.disk.count_call();
         if self.contents.keep(Call::Len { ok }).is_err() {
@@ -198,8 +200,8 @@ impl World for MemWorld {
         ensures planned { IsTrue (fails_next self.old) → IsErr result }
         ensures only { IsErr result → (fails_next self.old ≡ true) ⊎ (self.new.allocation_failed ≡ true) }
         ensures never { self.old.fails ≡ Never → IsErr result → IsTrue self.new.allocation_failed }
-        ensures ok { OnOk result (self.new ≡ did self.old.history self.old) }
-        ensures err { OnErr result (IsFailed self.old.history self.old self.new) }
+        ensures ok { OnOk result (self.new ≡ did (Read at (length buf.old) true) self.old) }
+        ensures err { OnErr result (IsFailed (Read at (length buf.old) false) self.old self.new) }
     {
         let ok = self.disk.count_call();
         let count = buf.len();
@@ -224,8 +226,8 @@ impl World for MemWorld {
         ensures planned { IsTrue (fails_next self.old) → IsErr result }
         ensures only { IsErr result → (fails_next self.old ≡ true) ⊎ (self.new.allocation_failed ≡ true) }
         ensures never { self.old.fails ≡ Never → IsErr result → IsTrue self.new.allocation_failed }
-        ensures ok { OnOk result (self.new ≡ did (after_write at bytes.now true self.old.history) self.old) }
-        ensures err { OnErr result (IsFailed (after_write at bytes.now false self.old.history) self.old self.new) }
+        ensures ok { OnOk result (self.new ≡ did (Write at bytes.now true) self.old) }
+        ensures err { OnErr result (IsFailed (Write at bytes.now false) self.old self.new) }
     {
         let ok = self.disk.count_call();
         if self.contents.write(at, bytes, ok).is_err() {
@@ -248,8 +250,8 @@ impl World for MemWorld {
         ensures planned { IsTrue (fails_next self.old) → IsErr result }
         ensures only { IsErr result → (fails_next self.old ≡ true) ⊎ (self.new.allocation_failed ≡ true) }
         ensures never { self.old.fails ≡ Never → IsErr result → IsTrue self.new.allocation_failed }
-        ensures ok { OnOk result (self.new ≡ did (after_cut len true self.old.history) self.old) }
-        ensures err { OnErr result (IsFailed (after_cut len false self.old.history) self.old self.new) }
+        ensures ok { OnOk result (self.new ≡ did (Cut len true) self.old) }
+        ensures err { OnErr result (IsFailed (Cut len false) self.old self.new) }
     {
         let ok = self.disk.count_call();
         if self.contents.cut(len, ok).is_err() {
@@ -273,8 +275,8 @@ impl World for MemWorld {
         ensures planned { IsTrue (fails_next self.old) → IsErr result }
         ensures only { IsErr result → (fails_next self.old ≡ true) ⊎ (self.new.allocation_failed ≡ true) }
         ensures never { self.old.fails ≡ Never → IsErr result → IsTrue self.new.allocation_failed }
-        ensures ok { OnOk result (self.new ≡ did (after_sync true self.old.history) self.old) }
-        ensures err { OnErr result (IsFailed (after_sync false self.old.history) self.old self.new) }
+        ensures ok { OnOk result (self.new ≡ did (Sync true) self.old) }
+        ensures err { OnErr result (IsFailed (Sync false) self.old self.new) }
     {
         let ok = self.disk.count_call();
         if self.contents.keep(Call::Sync { ok }).is_err() {
@@ -300,8 +302,8 @@ impl World for MemWorld {
         ensures planned { IsTrue (emit_fails_next self.old) → IsErr result }
         ensures only { IsErr result → (emit_fails_next self.old ≡ true) ⊎ (self.new.allocation_failed ≡ true) }
         ensures never { self.old.sink_fails ≡ Never → IsErr result → IsTrue self.new.allocation_failed }
-        ensures ok { OnOk result (self.new ≡ did_emit (emitted to bytes.now (min self.old.piece (length bytes.now)) self.old.history) self.old) }
-        ensures err { OnErr result (IsFailedEmit (emitted to bytes.now 0 self.old.history) self.old self.new) }
+        ensures ok { OnOk result (self.new ≡ did_emit (Emit to bytes.now (min self.old.piece (length bytes.now)) true) self.old) }
+        ensures err { OnErr result (IsFailedEmit (Emit to bytes.now 0 false) self.old self.new) }
     {
         let ok = self.sink.count_call();
         let taken = if ok {

@@ -11,5 +11,5 @@ returns-clause-history c =
     let bytes = c.args.bytes.now in
     let old = c.args.self.now.history in
     let disk = overwritten at bytes (filled at old.disk) in
-    let wrote : c.write.new.self ≡ written at (length bytes) disk old = search rules in
-    (c.write.new.self, refl, (disk, wrote, λ within. ap (λ (l : List ℕ). overwritten at bytes l) (filled-within at old.disk within)))
+    let wrote : c.write.new.self.history ≡ written at (length bytes) disk old = search rules in
+    (c.write.new.self.history, refl, (disk, wrote, λ within. ap (λ (l : List ℕ). overwritten at bytes l) (filled-within at old.disk within)))
