@@ -18,3 +18,10 @@ mod top;
 
 pub use status::Status;
 pub use top::run;
+
+#[cfg(test)]
+mod guests;
+#[cfg(test)]
+mod recording_tests;
+#[cfg(test)]
+mod tests;

@@ -1,8 +1,9 @@
-//! The program: records the guest of three instructions that it carries with it, on a disk in memory that can't
-//! fail, and prints how many bytes the journal has. It ends with the status's number.
+//! The program: records the guest of three instructions that it carries with it, on a disk in memory that can't fail, and
+//! prints how many bytes the journal has. It ends with the status's number.
 #![tactic(auto)]
 
-use disk_model::{Failed, Fails, MemWorld, World};
+use disk_mem::{Fails, MemFiles, MemWorld, NamedFile};
+use disk_model::{Failed, World};
 use dp_base::OutOfMemory;
 use dp_top::{Status, run};
 use std::alloc::Global;
@@ -19,6 +20,9 @@ const GUEST: [u8; 96] = [
     0x00, 0x10, 0x00, 0x00, 0x13, 0x05, 0x70, 0x00, 0x93, 0x08, 0x10, 0x00, 0x73, 0x00, 0x00, 0x00,
 ];
 
+// The most bytes that one emit takes.
+const PIECE: u32 = 4096;
+
 fn main(rt: HostRuntime) -> ExitCode {
     let (length, status) = match record_guest(&rt, rt.alloc()) {
         Ok(recorded) => recorded,
@@ -29,17 +33,23 @@ fn main(rt: HostRuntime) -> ExitCode {
     };
     match println!(rt; "{length}") {
         Ok(()) => ExitCode::from(status.number()),
-        Err(_) => ExitCode::FAILURE,
+        Err(_) => ExitCode::from(Status::OutputFault.number()),
     }
 }
 
-// Records the guest in memory. Answers how long the journal is, and the status.
+// Records the guest in memory. Returns how long the journal is, and the status.
 fn record_guest<R>(rt: &R, alloc: Global) -> Result<(Result<u64, Failed>, Status), OutOfMemory> {
     let mut words = Vec::new(alloc);
     for word in ["dpcli", "record", "g", "j"] {
         words.push(String::from_str(alloc, word)?)?;
     }
-    let world = MemWorld::new(alloc, Fails::Never)?;
-    let (mut world, status) = run(rt, alloc, &words, &GUEST, world);
+    let mut named = Vec::new(alloc);
+    named.push(NamedFile {
+        name: String::from_str(alloc, "g")?,
+        bytes: GUEST.to_vec(alloc)?,
+    })?;
+    let mut files = MemFiles::new(named, Fails::Never);
+    let world = MemWorld::new(alloc, Fails::Never, Fails::Never, PIECE)?;
+    let (mut world, status) = run(rt, alloc, &words, &mut files, world);
     Ok((world.len(), status))
 }
