@@ -1,5 +1,5 @@
 -- What a recorded call does to the history, and to what is held beside the record.
-use Rattle.std.proofs.Common.{◌≡◌, Bool, true, false, ℕ, List, [], ◌∷◌, ◌++◌, length, take, refl, sym, ◌∙◌, ap, subst}
+use Rattle.std.proofs.Common.{◌≡◌, Bool, true, false, ℕ, List, [], ◌∷◌, ◌++◌, take, refl, sym, ◌∙◌, ap, subst}
 use Rattle.disk_model.specs.History.{History}
 use Rattle.disk_model.specs.Known.{overwritten}
 use Rattle.disk_model.specs.declared.world.Stream.TheVariants.{Out, Note}

@@ -1,5 +1,5 @@
 // Files in memory, for tests and for the program.
-ghost use Rattle.std.specs.Prelude.{◌≡◌, ◌≤◌, ◌⊎◌, ◌↔◌, List, [], Some, None, IfOk, OnOk, IsOk, IsErrOf, IsTrue, length, take, true, bytes_eq, string_bytes};
+ghost use Rattle.std.specs.Prelude.{◌≡◌, ◌≤◌, ◌⊎◌, Some, None, IfOk, OnOk, IsErrOf, IsTrue, length, take, true, bytes_eq, string_bytes};
 ghost use Rattle.std.specs.List.{find};
 ghost use Rattle.std.specs.Option.{option_copied, option_map};
 ghost use Rattle.disk_model.specs.declared.files.TheConstants.{MAX_FETCH_BYTES};

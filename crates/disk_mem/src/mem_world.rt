@@ -1,9 +1,9 @@
 // A world in memory, for tests and for the program.
-ghost use Rattle.std.specs.Prelude.{◌≡◌, ◌<◌, ◌≤◌, ◌⊎◌, ℕ, List, length, min, is_ok, Some, IsErr, IsOk, IfOk, OnOk, OnErr, IsTrue, true, false};
+ghost use Rattle.std.specs.Prelude.{◌≡◌, ◌<◌, ◌≤◌, ◌⊎◌, length, min, is_ok, Some, IsErr, IfOk, OnOk, OnErr, IsTrue, true, false};
 ghost use Rattle.disk_model.specs.Counts.{Rose};
 ghost use Rattle.disk_model.specs.History.{IsImage};
-ghost use Rattle.disk_model.specs.Known.{known_disk, IfKnown, IsLength, IsWritten};
-ghost use Rattle.disk_model.specs.Steps.{IsRead, Wrote, Truncated, Synced, Emitted, emitted};
+ghost use Rattle.disk_model.specs.Known.{IfKnown, IsWritten};
+ghost use Rattle.disk_model.specs.Steps.{IsRead, Wrote, Truncated, Synced, Emitted};
 ghost use Rattle.disk_mem.specs.declared.fails.Fails.TheVariants.{Never};
 ghost use Rattle.disk_mem.specs.declared.call.Call.TheVariants.{Attach, Len, Read, Write, Cut, Sync, Emit};
 ghost use Rattle.disk_mem.specs.Replay.{start, stream_of, replay};

@@ -1,5 +1,4 @@
-use Rattle.std.proofs.Common.{◌≡◌, ◌∙◌, ◌++◌, ◌∷◌, [], ap, List, Bool, true, false}
-use Rattle.disk_mem.specs.declared.call.Call.{Call}
+use Rattle.std.proofs.Common.{◌∙◌, ◌++◌, ◌∷◌, [], ap, Bool, true, false}
 use Rattle.disk_mem.specs.declared.call.Call.TheVariants.{Cut}
 use Rattle.disk_mem.proofs.Keeps.{led, holds, holds-cut, holds-failed-cut}
 use Rattle.disk_mem.proofs.contents.Contents.cut.Goals as goal

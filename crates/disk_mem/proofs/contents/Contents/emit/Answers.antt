@@ -1,4 +1,4 @@
-use Rattle.std.proofs.Common.{◌≡◌, ◌∙◌, ◌++◌, ◌∷◌, [], ap, List, ℕ}
+use Rattle.std.proofs.Common.{◌∙◌, ◌++◌, ◌∷◌, [], ap, List, ℕ}
 use Rattle.disk_model.specs.declared.world.Stream.{Stream}
 use Rattle.disk_model.specs.declared.world.Stream.TheVariants.{Out, Note}
 use Rattle.disk_mem.specs.declared.call.Call.TheVariants.{Emit}

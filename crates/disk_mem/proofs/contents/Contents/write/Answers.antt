@@ -1,5 +1,4 @@
-use Rattle.std.proofs.Common.{◌≡◌, ◌∙◌, ◌++◌, ◌∷◌, [], ap, List, ℕ, Bool, true, false}
-use Rattle.disk_mem.specs.declared.call.Call.{Call}
+use Rattle.std.proofs.Common.{◌∙◌, ◌++◌, ◌∷◌, [], ap, List, ℕ, Bool, true, false}
 use Rattle.disk_mem.specs.declared.call.Call.TheVariants.{Write}
 use Rattle.disk_mem.proofs.Keeps.{led, holds, holds-write, holds-failed-write}
 use Rattle.disk_mem.proofs.contents.Contents.write.Goals as goal
