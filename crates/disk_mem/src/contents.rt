@@ -218,6 +218,7 @@ fn overwrite(
     ensures no_byte { OnErr result (disk.new.items ≡ disk.old.items) }
 {
     let start = at as usize;
+    // No memory holds more bytes than a `usize` counts.
     let Some(end) = start.checked_add(bytes.len()) else {
         return Err(OutOfMemory);
     };

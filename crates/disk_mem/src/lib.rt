@@ -1,9 +1,9 @@
 //! The outside of a recorder in memory: `MemWorld` is a disk and two output streams, `MemFiles` are files by name.
 //!
-//! Promises: a call fails by its number, as the `Fails` of its kind says, since an allocation fails, or, if it is a fetch,
-//! since no file has the name, and for no other reason. What stands after each call is known exactly, also after one that
-//! fails. A `MemWorld` keeps a record of all its calls, and its history is the replay of that record. Stands on
-//! `disk_model` for the traits that these meet, and on `dp_base`.
+//! Promises: a call on a `MemWorld` fails only by its number, as the `Fails` of its kind says, or with `allocation_failed`
+//! true from then on. A fetch fails only by its number or at a name that no file has, or it answers `OutOfMemory`. What
+//! stands after each call is known exactly, also after one that fails. A `MemWorld` keeps a record of all its calls, and its
+//! history is the replay of that record. Stands on `disk_model` for the traits that these meet, and on `dp_base`.
 //!
 //! ```text
 //! let disk = Fails::At(CallNumbers::from_vec(numbers));      // the numbers are 3
