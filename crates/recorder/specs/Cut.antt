@@ -13,5 +13,5 @@ epoch_of e = record { slices = e.slices; answers = e.answers }
 
 pub record IsCutFrom (start : State) (bounds : Bounds) (r : EpochRun) : Type 0 where
   pub runs : RunsTo start (epoch_of r.epoch) r.end r.out
-  pub cut : IsCut bounds (epoch_of r.epoch) r.end r.out
+  pub cut : IsCut start bounds (epoch_of r.epoch) r.end r.out
   pub alone : RunsAlone r.end

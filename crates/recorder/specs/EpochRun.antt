@@ -1,9 +1,10 @@
 -- An epoch of a guest whose one thread runs, as the recorder cuts it. This project's own.
-use Rattle.std.specs.Prelude.{◌≡◌, ◌⊎◌, ◌<◌, ◌≤◌, ◌+◌, ℕ, Bool, true, List, [], ◌++◌, length, Ok, ◌||◌, nat_le}
-use Rattle.std.specs.List.{AllByRecursion}
+use Rattle.std.specs.Prelude.{◌≡◌, ◌⊎◌, ◌<◌, ◌≤◌, ◌+◌, ◌/◌, ◌%◌, ℕ, zero, suc, Bool, true, false, List, [], ◌∷◌, ◌++◌, length, replicate, Ok, ◌||◌, nat_le}
+use Rattle.dp_base.specs.declared.slice.Slice.{Slice}
 use Rattle.dp_base.specs.Journal.{Epoch, IsBody, IsEpoch, epoch_body, steps_of}
 use Rattle.dp_base.specs.declared.limits.TheConstants.{EPOCH_END_BYTES, MAX_CALL_BYTES}
 use Rattle.guest_kernel.specs.declared.state.State.{State}
+use Rattle.guest_kernel.specs.Call.{After}
 use Rattle.guest_kernel.specs.Lone.{RunsAlone}
 use Rattle.guest_kernel.specs.Slices.{at, turns, run}
 use Rattle.guest_kernel.specs.Start.{first_thread}
@@ -14,22 +15,45 @@ use Rattle.recorder.specs.declared.bounds.Bounds.{Bounds}
 abbrev pub ends_epoch : State → List ℕ → Bool
 ends_epoch s output = has_ended s.end || nat_le EPOCH_END_BYTES (length output)
 
--- Within its bounds: so many steps at most, each slice of so many at most, its record fits, and it ends only where it must.
-pub record IsCutWithin (most slice : ℕ) (e : Epoch) (end : State) (output : List ℕ) : Type 0 where
+-- so many steps of the guest's one thread, as one slice
+abbrev pub of_steps : ℕ → Slice
+of_steps n = record { tid = first_thread; steps = n }
+
+-- the slice of the steps that are left over, if any are
+abbrev pub rest_of : ℕ → List Slice
+rest_of zero = []
+rest_of (suc n) = of_steps (suc n) ∷ []
+
+-- so many steps in slices of one length: as many whole ones as there are, and the rest as one
+unfoldable pub sliced : (slice steps : ℕ) → List Slice
+sliced slice steps = replicate (steps / slice) (of_steps slice) ++ rest_of (steps % slice)
+
+-- The one epoch that starts in this state, by its bounds: its steps in slices of one length, up to the first place where it
+-- must end. That is where it has as many steps as it may, where the guest has ended, or where it has written enough.
+pub record IsCutWithin (start : State) (most slice : ℕ) (e : Epoch) (end : State) (output : List ℕ) : Type 0 where
   pub is_epoch : IsEpoch e
   pub fits : IsBody (epoch_body e)
+  pub slices : e.slices ≡ sliced slice (steps_of e.slices)
+  pub answers : e.answers ≡ []
   pub few_steps : steps_of e.slices ≤ most
-  pub short_slices : AllByRecursion (λ s. s.steps ≤ slice) e.slices
   pub little_output : length output < EPOCH_END_BYTES + MAX_CALL_BYTES
   pub stops : (steps_of e.slices ≡ most) ⊎ (ends_epoch end output ≡ true)
+  -- after fewer steps it goes on
+  pub goes_on : (k : ℕ) → 0 < k → k < steps_of e.slices → (there : After) → run (sliced slice k) (at start [] []) ≡ Ok there
+      → ends_epoch there.state there.output ≡ false
 
-abbrev pub IsCut : Bounds → Epoch → State → List ℕ → Type 0
-IsCut bounds e end output = IsCutWithin bounds.steps bounds.slice e end output
+abbrev pub IsCut : State → Bounds → Epoch → State → List ℕ → Type 0
+IsCut start bounds e end output = IsCutWithin start bounds.steps bounds.slice e end output
 
 -- it runs from this state to that one, which writes this
 pub record RunsTo (start : State) (e : Epoch) (end : State) (output : List ℕ) : Type 0 where
   pub ran : run e.slices (at start [] e.answers) ≡ Ok (at end output [])
   pub counted : end.steps ≡ start.steps + steps_of e.slices
+
+-- so many turns of the thread are defined, and after them the epoch goes on; what was written before them counts too
+abbrev pub TurnsGoOn : State → List ℕ → ℕ → Type 0
+TurnsGoOn before output i = (mid : After)
+    × (turns 0 i first_thread (at before [] []) ≡ Ok mid) × (mid.rest ≡ []) × (ends_epoch mid.state (output ++ mid.output) ≡ false)
 
 -- turns of the thread, at most so many, up to where an epoch ends; what was written before them counts too
 pub record IsSliceRun (before : State) (output : List ℕ) (most steps : ℕ) (after : State) (output_after : List ℕ) : Type 0 where
@@ -42,3 +66,4 @@ pub record IsSliceRun (before : State) (output : List ℕ) (most steps : ℕ) (a
   pub counted : after.steps ≡ before.steps + steps
   pub little : length output_after < EPOCH_END_BYTES + MAX_CALL_BYTES
   pub stops : (steps ≡ most) ⊎ (ends_epoch after output_after ≡ true)
+  pub goes_on : (i : ℕ) → 0 < i → i < steps → TurnsGoOn before output i

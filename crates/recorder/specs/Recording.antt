@@ -23,7 +23,7 @@ epoch_steps options s = min options.epoch (options.limit - s.steps)
 -- an epoch from this state to that one, as the options cut it
 pub record IsNext (options : Options) (s : State) (e : Epoch) (end : State) (output : List ℕ) : Type 0 where
   pub ran : run e.slices (at s [] e.answers) ≡ Ok (at end output [])
-  pub cut : IsCutWithin (epoch_steps options s) options.slice e end output
+  pub cut : IsCutWithin s (epoch_steps options s) options.slice e end output
 
 -- each of them from the end of the one before
 abbrev pub EachIsNext : Options → State → List Epoch → Type 0

@@ -1,4 +1,6 @@
-use Rattle.std.proofs.Common.{◌≡◌, ◌++◌, ◌-◌, ◌⊎◌, inl, inr, true, List, ℕ, [], refl, sym, ap, ◌∙◌, subst, arith}
+use Rattle.std.proofs.Common.{◌≡◌, ◌++◌, ◌-◌, ◌⊎◌, inl, inr, true, false, List, ℕ, [], sym, ap, ◌∙◌, subst, arith}
+use Rattle.std.specs.Prelude.{◌<◌, ◌≤◌, min}
+use Rattle.std.proofs.lemmas.Bool.{cases_lt}
 use Rattle.dp_base.specs.declared.answer.Answer.{Answer}
 use Rattle.dp_base.specs.declared.slice.Slice.{Slice}
 use Rattle.guest_kernel.specs.declared.state.State.{State}
@@ -17,6 +19,14 @@ slices-init c =
     (subst (λ (xs : List Slice). EpochSoFar start c.args.bounds xs c.args.bounds.steps start []) (sym c.new-slices.ensures)
     (no_slice start c.args.bounds c.requires.alone (none_run start)))
 
+-- the lesser of two numbers is one of them
+least : (a b n : ℕ) → n ≡ min a b → (n ≡ a) ⊎ (n ≡ b)
+least a b n is = of_cases (cases_lt a b)
+  where
+    of_cases : (a < b) ⊎ (b ≤ a) → (n ≡ a) ⊎ (n ≡ b)
+    of_cases (inl below) = inl (omega (arith, is, below))
+    of_cases (inr no_less) = inr (omega (arith, is, no_less))
+
 pub slices-preserved : goal.slices-preserved
 slices-preserved c =
     let l = c.slices in
@@ -24,9 +34,11 @@ slices-preserved c =
     let steps = c.in_ok-steps.steps in
     let s' = c.run_slice.new.state in
     let most = c.min.result in
-    let ran = c.a_slice_more.ensures c.args.start l.slices first_thread steps (at l.state l.out.items []) (at s' more.written []) l.invariant.ran more.turned refl in
-    let next_ = slice_more c.args.start c.args.bounds l.slices l.left most steps l.state s' l.out.items c.run_slice.new.out.items l.invariant more
-    (omega (arith, c.min.ensures)) (omega (arith, c.min.ensures)) ran (c.a_lone_thread_goes_on.ensures.slice s' more.alone) (c.turns_are_a_slice.ensures.steps first_thread (at s' [] [])) in
+    let going : ends_epoch l.state l.out.items ≡ false = ap (ends_epoch l.state) (sym c.deref.ensures.value) ∙ sym c.must_end.ensures ∙ c.if-not-must_end.true in
+    let next_ = slice_more c.args.start c.args.bounds l.slices l.left l.state l.out.items l.invariant (omega arith) going
+    (λ i there. c.a_slice_more.ensures c.args.start l.slices first_thread i (at l.state l.out.items []) there l.invariant.ran) (c.turns_are_a_slice.ensures.end first_thread)
+    most steps s' c.run_slice.new.out.items more (omega (arith, c.min.ensures)) (omega (arith, c.min.ensures)) (least l.left c.args.bounds.slice most c.min.ensures)
+    (c.a_lone_thread_goes_on.ensures.slice s' more.alone) (c.turns_are_a_slice.ensures.steps first_thread (at s' [] [])) in
     subst (λ (xs : List Slice). EpochSoFar c.args.start c.args.bounds xs (l.left - steps) c.end_slice.new.self c.run_slice.new.out.items) (sym c.in_ok-put.ensures.ok)
     (subst (λ (t : State). EpochSoFar c.args.start c.args.bounds (l.slices ++ one_slice first_thread steps) (l.left - steps) t c.run_slice.new.out.items) (sym c.end_slice.ensures) next_)
 

@@ -20,7 +20,7 @@ use Rattle.recorder.proofs.recording.record_epochs.Goals as goal
 is_next : (options : Options) (s : State) (bounds : Bounds) (r : EpochRun) → bounds.steps ≡ epoch_steps options s → bounds.slice ≡ options.slice → IsCutFrom s bounds r → IsNext options s (epoch_of r.epoch) r.end r.out
 is_next options s bounds r steps slice is = record {
   ran = is.runs.ran;
-  cut = subst (λ n. IsCutWithin n options.slice (epoch_of r.epoch) r.end r.out) steps (subst (λ n. IsCutWithin bounds.steps n (epoch_of r.epoch) r.end r.out) slice is.cut);
+  cut = subst (λ n. IsCutWithin s n options.slice (epoch_of r.epoch) r.end r.out) steps (subst (λ n. IsCutWithin s bounds.steps n (epoch_of r.epoch) r.end r.out) slice is.cut);
 }
 
 pub returns-in_err-journal-clause-recorded : goal.returns-in_err-journal-clause-recorded
