@@ -2,3 +2,4 @@ pub mod OnDisk
 pub mod Sends
 pub mod Slicing
 pub mod Rounds
+pub mod OneEpoch
