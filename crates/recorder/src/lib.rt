@@ -27,6 +27,7 @@ mod device;
 mod epoch;
 mod frame;
 mod journal;
+pub mod laws;
 mod options;
 mod record_fault;
 mod recording;
