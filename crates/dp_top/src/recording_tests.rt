@@ -6,6 +6,7 @@ use disk_mem::{Call, CallNumbers, Fails, MemWorld};
 use disk_model::Stream;
 use guest_kernel::{End, laws, load, start};
 use recorder::{Options, RecordFault, Report, record_};
+use std::alloc::Global;
 use std::test::Fail;
 
 // The steps of an epoch and of the recording, and the journal's room.
@@ -31,27 +32,51 @@ const LIMIT: u64 = 1_000_000_000;
 
 const ROOM: u64 = 1 << 30;
 
-// What a recording of a guest comes to.
+// What a recording came to, and what it left.
+#[derive(Drop)]
+struct Seen {
+    answer: Result<Report, RecordFault>,
+    journal: Vec<u8>,
+    sent: Vec<u8>,
+    // A letter for each call, in order.
+    calls: String,
+}
+
+// A recording of a guest on a disk some of whose calls fail, with an output some of whose emits fail.
 fn recorded(
     rt: &HostRuntime,
     guest: &[u8],
     options: Options,
-    world: MemWorld,
-) -> Result<(MemWorld, Result<Report, RecordFault>), Fail> {
+    disk: Fails,
+    sink: Fails,
+    piece: u32,
+) -> Result<Seen, Fail>
+    requires { 0 < piece }
+{
     let alloc = rt.alloc();
     laws::an_image_starts_as_its_file();
     let image = load(alloc, guest)?;
     let state = start(alloc, &image)?;
-    Ok(record_(rt, alloc, world, guest, state, options))
+    let world = MemWorld::new(alloc, disk, sink, piece)?;
+    let (world, answer) = record_(rt, alloc, world, guest, state, options);
+    look_at(alloc, &world, answer)
 }
 
-fn never(rt: &HostRuntime) -> Result<MemWorld, Fail> {
-    Ok(MemWorld::new(rt.alloc(), Fails::Never, Fails::Never, 4096)?)
+fn look_at(
+    alloc: Global,
+    world: &MemWorld,
+    answer: Result<Report, RecordFault>,
+) -> Result<Seen, Fail> {
+    Ok(Seen {
+        answer,
+        journal: world.bytes().to_vec(alloc)?,
+        sent: world.sent(Stream::Out).to_vec(alloc)?,
+        calls: letters(alloc, world.calls())?,
+    })
 }
 
-// A letter for each call, in order.
-fn letters(rt: &HostRuntime, calls: &[Call]) -> Result<String, Fail> {
-    let mut text = String::new(rt.alloc());
+fn letters(alloc: Global, calls: &[Call]) -> Result<String, Fail> {
+    let mut text = String::new(alloc);
     for call in calls {
         text.push_str(match call {
             Call::Attach { .. } => "a",
@@ -66,92 +91,142 @@ fn letters(rt: &HostRuntime, calls: &[Call]) -> Result<String, Fail> {
     Ok(text)
 }
 
+// The call with this number fails.
+fn at(alloc: Global, number: u64) -> Result<Fails, Fail> {
+    Ok(Fails::At(CallNumbers::from_vec([number].to_vec(alloc)?)))
+}
+
 #[test]
 fn nine_epochs(rt: HostRuntime) -> Result<(), Fail> {
-    let (world, answer) = recorded(&rt, &WRITES, options(1, LIMIT, ROOM), never(&rt)?)?;
-    let report = Report {
+    let all = Report {
         epochs: 9,
         squashes: 0,
         steps: 9,
         sent: 3,
         end: End::Exit(0),
     };
-    assert_eq!(rt; answer, Ok(report));
-    assert_eq!(rt; world.bytes().len(), 314);
-    assert_eq!(rt; world.sent(Stream::Out), b"hi\n".as_slice());
-    // The length, the header's three writes, and four calls an epoch. The sixth sends its output behind them.
-    let calls = letters(&rt, world.calls())?;
+    let seen = recorded(
+        &rt,
+        &WRITES,
+        options(1, LIMIT, ROOM),
+        Fails::Never,
+        Fails::Never,
+        4096,
+    )?;
+    assert_eq!(rt; seen.answer, Ok(all));
     assert_eq!(rt;
-        calls.as_str(),
+        (seen.journal.len(), seen.sent.as_slice()),
+        (314, b"hi\n".as_slice())
+    );
+    // The length, the header's three writes, and four calls an epoch. The sixth sends its output behind them.
+    assert_eq!(rt;
+        seen.calls.as_str(),
         "lwswswswswswswswswswswswswswswsewswswswswsws"
     );
+    Ok(())
+}
+
+#[test]
+fn one_epoch(rt: HostRuntime) -> Result<(), Fail> {
+    let all = Report {
+        epochs: 1,
+        squashes: 0,
+        steps: 9,
+        sent: 3,
+        end: End::Exit(0),
+    };
+    // In pieces of two bytes.
+    let seen = recorded(
+        &rt,
+        &WRITES,
+        options(20_000, LIMIT, ROOM),
+        Fails::Never,
+        Fails::Never,
+        2,
+    )?;
+    assert_eq!(rt; seen.answer, Ok(all));
+    assert_eq!(rt;
+        (seen.journal.len(), seen.sent.as_slice()),
+        (154, b"hi\n".as_slice())
+    );
+    assert_eq!(rt; seen.calls.as_str(), "lwswswswswsee");
+    Ok(())
+}
+
+// The guest of three steps, by the recording's limit and the journal's room: its answer, and the journal's length.
+#[test]
+fn limits_and_rooms(rt: HostRuntime) -> Result<(), Fail> {
+    let ended = Ok(Report {
+        epochs: 1,
+        squashes: 0,
+        steps: 3,
+        sent: 0,
+        end: End::Exit(7),
+    });
+    let full = |end, need| Err(RecordFault::JournalFull { end, need });
+    let cases = [
+        (
+            options(20_000, 2, ROOM),
+            Err(RecordFault::StepLimit(2)),
+            126,
+        ),
+        (options(20_000, 3, ROOM), ended, 126),
+        (options(20_000, LIMIT, 126), ended, 126),
+        (options(20_000, LIMIT, 125), full(106, 20), 106),
+        (options(20_000, LIMIT, 105), full(0, 106), 0),
+    ];
+    for (options, answer, len) in cases {
+        let seen = recorded(&rt, &EXITS, options, Fails::Never, Fails::Never, 4096)?;
+        assert_eq!(rt; (seen.answer, seen.journal.len()), (answer, len));
+    }
+    Ok(())
+}
+
+// At a limit of two steps the epoch has one slice, of thread 1 and 2 steps.
+#[test]
+fn a_slice_at_the_limit(rt: HostRuntime) -> Result<(), Fail> {
+    let seen = recorded(
+        &rt,
+        &EXITS,
+        options(20_000, 2, ROOM),
+        Fails::Never,
+        Fails::Never,
+        4096,
+    )?;
+    let slices = seen.journal.get(111..121);
+    assert_eq!(rt; slices, Some([1, 0, 0, 0, 1, 0, 2, 0, 0, 0].as_slice()));
+    Ok(())
+}
+
+// Nine epochs of one step, whose sixth sends three pieces of one byte. Its record is in the journal by then.
+#[test]
+fn each_emit_fails(rt: HostRuntime) -> Result<(), Fail> {
+    let sent = [b"".as_slice(), b"h", b"hi"];
+    for (number, sent) in (1..=3).zip(sent) {
+        for fails in [at(rt.alloc(), number)?, Fails::From(number)] {
+            let seen = recorded(
+                &rt,
+                &WRITES,
+                options(1, LIMIT, ROOM),
+                Fails::Never,
+                fails,
+                1,
+            )?;
+            assert_eq!(rt; seen.answer, Err(RecordFault::OutputFault), "emit {number}");
+            assert_eq!(rt; (seen.sent.as_slice(), seen.journal.len()), (sent, 254));
+        }
+    }
     // All at once.
-    let (world, answer) = recorded(&rt, &WRITES, options(20_000, LIMIT, ROOM), never(&rt)?)?;
-    assert_eq!(rt;
-        answer,
-        Ok(Report {
-            epochs: 1,
-            ..report
-        })
-    );
-    assert_eq!(rt; world.bytes().len(), 154);
-    Ok(())
-}
-
-#[test]
-fn step_limits(rt: HostRuntime) -> Result<(), Fail> {
-    let (world, answer) = recorded(&rt, &EXITS, options(20_000, 2, ROOM), never(&rt)?)?;
-    assert_eq!(rt; answer, Err(RecordFault::StepLimit(2)));
-    assert_eq!(rt; world.bytes().len(), 126);
-    // One slice of thread 1, of 2 steps.
-    assert_eq!(rt;
-        world.bytes().get(111..121),
-        Some([1, 0, 0, 0, 1, 0, 2, 0, 0, 0].as_slice())
-    );
-    let (_, answer) = recorded(&rt, &EXITS, options(20_000, 3, ROOM), never(&rt)?)?;
-    assert_eq!(rt; answer.is_ok(), true);
-    Ok(())
-}
-
-#[test]
-fn rooms(rt: HostRuntime) -> Result<(), Fail> {
-    let (world, answer) = recorded(&rt, &EXITS, options(20_000, LIMIT, 125), never(&rt)?)?;
-    assert_eq!(rt;
-        answer,
-        Err(RecordFault::JournalFull { end: 106, need: 20 })
-    );
-    assert_eq!(rt; world.bytes().len(), 106);
-    let (world, answer) = recorded(&rt, &EXITS, options(20_000, LIMIT, 126), never(&rt)?)?;
-    assert_eq!(rt; (answer.is_ok(), world.bytes().len()), (true, 126));
-    let (world, answer) = recorded(&rt, &EXITS, options(20_000, LIMIT, 105), never(&rt)?)?;
-    assert_eq!(rt; answer, Err(RecordFault::JournalFull { end: 0, need: 106 }));
-    assert_eq!(rt; (world.bytes().len(), world.disk_calls()), (0, 1));
-    Ok(())
-}
-
-#[test]
-fn emits(rt: HostRuntime) -> Result<(), Fail> {
-    let alloc = rt.alloc();
-    let first = Fails::At(CallNumbers::from_vec([1].to_vec(alloc)?));
-    let world = MemWorld::new(alloc, Fails::Never, first, 4096)?;
-    let (world, answer) = recorded(&rt, &WRITES, options(20_000, LIMIT, ROOM), world)?;
-    assert_eq!(rt; answer, Err(RecordFault::OutputFault));
-    assert_eq!(rt;
-        (world.bytes().len(), world.sent(Stream::Out).len()),
-        (154, 0)
-    );
-    // In pieces of two bytes, and of one of which the second fails.
-    let world = MemWorld::new(alloc, Fails::Never, Fails::Never, 2)?;
-    let (world, answer) = recorded(&rt, &WRITES, options(20_000, LIMIT, ROOM), world)?;
-    assert_eq!(rt; (answer.is_ok(), world.emits()), (true, 2));
-    assert_eq!(rt; world.sent(Stream::Out), b"hi\n".as_slice());
-    let world = MemWorld::new(alloc, Fails::Never, Fails::From(2), 1)?;
-    let (world, answer) = recorded(&rt, &WRITES, options(1, LIMIT, ROOM), world)?;
-    assert_eq!(rt; answer, Err(RecordFault::OutputFault));
-    assert_eq!(rt;
-        (world.sent(Stream::Out), world.bytes().len()),
-        (b"h".as_slice(), 254)
-    );
+    let seen = recorded(
+        &rt,
+        &WRITES,
+        options(20_000, LIMIT, ROOM),
+        Fails::Never,
+        Fails::From(1),
+        4096,
+    )?;
+    assert_eq!(rt; seen.answer, Err(RecordFault::OutputFault));
+    assert_eq!(rt; (seen.sent.len(), seen.journal.len()), (0, 154));
     Ok(())
 }
 
@@ -159,22 +234,23 @@ fn emits(rt: HostRuntime) -> Result<(), Fail> {
 // out behind call 31.
 #[test]
 fn each_disk_call_fails(rt: HostRuntime) -> Result<(), Fail> {
-    let alloc = rt.alloc();
-    for number in 1..=44 {
-        let at = Fails::At(CallNumbers::from_vec([number].to_vec(alloc)?));
-        for fails in [at, Fails::From(number)] {
-            let world = MemWorld::new(alloc, fails, Fails::Never, 4096)?;
-            let (world, answer) = recorded(&rt, &WRITES, options(1, LIMIT, ROOM), world)?;
-            assert_eq!(rt; answer.is_ok(), number == 44, "call {number}");
-            if number < 44 {
-                assert_eq!(rt; answer, Err(RecordFault::DiskFault), "call {number}");
-            }
-            assert_eq!(rt; world.disk_calls(), number.min(43));
-            let sent = if number > 31 { b"hi\n".as_slice() } else { &[] };
-            assert_eq!(rt; world.sent(Stream::Out), sent, "call {number}");
+    for number in 1..=43 {
+        for fails in [at(rt.alloc(), number)?, Fails::From(number)] {
+            let seen = recorded(
+                &rt,
+                &WRITES,
+                options(1, LIMIT, ROOM),
+                fails,
+                Fails::Never,
+                4096,
+            )?;
+            assert_eq!(rt; seen.answer, Err(RecordFault::DiskFault), "call {number}");
             // What fails is not done: a record's gate is open once the call that opens it is behind.
-            let opened = world.bytes().get(133 + 20 * 5);
-            assert_eq!(rt; opened == Some(&1), number > 30, "call {number}");
+            let opened = seen.journal.get(133 + 20 * 5) == Some(&1);
+            assert_eq!(rt;
+                (seen.sent.len(), opened),
+                (if number > 31 { 3 } else { 0 }, number > 30)
+            );
         }
     }
     Ok(())
