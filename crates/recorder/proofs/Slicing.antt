@@ -17,7 +17,8 @@ use Rattle.guest_kernel.specs.Slices.{Stop, at, joined, turns, slices, run, one_
 use Rattle.guest_kernel.specs.Start.{first_thread}
 use Rattle.guest_kernel.specs.State.{has_ended, without_reservation}
 use Rattle.recorder.specs.declared.bounds.Bounds.{Bounds}
-use Rattle.recorder.specs.EpochRun.{IsCut, IsSliceRun, TurnsGoOn, ends_epoch, of_steps, rest_of, sliced}
+use Rattle.recorder.specs.EpochRun.{ends_epoch, of_steps, rest_of, sliced}
+use Rattle.recorder.specs.SliceRun.{IsCut, IsSliceRun, TurnsGoOn}
 
 -- an epoch that goes on is one of a guest that does
 pub still_runs : (s : State) (out : List ℕ) → ends_epoch s out ≡ false → has_ended s.end ≡ false

@@ -1,11 +1,11 @@
--- An epoch that was run, as the recorder has it. This project's own.
+-- An epoch that was run, as the code has it. These serve the contract of the recorder's own steps. This project's own.
 use Rattle.dp_base.specs.Journal as journals
 use Rattle.guest_kernel.specs.declared.state.State.{State}
 use Rattle.guest_kernel.specs.Lone.{RunsAlone}
 use Rattle.recorder.specs.declared.bounds.Bounds.{Bounds}
 use Rattle.recorder.specs.declared.epoch.Epoch.{Epoch}
 use Rattle.recorder.specs.declared.epoch.EpochRun.{EpochRun}
-use Rattle.recorder.specs.EpochRun.{IsCut, RunsTo}
+use Rattle.recorder.specs.SliceRun.{IsCut, RunsTo}
 
 -- an epoch as its record has it
 abbrev pub epoch_of : Epoch → journals.Epoch

@@ -1,15 +1,13 @@
--- An epoch of a guest whose one thread runs, as the recorder cuts it. This project's own.
+-- The epochs of a guest whose one thread runs. This project's own.
 use Rattle.std.specs.Prelude.{◌≡◌, ◌⊎◌, ◌<◌, ◌≤◌, ◌+◌, ◌/◌, ◌%◌, ℕ, zero, suc, Bool, true, false, List, [], ◌∷◌, ◌++◌, length, replicate, Ok, ◌||◌, nat_le}
 use Rattle.dp_base.specs.declared.slice.Slice.{Slice}
 use Rattle.dp_base.specs.Journal.{Epoch, IsBody, IsEpoch, epoch_body, steps_of}
 use Rattle.dp_base.specs.declared.limits.TheConstants.{EPOCH_END_BYTES, MAX_CALL_BYTES}
 use Rattle.guest_kernel.specs.declared.state.State.{State}
 use Rattle.guest_kernel.specs.Call.{After}
-use Rattle.guest_kernel.specs.Lone.{RunsAlone}
-use Rattle.guest_kernel.specs.Slices.{at, turns, run}
+use Rattle.guest_kernel.specs.Slices.{at, run}
 use Rattle.guest_kernel.specs.Start.{first_thread}
 use Rattle.guest_kernel.specs.State.{has_ended}
-use Rattle.recorder.specs.declared.bounds.Bounds.{Bounds}
 
 -- whether an epoch ends here, whatever its bounds: the guest has ended, or has written enough
 abbrev pub ends_epoch : State → List ℕ → Bool
@@ -41,29 +39,3 @@ pub record IsCutWithin (start : State) (most slice : ℕ) (e : Epoch) (end : Sta
   -- after fewer steps it goes on
   pub goes_on : (k : ℕ) → 0 < k → k < steps_of e.slices → (there : After) → run (sliced slice k) (at start [] []) ≡ Ok there
       → ends_epoch there.state there.output ≡ false
-
-abbrev pub IsCut : State → Bounds → Epoch → State → List ℕ → Type 0
-IsCut start bounds e end output = IsCutWithin start bounds.steps bounds.slice e end output
-
--- it runs from this state to that one, which writes this
-pub record RunsTo (start : State) (e : Epoch) (end : State) (output : List ℕ) : Type 0 where
-  pub ran : run e.slices (at start [] e.answers) ≡ Ok (at end output [])
-  pub counted : end.steps ≡ start.steps + steps_of e.slices
-
--- so many turns of the thread are defined, and after them the epoch goes on; what was written before them counts too
-abbrev pub TurnsGoOn : State → List ℕ → ℕ → Type 0
-TurnsGoOn before output i = (mid : After)
-    × (turns 0 i first_thread (at before [] []) ≡ Ok mid) × (mid.rest ≡ []) × (ends_epoch mid.state (output ++ mid.output) ≡ false)
-
--- turns of the thread, at most so many, up to where an epoch ends; what was written before them counts too
-pub record IsSliceRun (before : State) (output : List ℕ) (most steps : ℕ) (after : State) (output_after : List ℕ) : Type 0 where
-  pub some : 0 < steps
-  pub few : steps ≤ most
-  pub written : List ℕ
-  pub turned : turns 0 steps first_thread (at before [] []) ≡ Ok (at after written [])
-  pub output_is : output_after ≡ output ++ written
-  pub alone : RunsAlone after
-  pub counted : after.steps ≡ before.steps + steps
-  pub little : length output_after < EPOCH_END_BYTES + MAX_CALL_BYTES
-  pub stops : (steps ≡ most) ⊎ (ends_epoch after output_after ≡ true)
-  pub goes_on : (i : ℕ) → 0 < i → i < steps → TurnsGoOn before output i

@@ -1,6 +1,7 @@
 pub mod Writing
 pub mod Journaling
 pub mod EpochRun
+pub mod SliceRun
 pub mod Cut
 pub mod Faults
 pub mod Recording

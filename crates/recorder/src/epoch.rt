@@ -3,7 +3,8 @@ ghost use Rattle.std.specs.Prelude.{◌≡◌, ◌≢◌, ◌+◌, ◌<◌, ◌�
 ghost use Rattle.dp_base.specs.declared.limits.TheConstants.{MAX_EPOCH_STEPS};
 ghost use Rattle.guest_kernel.specs.Lone.{RunsAlone};
 ghost use Rattle.guest_kernel.specs.State.{has_ended};
-ghost use Rattle.recorder.specs.EpochRun.{IsSliceRun, ends_epoch};
+ghost use Rattle.recorder.specs.EpochRun.{ends_epoch};
+ghost use Rattle.recorder.specs.SliceRun.{IsSliceRun};
 ghost use Rattle.recorder.specs.Cut.{IsCutFrom};
 
 use crate::bounds::Bounds;
