@@ -25,3 +25,5 @@ mod guests;
 mod recording_tests;
 #[cfg(test)]
 mod tests;
+#[cfg(test)]
+mod worked_outside;

@@ -128,7 +128,7 @@ fn faults_of_the_world(rt: HostRuntime) -> Result<(), Fail> {
         Ok(Fails::At(CallNumbers::from_vec([number].to_vec(alloc)?)))
     };
     let cases = [
-        // attach, len, and the last sync of eleven calls
+        // attach, len, and the last sync of twelve calls
         (at(1)?, Fails::Never, Status::DiskFault),
         (at(2)?, Fails::Never, Status::DiskFault),
         (at(12)?, Fails::Never, Status::DiskFault),
