@@ -22,12 +22,14 @@ pub mod journal;
 pub mod laws;
 pub mod limits;
 mod out_of_memory;
+mod page;
 mod slice;
 mod tid;
 
 pub use answer::Answer;
 pub use bytes::Bytes;
 pub use out_of_memory::OutOfMemory;
+pub use page::Page;
 pub use slice::Slice;
 pub use tid::Tid;
 
