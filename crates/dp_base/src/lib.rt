@@ -16,9 +16,11 @@
 #![tactic(auto)]
 
 mod answer;
+mod answer_view;
 mod bytes;
 pub mod field;
 pub mod journal;
+pub mod journal_reader;
 pub mod laws;
 pub mod limits;
 mod out_of_memory;
@@ -27,6 +29,7 @@ mod slice;
 mod tid;
 
 pub use answer::Answer;
+pub use answer_view::AnswerView;
 pub use bytes::Bytes;
 pub use out_of_memory::OutOfMemory;
 pub use page::Page;

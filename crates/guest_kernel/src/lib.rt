@@ -16,13 +16,11 @@
 //! ```
 #![tactic(auto)]
 
-mod answer_log;
 mod guest_file;
 mod hart;
 mod image;
 mod kernel;
 mod pages;
-mod slice_log;
 mod slices;
 mod start_state;
 mod state;
@@ -33,12 +31,10 @@ pub use guest_file::load;
 
 pub mod laws;
 
-pub use answer_log::AnswerLog;
 pub use hart::Hart;
 pub use image::{Image, ImageFault, Segment, Segments};
 pub use kernel::Turn;
 pub use pages::{Page, Pages};
-pub use slice_log::SliceLog;
 pub use slices::SliceRun;
 pub use start_state::start;
 pub use state::{End, State};

@@ -10,8 +10,10 @@ ghost use Rattle.recorder.specs.Cut.{IsCutFrom};
 use crate::bounds::Bounds;
 use dp_base::limits::EPOCH_END_BYTES;
 use dp_base::{Bytes, OutOfMemory, Slice, Tid};
-use guest_kernel::{AnswerLog, SliceLog, State, Turn, laws};
+use guest_kernel::{State, Turn, laws};
+use slice_log::SliceLog;
 use std::alloc::Global;
+use syscall_log::AnswerLog;
 
 /// What an epoch did: the slices that it ran, and the answers that they took.
 #[derive(Drop)]
