@@ -17,7 +17,6 @@
 #![tactic(auto)]
 
 mod guest_file;
-mod hart;
 mod image;
 mod kernel;
 mod pages;
@@ -25,21 +24,21 @@ mod slices;
 mod start_state;
 mod state;
 mod step;
-mod thread;
+mod threads;
 
 pub use guest_file::load;
 
 pub mod laws;
 
-pub use hart::Hart;
+pub use guest_state::{End, Hart, Thread};
 pub use image::{Image, ImageFault, Segment, Segments};
 pub use kernel::Turn;
-pub use pages::{Page, Pages};
+pub use pages::Pages;
 pub use slices::SliceRun;
 pub use start_state::start;
-pub use state::{End, State};
+pub use state::State;
 pub use step::{Instr, Stepped, decode, exec};
-pub use thread::{Thread, Threads};
+pub use threads::Threads;
 
 #[cfg(test)]
 mod tests;

@@ -3,22 +3,11 @@ ghost use Rattle.std.specs.Prelude.{◌≡◌, ◌≤◌, ◌<◌, ◌-◌, [], 
 ghost use Rattle.std.specs.Option.{option_copied};
 ghost use Rattle.guest_kernel.specs.Threads.{thread_at};
 
-use crate::hart::Hart;
 use dp_base::limits::MAX_THREADS;
 use dp_base::{OutOfMemory, Tid};
+use guest_state::Thread;
 use std::alloc::Global;
 use std::marker::Model;
-
-/// One thread of a guest.
-#[derive(Clone, Copy, Debug, PartialEq, Eq)]
-pub enum Thread {
-    /// It runs. Where its clear address isn't 0, that word is cleared as it exits.
-    Runs { hart: Hart, clear: u32 },
-    /// It waits for a wake at an address.
-    Waits { addr: u32, hart: Hart, clear: u32 },
-    /// It has exited with a code.
-    Gone(u32),
-}
 
 /// The threads that a guest has made, in order of number. At most 1,024.
 #[derive(Drop)]
@@ -28,7 +17,7 @@ pub struct Threads {
 
 impl Model for Threads {
     ghost use Rattle.std.specs.Prelude.{List, length, ◌≤◌};
-    ghost use Rattle.guest_kernel.specs.declared.thread.Thread.{Thread};
+    ghost use Rattle.guest_state.specs.declared.thread.Thread.{Thread};
     ghost use Rattle.dp_base.specs.declared.limits.TheConstants.{MAX_THREADS};
 
     ghost Value = { List Thread };
