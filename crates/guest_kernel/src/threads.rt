@@ -37,6 +37,22 @@ impl Threads {
         Ok(Threads { items })
     }
 
+    /// Makes the threads of a list, which it keeps as it is.
+    pub fn from_vec(items: Vec<Thread>) -> Self
+        requires { length items.items ≤ MAX_THREADS }
+        ensures { result ≡ items.items }
+    {
+        Threads { items }
+    }
+
+    /// Returns the threads, from number 1 on.
+    pub fn as_slice(&self) -> &[Thread]
+        ensures threads { result.now ≡ self.now }
+        ensures few { length self.now ≤ MAX_THREADS }
+    {
+        &self.items
+    }
+
     /// Returns how many threads were made.
     pub fn len(&self) -> usize
         ensures count { result ≡ length self.now }

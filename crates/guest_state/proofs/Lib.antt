@@ -1,4 +1,4 @@
 pub mod Steps
 pub mod Codes
-mod Many
+pub mod Many
 mod Scanning

@@ -50,22 +50,24 @@ fn skip_checkpoint(bytes: &[u8]) -> Option<&[u8]>
     if bounds.hold() { Some(rest) } else { None }
 }
 
-// What the bounds of a checkpoint are about.
+/// What the bounds of a checkpoint are about.
 #[derive(Clone, Copy)]
-struct Bounds {
-    heap: u32,
-    brk: u32,
-    end: End,
-    threads: u16,
-    // How many threads are alive.
-    live: usize,
-    pages: u16,
-    // Whether the numbers of the pages rise.
-    rising: bool,
+pub struct Bounds {
+    /// Where the heap starts, and where it ends.
+    pub heap: u32,
+    pub brk: u32,
+    pub end: End,
+    /// How many threads there are, and how many of them are alive.
+    pub threads: u16,
+    pub live: usize,
+    /// How many pages there are, and whether their numbers rise.
+    pub pages: u16,
+    pub rising: bool,
 }
 
 impl Bounds {
-    fn hold(&self) -> bool
+    /// Returns whether a checkpoint is within its bounds.
+    pub fn hold(&self) -> bool
         ensures { result ≡ hold self.now }
     {
         is_heap(self.heap, self.brk)
@@ -95,8 +97,8 @@ fn skip_threads(count: u16, bytes: &[u8]) -> Option<(usize, &[u8])>
     Some((alive, rest))
 }
 
-// 1 for a thread that is alive.
-fn alive_count(thread: &Thread) -> usize
+/// Returns 1 for a thread that is alive, and 0 for one that has exited.
+pub fn alive_count(thread: &Thread) -> usize
     ensures { result ≡ (if is_alive thread.now then 1 else 0) }
 {
     match thread {
