@@ -35,7 +35,7 @@ pub fn read_answer(bytes: &[u8]) -> Option<(AnswerView<'_>, &[u8])>
 {
     let (kind, rest) = read_u8(bytes)?;
     if kind == READ_KIND {
-        read_read(rest)
+        read_input(rest)
     } else if kind == CLOCK_KIND {
         read_clock(rest)
     } else {
@@ -45,7 +45,7 @@ pub fn read_answer(bytes: &[u8]) -> Option<(AnswerView<'_>, &[u8])>
 
 // What a read took, behind its kind.
 #[tactic(auto, unfolding(crate::specs::Journal::read_at))]
-fn read_read(bytes: &[u8]) -> Option<(AnswerView<'_>, &[u8])>
+fn read_input(bytes: &[u8]) -> Option<(AnswerView<'_>, &[u8])>
     ensures { option_map (λ x. (answer_of x.0, x.1.now)) result ≡ read_at bytes.now }
 {
     let (size, rest) = read_u16(bytes)?;

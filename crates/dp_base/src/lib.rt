@@ -2,7 +2,8 @@
 //! fields of the journal, and the definitions of the journal's bytes (`specs/Journal.antt`).
 //!
 //! Promises: what a field writer adds is what the reader of the same width takes, and no byte more; a journal
-//! value has one encoding, and no encoding is a prefix of another. Stands on `byteorder` for numbers in bytes.
+//! value has one encoding, and no encoding is a prefix of another; `journal_reader` takes from bytes what the
+//! definitions accept, and no more. Stands on `byteorder` for numbers in bytes.
 //!
 //! An epoch becomes the bytes that an append writes behind the closed gate:
 //!
