@@ -17,6 +17,7 @@
 mod decoding;
 mod encoding;
 mod hash;
+pub mod laws;
 mod sink;
 mod writer;
 

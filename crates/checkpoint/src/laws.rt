@@ -1,0 +1,45 @@
+//! Which states have an encoding. Each function's contract is a law over all guests, states, slices and logs; a call of it
+//! costs nothing and hands the law to the caller's proof.
+
+ghost use Rattle.std.specs.Prelude.{◌≡◌, ◌<◌, ◌^◌, ℕ, List, [], Ok};
+ghost use Rattle.dp_base.specs.declared.answer.Answer.{Answer};
+ghost use Rattle.dp_base.specs.declared.slice.Slice.{Slice};
+ghost use Rattle.dp_base.specs.declared.tid.Tid.{Tid};
+ghost use Rattle.dp_base.specs.Field.{AreBytes};
+ghost use Rattle.dp_base.specs.Journal.{Epoch};
+ghost use Rattle.guest_kernel.specs.declared.state.State.{State};
+ghost use Rattle.guest_kernel.specs.Call.{After};
+ghost use Rattle.guest_kernel.specs.Image.{IsGuestFile};
+ghost use Rattle.guest_kernel.specs.Slices.{at, run, chain};
+ghost use Rattle.guest_kernel.specs.Start.{start_state};
+ghost use Rattle.guest_kernel.specs.State.{without_reservation};
+ghost use Rattle.guest_kernel.specs.Turn.{turn};
+ghost use Rattle.checkpoint.specs.State.{IsEncodable};
+
+/// The state in which a guest starts has an encoding.
+pub fn a_start_state_is_encodable()
+    ensures { (file : List ℕ) → IsGuestFile file → AreBytes file → IsEncodable (start_state file) }
+{}
+
+/// Behind a turn a state has an encoding once the reservation of the thread whose turn it was is dropped, if it was so
+/// before. Step counts are below 2^64.
+pub fn a_turn_keeps_a_state_encodable()
+    ensures { (s : State) (tid : Tid) (log : List Answer) (after : After) → IsEncodable (without_reservation s tid) →
+        turn s tid log ≡ Ok after → after.state.steps < 2 ^ 64 → IsEncodable (without_reservation after.state tid) }
+{}
+
+/// A run of slices from a state that has an encoding ends in one.
+pub fn a_run_keeps_a_state_encodable()
+    ensures { (s : State) (slices : List Slice) (log : List Answer) (there : After) → IsEncodable s →
+        run slices (at s [] log) ≡ Ok there → there.state.steps < 2 ^ 64 → IsEncodable there.state }
+{
+    guest_kernel::laws::a_turn_is_one_step();
+}
+
+/// A chain of epochs from a state that has an encoding ends in one.
+pub fn a_chain_keeps_a_state_encodable()
+    ensures { (s : State) (epochs : List Epoch) (end : State) (output : List ℕ) → IsEncodable s →
+        chain s epochs ≡ Ok (end, output) → end.steps < 2 ^ 64 → IsEncodable end }
+{
+    guest_kernel::laws::a_turn_is_one_step();
+}
