@@ -1,23 +1,17 @@
 -- A state that has an encoding, with one thread changed, with another end, and one step later.
-use Rattle.std.proofs.Common.{◌≡◌, ◌≢◌, ℕ, zero, suc, ◌+◌, ◌-◌, ◌*◌, ◌/◌, ◌%◌, ◌^◌, ◌<◌, ◌≤◌, Bool, true, false, cond, ltb, leb, ◌&&◌, List, [], ◌∷◌, length, slice_get, Option, Some, None, refl, sym, ap, subst, ◌∙◌, arith}
+use Rattle.std.proofs.Common.{◌≡◌, ℕ, zero, suc, ◌+◌, ◌^◌, ◌<◌, Bool, true, cond, List, [], ◌∷◌, length, slice_get, Some, refl, sym, ap, subst, ◌∙◌, arith}
 use Rattle.std.specs.Prelude.{slice_set}
 use Rattle.std.specs.List.{AllByRecursion}
-use Rattle.std.proofs.lemmas.Bool.{and_parts, and_from, lt-ltb, le-leb}
+use Rattle.std.proofs.lemmas.Bool.{and_from, lt-ltb, le-leb}
 use Rattle.std.proofs.lemmas.List.{length-set}
 use Rattle.std.proofs.lemmas.List.Sums.{sum_by-cons}
-use Rattle.std.proofs.lemmas.Option.{same_Some, slice_get_within}
-use Rattle.dp_base.specs.declared.limits.TheConstants.{MAX_LIVE_THREADS, MAX_PAGES, MAX_THREADS}
-use Rattle.dp_base.specs.declared.tid.Tid.{Tid}
+use Rattle.std.proofs.lemmas.Option.{same_Some}
 use Rattle.guest_state.specs.declared.end.End.{End}
-use Rattle.guest_state.specs.declared.end.End.TheVariants as ends
-use Rattle.guest_state.specs.declared.hart.Hart.{Hart}
 use Rattle.guest_state.specs.declared.thread.Thread.{Thread}
-use Rattle.guest_state.specs.declared.thread.Thread.TheVariants.{Runs, Waits, Gone}
-use Rattle.guest_state.specs.Checkpoint.{Checkpoint, IsCheckpoint, IsEnd, IsFreeHart, IsThread, IsWord, is_alive, is_bounded, live, traps_within}
+use Rattle.guest_state.specs.Checkpoint.{Checkpoint, IsEnd, IsThread, is_alive, is_bounded, live, traps_within}
 use Rattle.guest_state.proofs.Codes.{Bounds, bounds_of}
 use Rattle.guest_kernel.specs.declared.state.State.{State}
-use Rattle.guest_kernel.specs.State.{counted, dropping, unreserved, with_thread, without_reservation}
-use Rattle.guest_kernel.specs.Threads.{thread_at}
+use Rattle.guest_kernel.specs.State.{counted}
 use Rattle.checkpoint.specs.State.{IsEncodable, checkpoint_of}
 
 -- ---- lists with one item changed

@@ -1,16 +1,16 @@
 -- Threads and pages that are read one after another.
-use Rattle.std.proofs.Common.{◌≡◌, ℕ, zero, suc, ◌+◌, ◌-◌, ◌<◌, ◌≤◌, Bool, true, false, cond, leb, ◌&&◌, List, [], ◌∷◌, ◌++◌, length, replicate, Option, Some, None, refl, sym, ap, subst, ◌∙◌, append_assoc, arith}
+use Rattle.std.proofs.Common.{◌≡◌, ℕ, zero, suc, ◌+◌, ◌-◌, ◌<◌, ◌≤◌, Bool, true, false, cond, leb, ◌&&◌, List, [], ◌∷◌, ◌++◌, length, replicate, Option, Some, None, refl, sym, ap, subst, ◌∙◌, arith}
 use Rattle.std.specs.List.{All}
 use Rattle.std.proofs.lemmas.Bool.{and_parts, leb-true, le-leb, lt-leb, and_from}
 use Rattle.std.proofs.lemmas.List.{append-nil, length_push}
 use Rattle.std.proofs.lemmas.List.Elements.{All-cons}
 use Rattle.std.proofs.lemmas.Option.{same_Some}
 use Rattle.std.proofs.Math.Numerals.{add-one}
-use Rattle.dp_base.specs.declared.limits.TheConstants.{PAGE_BYTES, MAX_PAGES}
+use Rattle.dp_base.specs.declared.limits.TheConstants.{PAGE_BYTES}
 use Rattle.dp_base.specs.declared.page.Page.{Page}
 use Rattle.dp_base.specs.Field.{◌>>=◌}
 use Rattle.dp_base.specs.Journal.{many_at}
-use Rattle.dp_base.proofs.Fields.{bind_some, none_after}
+use Rattle.dp_base.proofs.Fields.{bind_some}
 use Rattle.dp_base.proofs.Many.{many_none, many_more, none_further}
 use Rattle.guest_state.specs.Checkpoint.{page_from, rising, rising_from}
 use Rattle.guest_kernel.specs.Memory.{page_with}
@@ -121,6 +121,7 @@ page_low i n bytes pages least rest p next so_far more is low =
     no_rise more_ =
         let last : leb (next_least 0 pages) p.number ≡ false = lt-leb _ _ (omega (arith, low, so_far.least_is)) in
         rising_join 0 pages (p ∷ more_) ∙ ap (λ (b : Bool). rising pages && (b && rising_from (p.number + 1) more_)) last ∙ and_false (rising pages)
+
     none_left : (r : Option (List Page × List ℕ)) → (((r >>= λ others. Some (p ∷ others.0, others.1)) >>= behind pages) >>= if_rising) ≡ None
     none_left None = refl
     none_left (Some q) = ap (λ (b : Bool). cond b (Some (pages ++ p ∷ q.0, q.1)) None) (no_rise q.0)

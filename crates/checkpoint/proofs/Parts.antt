@@ -1,5 +1,5 @@
 -- A checkpoint whose parts were read one after another.
-use Rattle.std.proofs.Common.{◌≡◌, ℕ, zero, suc, ◌<◌, ◌≤◌, Bool, true, false, cond, eqb, ltb, leb, ◌&&◌, List, [], ◌∷◌, length, Option, Some, None, refl, sym, ap, ◌∙◌, arith}
+use Rattle.std.proofs.Common.{◌≡◌, ℕ, zero, suc, ◌<◌, ◌≤◌, Bool, true, false, cond, eqb, ltb, leb, ◌&&◌, List, ◌∷◌, length, Option, Some, None, refl, sym, ap, ◌∙◌, arith}
 use Rattle.std.proofs.lemmas.Bool.{and_parts, leb-true}
 use Rattle.std.proofs.lemmas.Option.{same_Some}
 use Rattle.dp_base.specs.declared.limits.TheConstants.{MAX_PAGES, MAX_THREADS, MAX_LIVE_THREADS}
@@ -7,7 +7,7 @@ use Rattle.dp_base.specs.declared.page.Page.{Page}
 use Rattle.dp_base.specs.Encoding.{whole}
 use Rattle.dp_base.specs.Field.{◌>>=◌, number_at}
 use Rattle.dp_base.specs.Journal.{many_at}
-use Rattle.dp_base.proofs.Fields.{bind_some, bind_at}
+use Rattle.dp_base.proofs.Fields.{bind_some}
 use Rattle.guest_state.specs.declared.end.End.{End}
 use Rattle.guest_state.specs.declared.thread.Thread.{Thread}
 use Rattle.guest_state.specs.Checkpoint.{Checkpoint, checkpoint_from, end_from, thread_from, page_from, is_bounded, is_heap, live, rising, traps_within, if_bounded}
@@ -70,6 +70,7 @@ module _ (body : List ℕ) (steps input heap brk : ℕ) (end : End) (threads : L
     where
       size : length pages.0 ≡ page_count
       size = many_length page_from page_count behind pages is
+
       not_bounded : (b : Bool) → is_bounded (made pages.0) ≡ b → last pages ≡ None
       not_bounded false e = ap (λ (c : Bool). cond c (Some (made pages.0, pages.1)) None) e
       not_bounded true e =

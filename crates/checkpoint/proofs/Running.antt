@@ -1,7 +1,6 @@
 -- Runs and chains from a state that has an encoding, and the state in which a guest starts.
-use Rattle.std.proofs.Common.{◌≡◌, ℕ, zero, suc, ◌+◌, ◌-◌, ◌*◌, ◌/◌, ◌%◌, ◌^◌, ◌<◌, ◌≤◌, Bool, true, false, cond, List, [], ◌∷◌, ◌++◌, length, map, replicate, slice_get, Option, Some, None, Result, Ok, Err, refl, sym, ap, subst, ◌∙◌, arith}
-use Rattle.std.specs.Prelude.{◌==◌, slice_set}
-use Rattle.std.specs.List.{AllByRecursion}
+use Rattle.std.proofs.Common.{◌≡◌, ℕ, zero, suc, ◌+◌, ◌-◌, ◌^◌, ◌<◌, ◌≤◌, Bool, true, false, cond, List, [], ◌∷◌, ◌++◌, length, slice_get, Option, Some, None, Result, Ok, Err, refl, ap, subst, ◌∙◌, arith}
+use Rattle.std.specs.Prelude.{◌==◌}
 use Rattle.dp_base.specs.declared.answer.Answer.{Answer}
 use Rattle.dp_base.specs.declared.slice.Slice.{Slice}
 use Rattle.dp_base.specs.declared.tid.Tid.{Tid}
@@ -11,12 +10,12 @@ use Rattle.guest_state.specs.declared.thread.Thread.{Thread}
 use Rattle.guest_state.specs.declared.thread.Thread.TheVariants.{Runs, Waits, Gone}
 use Rattle.guest_state.specs.Checkpoint.{IsFreeHart, IsThread}
 use Rattle.guest_kernel.specs.declared.state.State.{State}
-use Rattle.guest_kernel.specs.Call.{After, Refusal}
+use Rattle.guest_kernel.specs.Call.{After}
 use Rattle.guest_kernel.specs.Slices.{Stop, at, chain, either, joined, run, slice_ended, slices, turns, used_up}
 use Rattle.guest_kernel.specs.State.{dropping, unreserved, without_reservation}
 use Rattle.guest_kernel.specs.Threads.{thread_at}
 use Rattle.guest_kernel.specs.Turn.{turn}
-use Rattle.checkpoint.specs.State.{IsEncodable, checkpoint_of}
+use Rattle.checkpoint.specs.State.{IsEncodable}
 use Rattle.checkpoint.proofs.Keeping.{all_at, put}
 use Rattle.checkpoint.proofs.Turning.{turn_keeps}
 

@@ -1,18 +1,15 @@
 -- The state in which a guest starts has an encoding.
-use Rattle.std.proofs.Common.{◌≡◌, ℕ, zero, suc, ◌+◌, ◌-◌, ◌*◌, ◌/◌, ◌%◌, ◌^◌, ◌<◌, ◌≤◌, Bool, true, false, cond, List, [], ◌∷◌, ◌++◌, length, map, replicate, length-append, None, refl, sym, ap, subst, ◌∙◌, arith}
-use Rattle.std.specs.Prelude.{◌==◌, slice_index}
+use Rattle.std.proofs.Common.{◌≡◌, ℕ, zero, suc, ◌+◌, ◌-◌, ◌<◌, ◌≤◌, List, [], ◌∷◌, length, map, replicate, length-append, None, refl, ap, ◌∙◌, arith}
 use Rattle.std.specs.List.{AllByRecursion, range_with_len}
 use Rattle.std.proofs.lemmas.List.{length-replicate}
 use Rattle.dp_base.specs.declared.limits.TheConstants.{PAGE_BYTES, FIRST_STACK_PAGE, STACK_PAGES, STACK_POINTER}
-use Rattle.dp_base.specs.declared.page.Page.{Page}
 use Rattle.dp_base.specs.Field.{AreBytes}
 use Rattle.dp_base.proofs.Fields.{AreBytes-append}
-use Rattle.guest_state.specs.declared.hart.Hart.{Hart}
-use Rattle.guest_state.specs.Checkpoint.{IsPageContent, IsWord, is_bounded, is_heap}
+use Rattle.guest_state.specs.Checkpoint.{IsPageContent, IsWord, is_heap}
 use Rattle.guest_kernel.specs.Image.{IsGuestFile, entry, mapped_whole}
 use Rattle.guest_kernel.specs.Memory.{page_with}
-use Rattle.guest_kernel.specs.Segment.{heap_start, rounded_up}
-use Rattle.guest_kernel.specs.Start.{start_hart, start_memory, start_state, stack_page, segment_page}
+use Rattle.guest_kernel.specs.Segment.{heap_start}
+use Rattle.guest_kernel.specs.Start.{start_hart, start_state, stack_page}
 use Rattle.checkpoint.specs.State.{IsEncodable, checkpoint_of}
 use Rattle.checkpoint.proofs.Keeping.{bounded}
 use Rattle.checkpoint.proofs.Turning.{IsHart, with_word, to_free}

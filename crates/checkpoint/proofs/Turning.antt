@@ -1,6 +1,6 @@
 -- A turn of a thread, behind which the state has an encoding again once the thread's reservation is dropped.
-use Rattle.std.proofs.Common.{◌≡◌, ℕ, zero, suc, ◌+◌, ◌-◌, ◌*◌, ◌/◌, ◌%◌, ◌^◌, ◌<◌, ◌≤◌, Bool, true, false, cond, eqb, not, ltb, leb, ◌&&◌, List, [], ◌∷◌, length, slice_get, Option, Some, None, Result, Ok, Err, refl, sym, ap, subst, ◌∙◌, arith, inl, inr}
-use Rattle.std.specs.Prelude.{◌==◌, slice_set, slice_index, if◌then◌else◌, min}
+use Rattle.std.proofs.Common.{◌≡◌, ℕ, zero, suc, ◌+◌, ◌-◌, ◌/◌, ◌%◌, ◌^◌, ◌<◌, ◌≤◌, Bool, true, false, cond, not, List, [], ◌∷◌, length, slice_get, Option, Some, None, Result, Ok, Err, refl, sym, ap, subst, ◌∙◌, arith, inl, inr}
+use Rattle.std.specs.Prelude.{◌==◌, slice_set, slice_index}
 use Rattle.std.specs.List.{AllByRecursion, find}
 use Rattle.std.specs.Option.{option_map}
 use Rattle.std.proofs.Math.Nat.{min-le_right}
@@ -11,7 +11,6 @@ use Rattle.dp_base.specs.declared.answer.Answer.{Answer}
 use Rattle.dp_base.specs.declared.limits.TheConstants.{MAX_CALL_BYTES, PAGE_BYTES}
 use Rattle.dp_base.specs.declared.page.Page.{Page}
 use Rattle.dp_base.specs.declared.tid.Tid.{Tid}
-use Rattle.dp_base.specs.Field.{AreBytes, ◌>>=◌}
 use Rattle.dp_base.proofs.Epochs.{chosen, only_if}
 use Rattle.dp_base.proofs.Fields.{bind_some}
 use Rattle.guest_state.specs.declared.end.End.{End}
@@ -26,11 +25,11 @@ use Rattle.guest_state.specs.Register.{register, with_register, next, wrapped}
 use Rattle.guest_kernel.specs.declared.state.State.{State}
 use Rattle.guest_kernel.specs.declared.step.Instr.{Instr}
 use Rattle.guest_kernel.specs.declared.step.Instr.TheVariants.{Lui, Addi, Ecall}
-use Rattle.guest_kernel.specs.Call.{After, Refusal, Written, a0, a1, a2, a7, answered, bytes_written, called, exits_all, minus, moved, nothing_written, silent, unknown, writes, written, written_by, EBADF, EFAULT, ENOSYS}
-use Rattle.guest_kernel.specs.Instruction.{Effect, goes, calls, traps, bits, decoded, executed, immediate_u, immediate_i, is_lui, is_addi, is_ecall, rd, rs1}
+use Rattle.guest_kernel.specs.Call.{After, Refusal, Written, a0, a1, a2, a7, answered, bytes_written, called, minus, moved, written, written_by, ENOSYS}
+use Rattle.guest_kernel.specs.Instruction.{Effect, goes, calls, traps, decoded, executed, immediate_u, immediate_i, is_lui, is_addi, is_ecall, rd, rs1}
 use Rattle.guest_kernel.specs.Memory.{code_byte, byte_at, fetch, flags_at, page_at, readable}
 use Rattle.guest_kernel.specs.State.{counted, dropping, has_ended, unreserved, with_thread, without_reservation}
-use Rattle.guest_kernel.specs.Step.{effect, of_instruction, of_word, illegal}
+use Rattle.guest_kernel.specs.Step.{effect, of_instruction, of_word}
 use Rattle.guest_kernel.specs.Threads.{thread_at}
 use Rattle.guest_kernel.specs.Turn.{turn, by_effect, by_thread}
 use Rattle.checkpoint.specs.State.{IsEncodable, checkpoint_of}

@@ -1,14 +1,14 @@
 -- Ends, threads, pages and checkpoints: decoded as they are encoded, and in no other way.
-use Rattle.std.proofs.Common.{◌≡◌, ℕ, ◌^◌, ◌<◌, ◌≤◌, Bool, true, false, cond, eqb, ltb, leb, ◌&&◌, List, [], ◌∷◌, ◌++◌, length, Option, Some, None, refl, sym, ap, subst, ◌∙◌, append_assoc, arith, inl, inr}
+use Rattle.std.proofs.Common.{◌≡◌, ℕ, ◌^◌, ◌<◌, ◌≤◌, true, cond, eqb, ltb, leb, ◌&&◌, List, [], ◌++◌, length, Option, Some, None, refl, sym, ap, subst, ◌∙◌, arith, inl, inr}
 use Rattle.std.specs.List.{flat_map, AllByRecursion}
-use Rattle.std.proofs.lemmas.Bool.{and_parts, eqb-true, ltb-true, leb-true, lt-ltb, le-leb, and_from, cond-true}
+use Rattle.std.proofs.lemmas.Bool.{and_parts, eqb-true, ltb-true, leb-true, lt-ltb, and_from, cond-true}
 use Rattle.std.proofs.lemmas.Option.{cond_some, same_Some}
 use Rattle.byteorder.specs.Endian.{little_bytes}
 use Rattle.dp_base.specs.declared.limits.TheConstants.{MAX_LIVE_THREADS, MAX_PAGES, MAX_THREADS, PAGE_BYTES, PAGE_NUMBERS}
 use Rattle.dp_base.specs.declared.page.Page.{Page}
 use Rattle.dp_base.specs.declared.tid.Tid.{Tid}
 use Rattle.dp_base.specs.Encoding.{IsPrefixCode}
-use Rattle.dp_base.specs.Field.{AreBytes, ◌>>=◌, bytes_at, number_at}
+use Rattle.dp_base.specs.Field.{AreBytes, ◌>>=◌, number_at}
 use Rattle.dp_base.specs.Journal.{many_at}
 use Rattle.dp_base.proofs.Fields.{Splits, number_code, code_from}
 use Rattle.guest_state.specs.declared.end.End.{End}
@@ -17,7 +17,7 @@ use Rattle.guest_state.specs.declared.hart.Hart.{Hart}
 use Rattle.guest_state.specs.declared.thread.Thread.{Thread}
 use Rattle.guest_state.specs.declared.thread.Thread.TheVariants.{Runs, Waits, Gone}
 use Rattle.guest_state.specs.Checkpoint.{Checkpoint, IsWord, IsEnd, IsFreeHart, IsThread, IsPageContent, IsCheckpoint, is_bounded, is_heap, live, rising, traps_within, word, end_bytes, end_from, exit_from, trap_from, page_bytes, page_from, hart_bytes, hart_from, thread_bytes, thread_from, runs_from, waits_from, gone_from, checkpoint_bytes, checkpoint_from, if_bounded}
-use Rattle.guest_state.proofs.Steps.{Took, take_step, find_step, find_first, grouped, many_code, bytes_code, Behind, of_kind}
+use Rattle.guest_state.proofs.Steps.{take_step, find_step, find_first, grouped, many_code, bytes_code, Behind, of_kind}
 use Rattle.dp_base.proofs.Epochs.{chosen, only_if}
 
 -- ---- pages
@@ -86,7 +86,7 @@ end_taken bytes x fits e =
         | inr v ↦ elim (chosen (eqb kind.value 2) (trap_from kind.rest) third (Some x) v.1) [
           | inl u ↦ of_kind kind 2 x (eqb-true _ _ u.0) (trap_taken kind.rest x kind.left u.1)
           | inr u ↦ let g = only_if (eqb kind.value 3) (Some dead_at) x u.1 in
-            of_kind kind 3 x (eqb-true _ _ g.0) (subst (Behind end_bytes IsEnd 3 kind.rest) (same_Some _ _ g.1) (record { body = []; encoded = refl; joined = refl; left = kind.left; is = tt }))
+              of_kind kind 3 x (eqb-true _ _ g.0) (subst (Behind end_bytes IsEnd 3 kind.rest) (same_Some _ _ g.1) (record { body = []; encoded = refl; joined = refl; left = kind.left; is = tt }))
         ]
       ]
     ]
@@ -328,17 +328,19 @@ checkpoint_from_parts steps input heap brk bytes rest x whole small_steps small_
     let input_is : input ≡ x.0.input = sym (ap (λ (c : Checkpoint). c.input) t.same) in
     let heap_is : heap ≡ x.0.heap = sym (ap (λ (c : Checkpoint). c.heap) t.same) in
     let brk_is : brk ≡ x.0.brk = sym (ap (λ (c : Checkpoint). c.brk) t.same) in
-    let named : bytes ≡ checkpoint_bytes x.0 ++ x.1 = rw (← steps_is, ← input_is, ← heap_is, ← brk_is) whole in
-    (record { joined = named; left = t.left }, record {
-      steps = omega (arith, steps_is, small_steps);
-      input = omega (arith, input_is, small_input);
-      heap = subst IsWord heap_is small_heap;
-      brk = subst IsWord brk_is small_brk;
-      end = t.end;
-      threads = t.threads;
-      pages = t.pages;
-      bounded = t.bounded;
-    })
+    let named : bytes ≡ checkpoint_bytes x.0 ++ x.1 = rw (← steps_is, ← input_is, ← heap_is, ← brk_is) whole in (
+      record { joined = named; left = t.left },
+      record {
+        steps = omega (arith, steps_is, small_steps);
+        input = omega (arith, input_is, small_input);
+        heap = subst IsWord heap_is small_heap;
+        brk = subst IsWord brk_is small_brk;
+        end = t.end;
+        threads = t.threads;
+        pages = t.pages;
+        bounded = t.bounded;
+      },
+    )
 
 checkpoint_taken : (bytes : List ℕ) (x : Checkpoint × List ℕ) → AreBytes bytes → checkpoint_from bytes ≡ Some x → Splits bytes (checkpoint_bytes x.0) x.1 × IsCheckpoint x.0
 unfolding checkpoint_from

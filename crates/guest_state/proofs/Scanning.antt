@@ -1,5 +1,5 @@
 -- Registers, threads and pages that are read in a loop: what is read so far, with what is left to read.
-use Rattle.std.proofs.Common.{◌≡◌, ℕ, zero, suc, ◌+◌, ◌-◌, ◌<◌, ◌≤◌, Bool, true, false, cond, ◌&&◌, leb, List, [], ◌∷◌, ◌++◌, length, take, Option, Some, None, refl, sym, ap, ◌∙◌, arith, append_assoc}
+use Rattle.std.proofs.Common.{◌≡◌, ℕ, suc, ◌+◌, ◌-◌, ◌<◌, ◌≤◌, Bool, true, false, cond, ◌&&◌, leb, List, [], ◌∷◌, ◌++◌, length, take, Option, Some, None, refl, sym, ap, ◌∙◌, arith, append_assoc}
 use Rattle.std.specs.Prelude.{slice_set}
 use Rattle.std.specs.Option.{option_map}
 use Rattle.std.proofs.lemmas.List.{take_more_set, append-nil, take_all}
@@ -8,7 +8,7 @@ use Rattle.dp_base.specs.declared.page.Page.{Page}
 use Rattle.dp_base.specs.Field.{number_at}
 use Rattle.dp_base.specs.Journal.{many_at}
 use Rattle.guest_state.specs.declared.thread.Thread.{Thread}
-use Rattle.guest_state.specs.Checkpoint.{is_alive, live, thread_from, page_from, rising, rising_from}
+use Rattle.guest_state.specs.Checkpoint.{is_alive, live, thread_from, page_from, rising_from}
 use Rattle.guest_state.specs.View.{Skipped, counting, testing}
 use Rattle.guest_state.proofs.Many.{led_by, one_read, none_read, all_read}
 
@@ -81,9 +81,9 @@ pub thread_more : (m n alive : ℕ) (bytes : List ℕ) (t : Thread) (rest : List
 thread_more m n alive bytes t rest now more is counted =
     left_read thread_from (threads_so_far n alive) (threads_so_far (n + 1) now) m n bytes t rest more is
     (λ p. let size : n + length (t ∷ p.0) ≡ n + 1 + length p.0 = omega arith in
-        let one : live (t ∷ p.0) ≡ one_if (is_alive t) + live p.0 = sum_by-cons (λ x. one_if (is_alive x)) t p.0 in
-        let number : alive + live (t ∷ p.0) ≡ now + live p.0 = omega (arith, counted, one) in
-        ap (λ (k : ℕ). counting k (alive + live (t ∷ p.0)) p.1) size ∙ ap (λ (k : ℕ). counting (n + 1 + length p.0) k p.1) number)
+    let one : live (t ∷ p.0) ≡ one_if (is_alive t) + live p.0 = sum_by-cons (λ x. one_if (is_alive x)) t p.0 in
+    let number : alive + live (t ∷ p.0) ≡ now + live p.0 = omega (arith, counted, one) in
+    ap (λ (k : ℕ). counting k (alive + live (t ∷ p.0)) p.1) size ∙ ap (λ (k : ℕ). counting (n + 1 + length p.0) k p.1) number)
 
 pub thread_none : (m n alive : ℕ) (bytes : List ℕ) → n < m → thread_from bytes ≡ None → option_map (threads_so_far n alive) (many_at thread_from (m - n) bytes) ≡ None
 thread_none m n alive bytes more is = left_none thread_from (threads_so_far n alive) m n bytes more is
@@ -110,8 +110,8 @@ pub page_more : (m n : ℕ) (rise : Bool) (least : ℕ) (bytes : List ℕ) (p : 
 page_more m n rise least bytes p rest now more is counted =
     left_read page_from (pages_so_far n rise least) (pages_so_far (n + 1) now (p.number + 1)) m n bytes p rest more is
     (λ q. let size : n + length (p ∷ q.0) ≡ n + 1 + length q.0 = omega arith in
-        let all : (rise && (leb least p.number && rising_from (p.number + 1) q.0)) ≡ (now && rising_from (p.number + 1) q.0) = and_assoc rise (leb least p.number) (rising_from (p.number + 1) q.0) ∙ ap (λ (b : Bool). b && rising_from (p.number + 1) q.0) (sym counted) in
-        ap (λ (k : ℕ). testing k (rise && rising_from least (p ∷ q.0)) q.1) size ∙ ap (λ (b : Bool). testing (n + 1 + length q.0) b q.1) all)
+    let all : (rise && (leb least p.number && rising_from (p.number + 1) q.0)) ≡ (now && rising_from (p.number + 1) q.0) = and_assoc rise (leb least p.number) (rising_from (p.number + 1) q.0) ∙ ap (λ (b : Bool). b && rising_from (p.number + 1) q.0) (sym counted) in
+    ap (λ (k : ℕ). testing k (rise && rising_from least (p ∷ q.0)) q.1) size ∙ ap (λ (b : Bool). testing (n + 1 + length q.0) b q.1) all)
 
 pub page_none : (m n : ℕ) (rise : Bool) (least : ℕ) (bytes : List ℕ) → n < m → page_from bytes ≡ None → option_map (pages_so_far n rise least) (many_at page_from (m - n) bytes) ≡ None
 page_none m n rise least bytes more is = left_none page_from (pages_so_far n rise least) m n bytes more is

@@ -1,5 +1,5 @@
 -- One step of a reader that goes on over a code: what was taken, and what is found.
-use Rattle.std.proofs.Common.{◌≡◌, ℕ, zero, suc, ◌+◌, ◌<◌, ◌^◌, List, [], ◌∷◌, ◌++◌, length, Option, Some, None, refl, sym, ap, subst, ◌∙◌, append_assoc, arith}
+use Rattle.std.proofs.Common.{◌≡◌, ℕ, ◌<◌, ◌^◌, List, ◌++◌, length, Option, Some, sym, ap, ◌∙◌, append_assoc}
 use Rattle.std.specs.List.{flat_map, AllByRecursion}
 use Rattle.dp_base.specs.Encoding.{IsPrefixCode}
 use Rattle.dp_base.specs.Field.{AreBytes, ◌>>=◌, bytes_at}

@@ -25,3 +25,8 @@ pub use hart::Hart;
 pub use reader::{PageView, read_end, read_page, read_thread};
 pub use scan::{Bounds, alive_count, is_checkpoint};
 pub use thread::Thread;
+
+#[cfg(test)]
+mod tests;
+#[cfg(test)]
+mod worked_checkpoints;

@@ -15,13 +15,18 @@ use dp_base::limits::{PAGE_BYTES, PAGE_NUMBERS};
 
 // The kinds of an end.
 const NO_END: u8 = 0;
+
 const EXIT: u8 = 1;
+
 const TRAP: u8 = 2;
+
 const DEADLOCK: u8 = 3;
 
 // The kinds of a thread.
 const RUNS: u8 = 0;
+
 const WAITS: u8 = 1;
+
 const GONE: u8 = 2;
 
 /// How a guest ended, and the bytes behind it. Returns `None` exactly if the bytes don't start with an end.

@@ -1,5 +1,5 @@
 -- Lists that are the same as far as they were compared.
-use Rattle.std.proofs.Common.{◌≡◌, ℕ, zero, suc, ◌+◌, ◌≤◌, List, [], ◌∷◌, length, take, slice_get, Option, Some, None, refl, sym, ap, ◌∙◌, arith}
+use Rattle.std.proofs.Common.{◌≡◌, ℕ, zero, suc, ◌+◌, ◌≤◌, List, [], ◌∷◌, length, take, slice_get, Some, sym, ap, ◌∙◌, arith}
 use Rattle.std.proofs.lemmas.List.{take_all}
 use Rattle.std.proofs.lemmas.Option.{same_Some}
 
@@ -20,6 +20,7 @@ take-more {X} (a ∷ xs) (b ∷ ys) (suc i) x y at_x at_y same so_far =
   where
     same_first : (a b : X) (us vs : List X) → a ∷ us ≡ b ∷ vs → a ≡ b
     same_first a b us vs e = cc
+
     same_others : (a b : X) (us vs : List X) → a ∷ us ≡ b ∷ vs → us ≡ vs
     same_others a b us vs e = cc
 

@@ -1,4 +1,4 @@
-use Rattle.std.proofs.Common.{List, [], ◌∷◌, ◌++◌, length, Some, arith, sym, subst, ◌∙◌, ap, ◌≡◌, ◌+◌}
+use Rattle.std.proofs.Common.{List, [], ◌∷◌, ◌++◌, length, arith, sym, subst, ◌∙◌, ap, ◌≡◌, ◌+◌}
 use Rattle.guest_kernel.specs.Memory.{page_with}
 use Rattle.guest_state.specs.Pages.{IsPage}
 use Rattle.dp_base.specs.declared.limits.TheConstants.{PAGE_BYTES}

@@ -1,7 +1,5 @@
-use Rattle.std.proofs.Common.{◌∷◌, [], ◌++◌}
-use Rattle.byteorder.specs.Endian.{little_bytes}
 use Rattle.guest_state.specs.Checkpoint.{word, hart_bytes}
-use Rattle.checkpoint.proofs.Adding.{adds_then, adds_last}
+use Rattle.checkpoint.proofs.Adding.{adds_last}
 use Rattle.checkpoint.proofs.writer.write_waiting.Goals as goal
 
 pub returns-clause-added : goal.returns-clause-added
