@@ -1,0 +1,2 @@
+mod OnDisk
+mod Chunks

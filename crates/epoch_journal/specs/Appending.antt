@@ -1,0 +1,49 @@
+-- What `append` comes to, by its answer. This project's own.
+use Rattle.std.specs.Prelude.{◌≡◌, ◌<◌, ◌≤◌, ◌+◌, ℕ, Bool, true, false, List, [], ◌∷◌, ◌++◌, length, Result, Ok, Err, ⊤}
+use Rattle.dp_base.specs.Encoding.{IsPrefixOf}
+use Rattle.dp_base.specs.Journal.{frame}
+use Rattle.device.specs.Writing.{SentNothing}
+use Rattle.disk_model.specs.History.{History}
+use Rattle.epoch_journal.specs.declared.append.AppendFault.{AppendFault}
+use Rattle.epoch_journal.specs.declared.append.AppendFault.TheVariants as appends
+use Rattle.epoch_journal.specs.Standing.{Journal, Stands}
+use Rattle.journal_text.specs.Reading.{journal_of}
+use Rattle.journal_text.specs.Records.{Record, body_of}
+
+-- a record's frame is appended to a journal that stands on the disk and ends at this place
+pub record IsAppend (end : ℕ) (added : List ℕ) (before : History) (guest : List ℕ) (records : List Record) (r : Record) : Type 0 where
+  pub stands : Stands guest records before
+  pub at_end : end ≡ length before.disk
+  pub framed : added ≡ frame (body_of r)
+
+-- A frame was written behind the gate at the end, and then the gate was opened. After a device's fault what the last sync
+-- had left on the disk begins with the journal as it was.
+abbrev pub RecordWritten : (end : ℕ) → (added : List ℕ) → Bool → History → History → Type 0
+RecordWritten end added true before after = SentNothing before after
+    × ((guest : List ℕ) (records : List Record) (r : Record) → IsAppend end added before guest records r → Stands guest (records ++ r ∷ []) after)
+RecordWritten end added false before after = SentNothing before after
+    × ((guest : List ℕ) (records : List Record) (r : Record) → IsAppend end added before guest records r → IsPrefixOf (journal_of guest records) after.pending.synced)
+
+abbrev pub Appended : Journal → (added : List ℕ) → Result (Unit {0}) AppendFault → History → History → Type 0
+Appended j added (Ok done) before after = RecordWritten j.end added true before after
+Appended j added (Err (appends.Failed last)) before after = after ≡ before
+Appended j added (Err (appends.Full end need)) before after = after ≡ before
+Appended j added (Err appends.DiskFault) before after = RecordWritten j.end added false before after
+
+-- What the journal is behind an append of so many bytes. It answers Failed exactly if an append met a device's fault
+-- before, and else Full exactly if it has no room.
+abbrev pub HasAppended : Journal → (size : ℕ) → Journal → Result (Unit {0}) AppendFault → Type 0
+HasAppended j size after (Ok done) =
+    (j.failed ≡ false) × (j.end + size ≤ j.room) × (after ≡ record j { end = j.end + size; count = j.count + 1 })
+HasAppended j size after (Err (appends.Failed last)) = (j.failed ≡ true) × (last ≡ j.count) × (after ≡ j)
+HasAppended j size after (Err (appends.Full end need)) =
+    (j.failed ≡ false) × (end ≡ j.end) × (need ≡ size) × (j.room < j.end + size) × (after ≡ j)
+HasAppended j size after (Err appends.DiskFault) =
+    (j.failed ≡ false) × (j.end + size ≤ j.room) × (after ≡ record j { failed = true })
+
+-- the answers before which no call was made
+abbrev pub MakesNoCall : Result (Unit {0}) AppendFault → Type 0
+MakesNoCall (Ok done) = ⊥
+MakesNoCall (Err (appends.Failed last)) = ⊤
+MakesNoCall (Err (appends.Full end need)) = ⊤
+MakesNoCall (Err appends.DiskFault) = ⊥

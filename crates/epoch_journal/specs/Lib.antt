@@ -1,0 +1,4 @@
+pub mod Standing
+pub mod Beginning
+pub mod Appending
+pub mod ReadWhole

@@ -1,0 +1,20 @@
+-- What `read_whole` gives. This project's own.
+use Rattle.std.specs.Prelude.{◌≡◌, ◌≤◌, ℕ, Bool, false, List, length, take, Option, Some, None, ⊤}
+use Rattle.dp_base.specs.declared.limits.TheConstants.{MAX_JOURNAL_BYTES}
+
+-- the first bytes of the disk, where it is known
+abbrev pub IsReadWhole : Option (List ℕ) → List ℕ → Type 0
+IsReadWhole None bytes = ⊤
+IsReadWhole (Some disk) bytes = bytes ≡ take MAX_JOURNAL_BYTES disk
+
+-- ---- on the way. These serve the contracts of the crate's own steps.
+
+-- the first bytes of the disk, as many as there are
+abbrev pub IsReadSoFar : Option (List ℕ) → List ℕ → Type 0
+IsReadSoFar None bytes = ⊤
+IsReadSoFar (Some disk) bytes = bytes ≡ take (length bytes) disk
+
+-- the same one chunk later; where there was none, all of it was read
+abbrev pub IsReadOn : Option (List ℕ) → List ℕ → (more : Bool) → Type 0
+IsReadOn None bytes more = ⊤
+IsReadOn (Some disk) bytes more = IsReadSoFar (Some disk) bytes × (more ≡ false → length disk ≤ length bytes)

@@ -1,0 +1,26 @@
+-- A journal that stands on a disk: how far it is, and what the disk has. This project's own.
+use Rattle.std.specs.Prelude.{◌≡◌, ◌<◌, ◌≤◌, ◌^◌, ℕ, Bool, List}
+use Rattle.disk_model.specs.History.{History, IsSynced}
+use Rattle.journal_text.specs.Reading.{journal_of}
+use Rattle.journal_text.specs.Records.{Record}
+
+pub record Journal : Type 0 where
+  -- how many bytes it has, the last of which is the closed gate, and how many it may have
+  pub end : ℕ
+  pub room : ℕ
+  -- how many records were acknowledged
+  pub count : ℕ
+  -- whether an append met a device's fault
+  pub failed : Bool
+
+-- what a journal always is
+pub record IsJournal (j : Journal) : Type 0 where
+  pub gate : 0 < j.end
+  pub fits : j.end ≤ j.room
+  pub small : j.room ≤ 2 ^ 30
+  pub few : j.count ≤ j.end
+
+-- the journal of this guest with these records is on the disk for good, and nothing more is
+pub record Stands (guest : List ℕ) (records : List Record) (h : History) : Type 0 where
+  pub disk : h.disk ≡ journal_of guest records
+  pub synced : IsSynced h

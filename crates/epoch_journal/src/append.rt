@@ -1,0 +1,68 @@
+// A record is appended to a journal.
+ghost use Rattle.std.specs.Prelude.{◌≡◌, ◌<◌, ◌≤◌, IsErr, IsErrOf, is_ok, length};
+ghost use Rattle.disk_model.specs.Counts.{Rose};
+ghost use Rattle.disk_model.specs.Known.{IfKnown};
+ghost use Rattle.epoch_journal.specs.Appending.{Appended, HasAppended, MakesNoCall, RecordWritten};
+
+use crate::journal::Journal;
+use device::write_through;
+use disk_model::{Failed, World};
+use dp_base::journal::OPEN_GATE;
+use journal_text::Frame;
+
+/// Why a record was not appended.
+#[derive(Clone, Copy, Debug, PartialEq, Eq)]
+pub enum AppendFault {
+    /// The disk failed. The record may be in the journal or not; each further append answers `Failed`.
+    DiskFault,
+    /// The record ends past the room, and nothing was written: the journal's end, and the frame's length.
+    Full { end: u64, need: u64 },
+    /// An append before this one met a fault of the disk, and nothing was written: how many records were acknowledged.
+    Failed { last: u32 },
+}
+
+impl Journal {
+    /// Appends a record, which is acknowledged by `Ok`. Takes no memory.
+    pub fn append<W: World>(&mut self, world: &mut W, added: &Frame) -> Result<(), AppendFault>
+        ensures history { IfKnown (Appended self.old added.now result) (W.history world.old) (W.history world.new) }
+        ensures numbers { HasAppended self.old (length added.now) self.new result }
+        ensures untouched { MakesNoCall result → world.new ≡ world.old }
+        ensures cause { IsErrOf result AppendFault.DiskFault →
+            Rose (W.disk_faults world.old) (W.disk_faults world.new) }
+        ensures count { W.disk_faults world.old ≤ W.disk_faults world.new }
+        ensures sink { W.sink_faults world.new ≡ W.sink_faults world.old }
+    {
+        if self.failed {
+            return Err(AppendFault::Failed { last: self.count });
+        }
+        let end = self.end;
+        let need = added.as_slice().len() as u64;
+        if end + need > self.room {
+            return Err(AppendFault::Full { end, need });
+        }
+        match write_record(world, end, added.as_slice()) {
+            Ok(()) => {
+                self.end = end + need;
+                self.count += 1;
+                Ok(())
+            }
+            Err(Failed) => {
+                self.failed = true;
+                Err(AppendFault::DiskFault)
+            }
+        }
+    }
+}
+
+// Writes a frame behind the gate at the journal's end, and then opens the gate.
+fn write_record<W: World>(world: &mut W, end: u64, frame: &[u8]) -> Result<(), Failed>
+    requires { 0 < end }
+    ensures history { IfKnown (RecordWritten end frame.now (is_ok result)) (W.history world.old) (W.history world.new) }
+    ensures cause { IsErr result → Rose (W.disk_faults world.old) (W.disk_faults world.new) }
+    ensures count { W.disk_faults world.old ≤ W.disk_faults world.new }
+    ensures sink { W.sink_faults world.new ≡ W.sink_faults world.old }
+{
+    write_through(world, end, frame)?;
+    write_through(world, end - 1, &[OPEN_GATE])?;
+    Ok(())
+}

@@ -1,0 +1,22 @@
+//! A journal on a disk: begun, appended to record by record, and read whole.
+//!
+//! Promises: what was acknowledged is on the disk, and reads as it was written (`journal_text`'s grammar); a journal that
+//! doesn't fit its room, or whose device has failed, takes nothing more, and says so with its numbers. An append takes no
+//! memory. Stands on `device`, `disk_model` and `journal_text`.
+//!
+//! ```text
+//! let mut journal = Journal::begin(alloc, &mut world, guest, room)?;
+//! journal.append(&mut world, &frame)?;
+//! let bytes = read_whole(alloc, &mut world)?;
+//! ```
+#![tactic(auto)]
+
+mod append;
+mod begin;
+mod journal;
+mod whole;
+
+pub use append::AppendFault;
+pub use begin::BeginFault;
+pub use journal::Journal;
+pub use whole::{ReadFault, read_whole};
