@@ -1,6 +1,7 @@
 // The command line, as clap parses it: a function for each subcommand, and a line for each word of it.
 ghost use Rattle.std.specs.Prelude.{◌≡◌, IfOk, false};
-ghost use Rattle.clap.specs.Words.{app_of, fields_of, rule_of, with_rule};
+ghost use Rattle.clap.specs.Words.{app_of, with_rule};
+ghost use Rattle.clap.specs.declared.builder.command.Command.TheViews.{out-Command as fields_of};
 ghost use Rattle.dp_words.specs.CommandLine.{command_line, number, record_line, replay_line, text};
 
 use clap::builder::ValueParser;
@@ -26,10 +27,10 @@ fn record<'a>(alloc: Global) -> Result<Command<'a>, AllocError>
     let line = Command::new(alloc, "record");
     let line = with_text(alloc, line, "guest")?;
     let line = with_text(alloc, line, "journal")?;
-    let line = with_number(alloc, line, "workers", 1, u64::from(MAX_WORKERS), "4")?;
-    let line = with_number(alloc, line, "epoch", 1, u64::from(MAX_EPOCH_STEPS), "20000")?;
+    let line = with_number(alloc, line, "workers", 1, MAX_WORKERS as u64, "4")?;
+    let line = with_number(alloc, line, "epoch", 1, MAX_EPOCH_STEPS as u64, "20000")?;
     let line = with_number(alloc, line, "slice", 1, 100_000, "1000")?;
-    let line = with_number(alloc, line, "ahead", 1, u64::from(MAX_JOBS), "16")?;
+    let line = with_number(alloc, line, "ahead", 1, MAX_JOBS as u64, "16")?;
     let line = with_number(alloc, line, "mark", 0, 1000, "16")?;
     with_number(alloc, line, "limit", 1, 1_000_000_000_000, "1000000000")
 }
@@ -40,7 +41,7 @@ fn replay<'a>(alloc: Global) -> Result<Command<'a>, AllocError>
 {
     let line = Command::new(alloc, "replay");
     let line = with_text(alloc, line, "journal")?;
-    with_number(alloc, line, "workers", 1, u64::from(MAX_WORKERS), "4")
+    with_number(alloc, line, "workers", 1, MAX_WORKERS as u64, "4")
 }
 
 // The line with one more text, which must be there.
