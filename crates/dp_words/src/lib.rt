@@ -15,6 +15,7 @@
 
 mod command;
 mod command_line;
+mod laws;
 mod matched;
 mod parsing;
 mod text;
