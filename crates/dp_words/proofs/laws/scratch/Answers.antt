@@ -4,6 +4,7 @@ use Rattle.clap.specs.Simple.{built, is_simple}
 use Rattle.clap.proofs.OnLiterals.{clap_on_literals}
 use Rattle.dp_words.specs.CommandLine.{command_line}
 use Rattle.dp_words.proofs.Passing.{is_settled, takes_ok}
+use Rattle.dp_words.proofs.Kept.{level_wanted}
 use Rattle.dp_words.proofs.laws.scratch.Goals as goal
 
 simple : is_simple command_line ≡ true
