@@ -34,7 +34,7 @@ found_each P p (y ∷ ys) x all e = go (p y) (found_each P p ys x all.1) e
     go true later e = subst P (ap (λ o. unwrap_or o y) e) all.0
     go false later e = later e
 
-split : (a b : Bool) → (a && b) ≡ true → (a ≡ true) × (b ≡ true)
+pub split : (a b : Bool) → (a && b) ≡ true → (a ≡ true) × (b ≡ true)
 split true b e = (refl, e)
 split false b e = absurd (true≢false (sym e))
 

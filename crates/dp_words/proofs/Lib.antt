@@ -1,3 +1,5 @@
 pub mod LineLemmas
 pub mod Passing
 pub mod Kept
+pub mod Found
+pub mod Values

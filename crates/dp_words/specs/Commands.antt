@@ -1,11 +1,11 @@
 -- The command that the words of a command line say, by what clap finds in them.
-use Rattle.std.specs.Prelude.{◌≡◌, ◌∷◌, ◌<◌, ⊤, true, is_some, ◌≤◌, ℕ, List, [], Option, Some, None, codes, if◌then◌else◌, unwrap_or, map, String, string_bytes}
+use Rattle.std.specs.Prelude.{◌≡◌, ◌⊎◌, ◌∷◌, ◌<◌, ⊤, true, is_some, ◌≤◌, ℕ, List, [], Option, Some, None, codes, if◌then◌else◌, unwrap_or, map, String, string_bytes}
 use Rattle.std.specs.Str.{bytes_eq}
 use Rattle.std.specs.Str.Parse.{IsNumeral, digits_value, without_leading_plus}
 use Rattle.std.specs.declared.alloc.Global.{Global}
 use Rattle.clap.specs.Words.{Row, Rule, Text, first_of, subcommand_of}
 use Rattle.clap.specs.Takes.{value_passes}
-use Rattle.dp_words.specs.CommandLine.{command_line}
+use Rattle.dp_words.specs.CommandLine.{command_line, record_words, replay_words}
 use Rattle.dp_words.specs.declared.command.Command.{Command}
 use Rattle.dp_words.specs.declared.command.Command.TheVariants.{Record, Replay}
 
@@ -32,6 +32,12 @@ HasValue rows word = HasText word.id rows × (value_passes word (text_of word.id
 abbrev pub HasValues : List Rule → List Row → Type 0
 HasValues [] rows = ⊤
 HasValues (word ∷ words) rows = HasValue rows word × HasValues words rows
+
+-- clap found one of the subcommands, with its values
+abbrev pub IsFound : Option (Text × List Row) → Type 0
+IsFound None = ⊥
+IsFound (Some found) = ((found.0 ≡ codes "record") × HasValues record_words found.1)
+    ⊎ ((found.0 ≡ codes "replay") × HasValues replay_words found.1)
 
 abbrev pub record_of : List Row → Command
 record_of rows = Record (text_of (codes "guest") rows) (text_of (codes "journal") rows)

@@ -2,7 +2,7 @@
 ghost use Rattle.std.specs.Prelude.{◌≡◌, ◌<◌, ◌^◌, IfOk};
 ghost use Rattle.clap.specs.Words.{found_of, rows_of};
 ghost use Rattle.dp_words.specs.CommandLine.{record_words, replay_words};
-ghost use Rattle.dp_words.specs.Commands.{HasValues, HasText, HasNumber, number_of, record_of, replay_of, text_of};
+ghost use Rattle.dp_words.specs.Commands.{HasNumber, HasText, HasValues, IsInRange, number_of, record_of, replay_of, text_of};
 
 use crate::command::Command;
 use crate::text::Text;
@@ -12,7 +12,8 @@ use std::alloc::{AllocError, Global};
 /// The command of `record`. It fails only if an allocation does.
 pub fn record(alloc: Global, matches: &ArgMatches<'_>) -> Result<Command, AllocError>
     requires { HasValues record_words (rows_of (found_of matches.now)) }
-    ensures { IfOk result (λ command. command ≡ record_of (rows_of (found_of matches.now))) }
+    ensures command { IfOk result (λ command. command ≡ record_of (rows_of (found_of matches.now))) }
+    ensures ranges { IfOk result IsInRange }
 {
     Ok(Command::Record {
         guest: text(alloc, matches, "guest")?,
@@ -29,7 +30,8 @@ pub fn record(alloc: Global, matches: &ArgMatches<'_>) -> Result<Command, AllocE
 /// The command of `replay`. It fails only if an allocation does.
 pub fn replay(alloc: Global, matches: &ArgMatches<'_>) -> Result<Command, AllocError>
     requires { HasValues replay_words (rows_of (found_of matches.now)) }
-    ensures { IfOk result (λ command. command ≡ replay_of (rows_of (found_of matches.now))) }
+    ensures command { IfOk result (λ command. command ≡ replay_of (rows_of (found_of matches.now))) }
+    ensures ranges { IfOk result IsInRange }
 {
     Ok(Command::Replay {
         journal: text(alloc, matches, "journal")?,
