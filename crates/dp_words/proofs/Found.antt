@@ -1,13 +1,20 @@
 -- What clap finds in words that our command line takes.
-use Rattle.std.proofs.Common.{◌≡◌, ◌&&◌, ◌||◌, ◌⊎◌, Bool, cond, codes, true, false, not, refl, sym, inl, inr, List, [], ◌∷◌, Option, Some, None, is_some, true≢false}
+use Rattle.std.proofs.Common.{◌≡◌, ◌∙◌, ap, subst, ◌&&◌, ◌||◌, ◌⊎◌, Bool, cond, codes, true, false, not, refl, sym, inl, inr, List, [], ◌∷◌, Option, Some, None, is_some, true≢false}
 use Rattle.std.specs.Option.{option_map_or}
-use Rattle.std.specs.Prelude.{option_map}
+use Rattle.std.specs.Prelude.{Err, IsErrOf, Ok, Result, option_map}
 use Rattle.std.specs.List.{list_all, list_any}
 use Rattle.clap.specs.Facts.{explicit_source}
 use Rattle.clap.specs.Walk.{Row, Rule, Text, answers_to, finished, nothing_held, rows_after, stop_after, walk, walk_from}
 use Rattle.clap.specs.Simple.{App, Shape, argument_words, built, entered, is_simple, label_of, names_of, new_shape, rows_at, subcommand_of}
 use Rattle.clap.specs.Takes.{built_takes, default_passes, entered_passes, level_passes, settle_passes, takes, walk_passes}
 use Rattle.clap.specs.Faults.{fault_of, is_simple_and_free}
+use Rattle.clap.specs.Words.{HasMatchesOf, subcommand_rows_of}
+use Rattle.clap.specs.declared.parser.matches.ArgMatches.{ArgMatches}
+use Rattle.clap.specs.declared.error.kind.ErrorKind.{ErrorKind}
+use Rattle.clap.specs.declared.error.kind.ErrorKind.TheVariants as kinds
+use Rattle.dp_words.specs.declared.parsing.WordsFault.{WordsFault}
+use Rattle.dp_words.specs.declared.parsing.WordsFault.TheVariants as faults
+use Rattle.dp_words.specs.Fault.{fault_of as fault_by}
 use Rattle.clap.proofs.OnLiterals.{clap_on_literals}
 use Rattle.dp_words.specs.CommandLine.{command_line, record_words, replay_words}
 use Rattle.dp_words.specs.Commands.{HasValues, IsFound}
@@ -98,3 +105,29 @@ found words ok =
     let valid = split (list_all default_passes line.top.rules) _ settles.1 in
     let wanted = split (not line.top.subcommand_required || is_some (entered line stop)) _ (split (not line.top.arg_required_else_help || (is_some (entered line stop) || list_any (λ r. explicit_source r.source) (finished line.top.rules end))) _ valid.1).1 in
     entered_found stop parts.0 wanted.0
+
+-- ---- a parse of our command line
+
+pub line_taken : (a : App) (words : List Text) → a ≡ command_line → (is_simple_and_free a ≡ true → fault_of a words ≡ []) → takes command_line words ≡ true
+line_taken a words is none = taken words (subst (λ a. fault_of a words ≡ []) is (none (ap is_simple_and_free is ∙ simple_and_free)))
+
+pub line_rows : (a : App) (words : List Text) (m : ArgMatches) → a ≡ command_line → HasMatchesOf a words m
+    → subcommand_rows_of m ≡ subcommand_of command_line words
+line_rows a words m is has = (has (ap is_simple is ∙ simple)).1 ∙ ap (λ a. subcommand_of a words) is
+
+abbrev is_usage : {T : Type 0} → Result T WordsFault → Bool
+is_usage (Ok x) = false
+is_usage (Err faults.Usage) = true
+is_usage (Err faults.OutOfMemory) = false
+
+-- a fault that is no want of memory comes of words that aren't taken
+pub line_refused : {T : Type 0} (a : App) (words : List Text) (kind : ErrorKind) (fault : WordsFault) → a ≡ command_line
+    → (takes a words ≡ true → kind ≡ kinds.OutOfMemory) → fault ≡ fault_by kind → IsErrOf {T = T} (Err fault) faults.Usage → takes command_line words ≡ false
+line_refused {T = T} a words kind fault is passes by usage = go (takes command_line words) (λ ok. passes (ap (λ a. takes a words) is ∙ ok))
+  where
+    go : (b : Bool) → (b ≡ true → kind ≡ kinds.OutOfMemory) → b ≡ false
+    go false memory = refl
+    go true memory =
+        let by_memory : fault ≡ faults.OutOfMemory = by ∙ ap fault_by (memory refl) in
+        let same : true ≡ false = sym (ap (is_usage {T = T}) usage) ∙ ap (λ f. is_usage {T = T} (Err f)) by_memory in
+        absurd (true≢false same)
