@@ -1,12 +1,12 @@
 -- What clap finds in words that our command line takes.
-use Rattle.std.proofs.Common.{◌≡◌, ◌∙◌, ap, subst, ◌&&◌, ◌||◌, ◌⊎◌, Bool, cond, codes, true, false, not, refl, sym, inl, inr, List, [], ◌∷◌, Option, Some, None, is_some, true≢false}
+use Rattle.std.proofs.Common.{◌≡◌, ◌∙◌, ap, subst, ◌||◌, Bool, cond, true, false, not, refl, sym, inl, inr, List, [], ◌∷◌, Option, Some, None, is_some, true≢false}
 use Rattle.std.specs.Option.{option_map_or}
 use Rattle.std.specs.Prelude.{Err, IsErrOf, Ok, Result, option_map}
 use Rattle.std.specs.List.{list_all, list_any}
 use Rattle.clap.specs.Facts.{explicit_source}
-use Rattle.clap.specs.Walk.{Row, Rule, Text, answers_to, finished, nothing_held, rows_after, stop_after, walk, walk_from}
+use Rattle.clap.specs.Walk.{Row, Text, answers_to, finished, nothing_held, rows_after, stop_after, walk, walk_from}
 use Rattle.clap.specs.Simple.{App, Shape, argument_words, built, entered, is_simple, label_of, names_of, new_shape, rows_at, subcommand_of}
-use Rattle.clap.specs.Takes.{built_takes, default_passes, entered_passes, level_passes, settle_passes, takes, walk_passes}
+use Rattle.clap.specs.Takes.{default_passes, entered_passes, level_passes, settle_passes, takes, walk_passes}
 use Rattle.clap.specs.Faults.{fault_of, is_simple_and_free}
 use Rattle.clap.specs.Words.{HasMatchesOf, subcommand_rows_of}
 use Rattle.clap.specs.declared.parser.matches.ArgMatches.{ArgMatches}
@@ -17,7 +17,7 @@ use Rattle.dp_words.specs.declared.parsing.WordsFault.TheVariants as faults
 use Rattle.dp_words.specs.Fault.{fault_of as fault_by}
 use Rattle.clap.proofs.OnLiterals.{clap_on_literals}
 use Rattle.dp_words.specs.CommandLine.{command_line, record_words, replay_words}
-use Rattle.dp_words.specs.Commands.{HasValues, IsFound}
+use Rattle.dp_words.specs.Found.{HasValues, IsFound}
 use Rattle.dp_words.proofs.Passing.{is_settled, takes_ok}
 use Rattle.dp_words.proofs.Kept.{Each, HasFirstIfWanted, IsPlainWord, level_wanted, split}
 

@@ -9,7 +9,8 @@ use Rattle.clap.specs.Words.{IsUnsignedIn, Row, Text}
 use Rattle.clap.specs.declared.builder.value_parser.ValueParser.TheVariants as parser
 use Rattle.clap.proofs.ValueTestLemmas.{accepts-Accepts}
 use Rattle.dp_words.specs.CommandLine.{number}
-use Rattle.dp_words.specs.Commands.{HasNumber, HasValue, number_of, text_of}
+use Rattle.dp_words.specs.Commands.{number_of, text_of}
+use Rattle.dp_words.specs.Found.{HasNumber, HasValue}
 
 -- the text that was found
 pub text_read : (r : Option (Bor Text)) (t : Bor Text) (o : Option Text) → option_map (λ s. s.now) r ≡ o → r ≡ Some t → t.now ≡ unwrap_or o []

@@ -1,15 +1,14 @@
 -- The command that the words of a command line say, by what clap finds in them.
-use Rattle.std.specs.Prelude.{◌≡◌, ◌⊎◌, ◌∷◌, ◌<◌, ⊤, true, is_some, ◌≤◌, ℕ, List, [], Option, Some, None, codes, if◌then◌else◌, unwrap_or, map, String, string_bytes}
+use Rattle.std.specs.Prelude.{◌≤◌, ℕ, List, [], Option, Some, None, codes, if◌then◌else◌, unwrap_or, map, String, string_bytes}
 use Rattle.std.specs.Str.{bytes_eq}
-use Rattle.std.specs.Str.Parse.{IsNumeral, digits_value, without_leading_plus}
+use Rattle.std.specs.Str.Parse.{digits_value, without_leading_plus}
 use Rattle.std.specs.declared.alloc.Global.{Global}
-use Rattle.clap.specs.Words.{Row, Rule, Text, first_of, subcommand_of}
-use Rattle.clap.specs.Takes.{value_passes}
-use Rattle.dp_words.specs.CommandLine.{command_line, record_words, replay_words}
+use Rattle.clap.specs.Words.{Row, Text, first_of, subcommand_of}
+use Rattle.dp_words.specs.CommandLine.{command_line}
 use Rattle.dp_words.specs.declared.command.Command.{Command}
 use Rattle.dp_words.specs.declared.command.Command.TheVariants.{Record, Replay}
 
--- the text of this name
+-- the text of this name: words that are taken have one, so that the empty text never stands for it
 abbrev pub text_of : Text → List Row → Text
 text_of name rows = unwrap_or (first_of name rows) []
 
@@ -17,28 +16,7 @@ text_of name rows = unwrap_or (first_of name rows) []
 abbrev pub number_of : Text → List Row → ℕ
 number_of name rows = digits_value 10 (without_leading_plus (text_of name rows))
 
--- clap found a text of this name, and one that reads as a number below the bound
-abbrev pub HasText : Text → List Row → Type 0
-HasText name rows = is_some (first_of name rows) ≡ true
-
-abbrev pub HasNumber : ℕ → Text → List Row → Type 0
-HasNumber bound name rows = HasText name rows
-    × IsNumeral 10 (without_leading_plus (text_of name rows)) × (number_of name rows < bound)
-
--- clap found a value for each word of the subcommand, and one that the word takes
-abbrev pub HasValue : List Row → Rule → Type 0
-HasValue rows word = HasText word.id rows × (value_passes word (text_of word.id rows) ≡ true)
-
-abbrev pub HasValues : List Rule → List Row → Type 0
-HasValues [] rows = ⊤
-HasValues (word ∷ words) rows = HasValue rows word × HasValues words rows
-
--- clap found one of the subcommands, with its values
-abbrev pub IsFound : Option (Text × List Row) → Type 0
-IsFound None = ⊥
-IsFound (Some found) = ((found.0 ≡ codes "record") × HasValues record_words found.1)
-    ⊎ ((found.0 ≡ codes "replay") × HasValues replay_words found.1)
-
+-- a row for each subcommand: its command, its name, the ranges of its numbers
 abbrev pub record_of : List Row → Command
 record_of rows = Record (text_of (codes "guest") rows) (text_of (codes "journal") rows)
     (number_of (codes "workers") rows) (number_of (codes "epoch") rows) (number_of (codes "slice") rows)
@@ -47,7 +25,6 @@ record_of rows = Record (text_of (codes "guest") rows) (text_of (codes "journal"
 abbrev pub replay_of : List Row → Command
 replay_of rows = Replay (text_of (codes "journal") rows) (number_of (codes "workers") rows)
 
--- a row for each subcommand
 abbrev pub named_command : Text → List Row → Option Command
 named_command name rows =
     if bytes_eq name (codes "record") then Some (record_of rows)

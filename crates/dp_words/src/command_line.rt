@@ -24,24 +24,24 @@ pub fn command_line<'a>(alloc: Global) -> Result<Command<'a>, AllocError>
 fn record<'a>(alloc: Global) -> Result<Command<'a>, AllocError>
     ensures { IfOk result (λ line. (app_of line ≡ record_line) × ((fields_of line).has_globals ≡ false)) }
 {
-    let line = Command::new(alloc, "record");
-    let line = with_text(alloc, line, "guest")?;
-    let line = with_text(alloc, line, "journal")?;
-    let line = with_number(alloc, line, "workers", 1, MAX_WORKERS as u64, "4")?;
-    let line = with_number(alloc, line, "epoch", 1, MAX_EPOCH_STEPS as u64, "20000")?;
-    let line = with_number(alloc, line, "slice", 1, 100_000, "1000")?;
-    let line = with_number(alloc, line, "ahead", 1, MAX_JOBS as u64, "16")?;
-    let line = with_number(alloc, line, "mark", 0, 1000, "16")?;
-    with_number(alloc, line, "limit", 1, 1_000_000_000_000, "1000000000")
+    let record = Command::new(alloc, "record");
+    let record = with_text(alloc, record, "guest")?;
+    let record = with_text(alloc, record, "journal")?;
+    let record = with_number(alloc, record, "workers", 1, MAX_WORKERS as u64, "4")?;
+    let record = with_number(alloc, record, "epoch", 1, MAX_EPOCH_STEPS as u64, "20000")?;
+    let record = with_number(alloc, record, "slice", 1, 100_000, "1000")?;
+    let record = with_number(alloc, record, "ahead", 1, MAX_JOBS as u64, "16")?;
+    let record = with_number(alloc, record, "mark", 0, 1000, "16")?;
+    with_number(alloc, record, "limit", 1, 1_000_000_000_000, "1000000000")
 }
 
 // `replay JOURNAL` and its option.
 fn replay<'a>(alloc: Global) -> Result<Command<'a>, AllocError>
     ensures { IfOk result (λ line. (app_of line ≡ replay_line) × ((fields_of line).has_globals ≡ false)) }
 {
-    let line = Command::new(alloc, "replay");
-    let line = with_text(alloc, line, "journal")?;
-    with_number(alloc, line, "workers", 1, MAX_WORKERS as u64, "4")
+    let replay = Command::new(alloc, "replay");
+    let replay = with_text(alloc, replay, "journal")?;
+    with_number(alloc, replay, "workers", 1, MAX_WORKERS as u64, "4")
 }
 
 // The line with one more text, which must be there.

@@ -15,7 +15,6 @@
 
 mod command;
 mod command_line;
-mod laws;
 mod matched;
 mod parsing;
 mod text;

@@ -2,7 +2,8 @@
 ghost use Rattle.std.specs.Prelude.{◌≡◌, ◌<◌, ◌^◌, IfOk};
 ghost use Rattle.clap.specs.Words.{found_of, rows_of};
 ghost use Rattle.dp_words.specs.CommandLine.{record_words, replay_words};
-ghost use Rattle.dp_words.specs.Commands.{HasNumber, HasText, HasValues, IsInRange, number_of, record_of, replay_of, text_of};
+ghost use Rattle.dp_words.specs.Commands.{IsInRange, number_of, record_of, replay_of, text_of};
+ghost use Rattle.dp_words.specs.Found.{HasNumber, HasText, HasValues};
 
 use crate::command::Command;
 use crate::text::Text;
@@ -15,9 +16,11 @@ pub fn record(alloc: Global, matches: &ArgMatches<'_>) -> Result<Command, AllocE
     ensures command { IfOk result (λ command. command ≡ record_of (rows_of (found_of matches.now))) }
     ensures ranges { IfOk result IsInRange }
 {
+    let guest = text(alloc, matches, "guest")?;
+    let journal = text(alloc, matches, "journal")?;
     Ok(Command::Record {
-        guest: text(alloc, matches, "guest")?,
-        journal: text(alloc, matches, "journal")?,
+        guest,
+        journal,
         workers: small_number(matches, "workers"),
         epoch: small_number(matches, "epoch"),
         slice: small_number(matches, "slice"),
@@ -33,9 +36,10 @@ pub fn replay(alloc: Global, matches: &ArgMatches<'_>) -> Result<Command, AllocE
     ensures command { IfOk result (λ command. command ≡ replay_of (rows_of (found_of matches.now))) }
     ensures ranges { IfOk result IsInRange }
 {
+    let workers = small_number(matches, "workers");
     Ok(Command::Replay {
         journal: text(alloc, matches, "journal")?,
-        workers: small_number(matches, "workers"),
+        workers,
     })
 }
 

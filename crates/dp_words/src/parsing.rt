@@ -2,7 +2,8 @@
 ghost use Rattle.std.specs.Prelude.{◌≡◌, IfOk, IsErrOf, false, true, map, string_bytes, Some};
 ghost use Rattle.clap.specs.Words.{subcommand_rows_of, takes};
 ghost use Rattle.dp_words.specs.CommandLine.{command_line};
-ghost use Rattle.dp_words.specs.Commands.{IsFound, IsInRange, command_found, command_of};
+ghost use Rattle.dp_words.specs.Commands.{IsInRange, command_found, command_of};
+ghost use Rattle.dp_words.specs.Found.{IsFound};
 ghost use Rattle.dp_words.specs.Fault.{fault_of};
 ghost use Rattle.dp_words.specs.declared.parsing.WordsFault.TheVariants as faults;
 
@@ -56,7 +57,8 @@ fn found(alloc: Global, matches: &ArgMatches<'_>) -> Result<Command, AllocError>
 {
     match matches.subcommand().unwrap() {
         ("record", matches) => matched::record(alloc, matches),
-        (_, matches) => matched::replay(alloc, matches),
+        ("replay", matches) => matched::replay(alloc, matches),
+        _ => unreachable!(),
     }
 }
 

@@ -5,14 +5,26 @@ use std::test::Fail;
 fn words_that_are_taken(rt: HostRuntime) -> Result<(), Fail> {
     let cases: [(&str, &str, [u64; 6]); 6] = [
         ("dpcli replay j", "j", [4, 0, 0, 0, 0, 0]),
-        ("dpcli record g j", "g j", [4, 20_000, 1000, 16, 16, 1_000_000_000]),
+        (
+            "dpcli record g j",
+            "g j",
+            [4, 20_000, 1000, 16, 16, 1_000_000_000],
+        ),
         (
             "dpcli record g j --workers 64 --epoch 1 --slice 100000 --ahead 1 --mark 0 --limit 1000000000000",
             "g j",
             [64, 1, 100_000, 1, 0, 1_000_000_000_000],
         ),
-        ("x record --epoch=7 g j", "g j", [4, 7, 1000, 16, 16, 1_000_000_000]),
-        ("x record -- --g j", "--g j", [4, 20_000, 1000, 16, 16, 1_000_000_000]),
+        (
+            "x record --epoch=7 g j",
+            "g j",
+            [4, 7, 1000, 16, 16, 1_000_000_000],
+        ),
+        (
+            "x record -- --g j",
+            "--g j",
+            [4, 20_000, 1000, 16, 16, 1_000_000_000],
+        ),
         ("x replay --workers 2 j", "j", [2, 0, 0, 0, 0, 0]),
     ];
     for (line, said, values) in cases {
@@ -28,7 +40,18 @@ fn said_by(rt: &HostRuntime, line: &str) -> Result<(String, [u64; 6]), Fail> {
     let alloc = rt.alloc();
     let words = words_of(rt, line)?;
     match parse(alloc, &words) {
-        Ok(Command::Record { guest, journal, workers, epoch, slice, ahead, mark, limit }) => {
+        Ok(
+            Command::Record {
+                guest,
+                journal,
+                workers,
+                epoch,
+                slice,
+                ahead,
+                mark,
+                limit,
+            },
+        ) => {
             let texts = format!(in alloc; "{} {}", guest.as_str(), journal.as_str())?;
             let numbers = [
                 u64::from(workers),
@@ -40,7 +63,10 @@ fn said_by(rt: &HostRuntime, line: &str) -> Result<(String, [u64; 6]), Fail> {
             ];
             Ok((texts, numbers))
         }
-        Ok(Command::Replay { journal, workers }) => Ok((journal.into_string(), [u64::from(workers), 0, 0, 0, 0, 0])),
+        Ok(Command::Replay { journal, workers }) => Ok((
+            journal.into_string(),
+            [u64::from(workers), 0, 0, 0, 0, 0],
+        )),
         Err(_) => Err(Fail::from("refused")),
     }
 }

@@ -1,4 +1,4 @@
-use Rattle.std.proofs.Common.{rules, ◌≡◌, ◌∙◌, codes}
+use Rattle.std.proofs.Common.{◌∙◌, codes}
 use Rattle.std.proofs.lemmas.Result.{IfOk-weaker}
 use Rattle.clap.specs.Words.{App, new_app, with_rule}
 use Rattle.dp_words.specs.CommandLine.{number, text}
@@ -16,10 +16,10 @@ to_ahead = with_rule (with_rule to_epoch (number (codes "slice") 1 100000 (codes
 
 pub returns : goal.returns
 returns c =
-    let two = longer _ _ _ _ c.in_ok-line-2.ensures.0 (longer _ _ _ _ c.in_ok-line.ensures.0 c.new-line.ensures.app) in
-    let four = longer _ _ _ _ c.in_ok-line-4.ensures.0 (longer _ _ _ _ c.in_ok-line-3.ensures.0 two) in
-    let six = longer _ _ _ _ c.in_ok-line-6.ensures.0 (longer _ _ _ _ c.in_ok-line-5.ensures.0 four) in
-    let seven = longer _ _ _ _ c.in_ok-line-7.ensures.0 six in
-    let local = c.in_ok-line-7.ensures.1 ∙ c.in_ok-line-6.ensures.1 ∙ c.in_ok-line-5.ensures.1 ∙ c.in_ok-line-4.ensures.1 ∙ c.in_ok-line-3.ensures.1
-    ∙ c.in_ok-line-2.ensures.1 ∙ c.in_ok-line.ensures.1 ∙ c.new-line.ensures.local in
+    let two = longer _ _ _ _ c.in_ok-record-2.ensures.0 (longer _ _ _ _ c.in_ok-record.ensures.0 c.new-record.ensures.app) in
+    let four = longer _ _ _ _ c.in_ok-record-4.ensures.0 (longer _ _ _ _ c.in_ok-record-3.ensures.0 two) in
+    let six = longer _ _ _ _ c.in_ok-record-6.ensures.0 (longer _ _ _ _ c.in_ok-record-5.ensures.0 four) in
+    let seven = longer _ _ _ _ c.in_ok-record-7.ensures.0 six in
+    let local = c.in_ok-record-7.ensures.1 ∙ c.in_ok-record-6.ensures.1 ∙ c.in_ok-record-5.ensures.1 ∙ c.in_ok-record-4.ensures.1 ∙ c.in_ok-record-3.ensures.1
+    ∙ c.in_ok-record-2.ensures.1 ∙ c.in_ok-record.ensures.1 ∙ c.new-record.ensures.local in
     IfOk-weaker c.with_number-6.result _ _ (λ line h. (longer _ _ _ _ h.0 seven, h.1 ∙ local)) c.with_number-6.ensures

@@ -3,5 +3,5 @@ use Rattle.clap.specs.Words.{found_of, rows_of}
 use Rattle.dp_words.proofs.Values.{number_below}
 use Rattle.dp_words.proofs.matched.replay.Goals as goal
 
-pub small_number-requires : goal.small_number-requires
-small_number-requires c = number_below 4294967296 1 64 (codes "workers") (codes "4") (rows_of (found_of c.args.matches.now)) (omega arith) c.requires.1.0
+pub small_number-workers-requires : goal.small_number-workers-requires
+small_number-workers-requires c = number_below 4294967296 1 64 (codes "workers") (codes "4") (rows_of (found_of c.args.matches.now)) (omega arith) c.requires.1.0

@@ -1,6 +1,7 @@
 use Rattle.std.proofs.Common.{◌∙◌, ap, map, string_bytes, subst, sym}
 use Rattle.clap.specs.Words.{app_of}
-use Rattle.dp_words.specs.Commands.{IsFound, command_found}
+use Rattle.dp_words.specs.Commands.{command_found}
+use Rattle.dp_words.specs.Found.{IsFound}
 use Rattle.dp_words.proofs.Found.{found, line_refused, line_rows, line_taken}
 use Rattle.dp_words.proofs.parsing.parse.Goals as goal
 
