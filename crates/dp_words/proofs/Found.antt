@@ -19,7 +19,8 @@ use Rattle.clap.proofs.OnLiterals.{clap_on_literals}
 use Rattle.dp_words.specs.CommandLine.{command_line, record_words, replay_words}
 use Rattle.dp_words.specs.Found.{HasValues, IsFound}
 use Rattle.dp_words.proofs.Passing.{is_settled, takes_ok}
-use Rattle.dp_words.proofs.Kept.{Each, HasFirstIfWanted, IsPlainWord, level_wanted, split}
+use Rattle.dp_words.proofs.Kept.{Each, IsPlainWord, split}
+use Rattle.dp_words.proofs.Present.{HasFirstIfWanted, level_wanted}
 
 -- ---- the command line, as clap builds it
 
