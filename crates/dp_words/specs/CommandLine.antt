@@ -1,4 +1,5 @@
--- The command line, as clap's definition of one: a row for each word of each subcommand.
+-- The command line, as data of clap's definitions: a row for each word of each subcommand. Where clap builds it, it adds
+-- the flag --help to each.
 use Rattle.std.specs.Prelude.{ℕ, List, [], ◌∷◌, true, Some, codes, fold}
 use Rattle.clap.specs.Words.{App, Rule, Text, new_app, new_rule, with_rule, with_subcommand}
 use Rattle.clap.specs.Simple.{on_top}

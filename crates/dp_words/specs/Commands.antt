@@ -16,7 +16,7 @@ text_of name rows = unwrap_or (first_of name rows) []
 abbrev pub number_of : Text → List Row → ℕ
 number_of name rows = digits_value 10 (without_leading_plus (text_of name rows))
 
--- a row for each subcommand: its command, its name, the ranges of its numbers
+-- what each subcommand says, a definition for each
 abbrev pub record_of : List Row → Command
 record_of rows = Record (text_of (codes "guest") rows) (text_of (codes "journal") rows)
     (number_of (codes "workers") rows) (number_of (codes "epoch") rows) (number_of (codes "slice") rows)
@@ -25,6 +25,7 @@ record_of rows = Record (text_of (codes "guest") rows) (text_of (codes "journal"
 abbrev pub replay_of : List Row → Command
 replay_of rows = Replay (text_of (codes "journal") rows) (number_of (codes "workers") rows)
 
+-- which subcommand it is, a row for each
 abbrev pub named_command : Text → List Row → Option Command
 named_command name rows =
     if bytes_eq name (codes "record") then Some (record_of rows)
