@@ -88,11 +88,11 @@ clock_taken bytes x fits e =
     subst (TakesAnswer 1 bytes) (same_Some _ _ a.2) (little_bytes 8 a.0.0, refl, t.0, below)
 
 -- which way a test went
-chosen : {A : Type 0} (test : Bool) (x y z : Option A) → cond test x y ≡ z → ((test ≡ true) × (x ≡ z)) ⊎ ((test ≡ false) × (y ≡ z))
+pub chosen : {A : Type 0} (test : Bool) (x y z : Option A) → cond test x y ≡ z → ((test ≡ true) × (x ≡ z)) ⊎ ((test ≡ false) × (y ≡ z))
 chosen true x y z e = inl (refl, e)
 chosen false x y z e = inr (refl, e)
 
-only_if : {A : Type 0} (test : Bool) (x : Option A) (y : A) → cond test x None ≡ Some y → (test ≡ true) × (x ≡ Some y)
+pub only_if : {A : Type 0} (test : Bool) (x : Option A) (y : A) → cond test x None ≡ Some y → (test ≡ true) × (x ≡ Some y)
 only_if true x y e = (refl, e)
 only_if false x y e = absurd cc
 
@@ -141,7 +141,7 @@ answer_code = code_from answer_at answer IsAnswer answer_found answer_taken
 
 -- ---- so many of a kind
 
-many_taken : {X : Type 0} (item : List ℕ → Option (X × List ℕ)) (encode : X → List ℕ) (Is : X → Type 0) → IsPrefixCode item encode Is → (n : ℕ) (bytes : List ℕ) (x : List X × List ℕ) → AreBytes bytes
+pub many_taken : {X : Type 0} (item : List ℕ → Option (X × List ℕ)) (encode : X → List ℕ) (Is : X → Type 0) → IsPrefixCode item encode Is → (n : ℕ) (bytes : List ℕ) (x : List X × List ℕ) → AreBytes bytes
     → many_at item n bytes ≡ Some x → Splits bytes (flat_map encode x.0) x.1 × (length x.0 ≡ n) × AllByRecursion Is x.0
 unfolding many_at
 many_taken {X} item encode Is laws zero bytes x fits e =
@@ -156,7 +156,7 @@ many_taken {X} item encode Is laws (suc n) bytes x fits e =
     let made : List X × List ℕ = (a.0.0 ∷ b.0.0, b.0.1) in
     subst (λ (y : List X × List ℕ). Splits bytes (flat_map encode y.0) y.1 × (length y.0 ≡ suc n) × AllByRecursion Is y.0) (same_Some _ _ b.2) (both, ap suc others.1, (first.1, others.2))
 
-many_found : {X : Type 0} (item : List ℕ → Option (X × List ℕ)) (encode : X → List ℕ) (Is : X → Type 0) → IsPrefixCode item encode Is → (xs : List X) (rest : List ℕ) → AllByRecursion Is xs
+pub many_found : {X : Type 0} (item : List ℕ → Option (X × List ℕ)) (encode : X → List ℕ) (Is : X → Type 0) → IsPrefixCode item encode Is → (xs : List X) (rest : List ℕ) → AllByRecursion Is xs
     → many_at item (length xs) (flat_map encode xs ++ rest) ≡ Some (xs, rest)
 unfolding many_at
 many_found item encode Is laws [] rest fits = refl
@@ -195,7 +195,7 @@ abbrev counted_slices : List Slice → List ℕ → List ℕ
 counted_slices slices behind = little_bytes 4 (length slices) ++ (flat_map slice slices ++ behind)
 
 -- so many, behind their number
-counted_taken : {X : Type 0} (item : List ℕ → Option (X × List ℕ)) (encode : X → List ℕ) (Is : X → Type 0) → IsPrefixCode item encode Is → (bytes : List ℕ) (count : ℕ × List ℕ) (x : List X × List ℕ) → AreBytes bytes
+pub counted_taken : {X : Type 0} (item : List ℕ → Option (X × List ℕ)) (encode : X → List ℕ) (Is : X → Type 0) → IsPrefixCode item encode Is → (bytes : List ℕ) (count : ℕ × List ℕ) (x : List X × List ℕ) → AreBytes bytes
     → number_at 4 bytes ≡ Some count → many_at item count.0 count.1 ≡ Some x → Splits bytes (little_bytes 4 (length x.0) ++ flat_map encode x.0) x.1 × (length x.0 ≡ count.0) × (length x.0 < 2 ^ 32) × AllByRecursion Is x.0
 counted_taken item encode Is laws bytes count x fits count-is x-is =
     let a = number_taken 4 bytes count fits count-is in

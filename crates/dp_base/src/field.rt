@@ -2,7 +2,7 @@
 
 ghost use Rattle.std.specs.Prelude.{◌≡◌, ◌++◌, OnOk, OnErr, option_map};
 ghost use Rattle.byteorder.specs.Endian.{little_bytes};
-ghost use Rattle.dp_base.specs.Field.{number_at};
+ghost use Rattle.dp_base.specs.Field.{bytes_at, number_at};
 
 use crate::OutOfMemory;
 use byteorder::{ByteOrder, LittleEndian};
@@ -45,6 +45,16 @@ pub fn read_u64(bytes: &[u8]) -> Option<(u64, &[u8])>
         return None;
     }
     Some((LittleEndian::read_u64(bytes), &bytes[8..]))
+}
+
+/// The first `count` bytes, and the bytes behind them. None: there are fewer.
+pub fn read_bytes(bytes: &[u8], count: usize) -> Option<(&[u8], &[u8])>
+    ensures { option_map (λ x. (x.0.now, x.1.now)) result ≡ bytes_at count bytes.now }
+{
+    if bytes.len() < count {
+        return None;
+    }
+    Some((&bytes[..count], &bytes[count..]))
 }
 
 /// Adds bytes at the end, all of them or none.

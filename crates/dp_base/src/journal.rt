@@ -17,14 +17,14 @@ pub const OPEN_GATE: u8 = 1;
 /// Behind the last record that counts: nothing from here on does.
 pub const CLOSED_GATE: u8 = 0;
 
-// The first byte of an epoch's body.
-const EPOCH_KIND: u8 = 0;
+/// The first byte of an epoch's body.
+pub const EPOCH_KIND: u8 = 0;
 
-// The first byte of an answer to a read.
-const READ_KIND: u8 = 0;
+/// The first byte of an answer to a read.
+pub const READ_KIND: u8 = 0;
 
-// The first byte of an answer to a call of the clock.
-const CLOCK_KIND: u8 = 1;
+/// The first byte of an answer to a call of the clock.
+pub const CLOCK_KIND: u8 = 1;
 
 /// Adds what stands behind the header's gate: the format's name, and the guest file behind its length.
 pub fn write_header_body(out: &mut Vec<u8>, guest: &[u8]) -> Result<(), OutOfMemory>

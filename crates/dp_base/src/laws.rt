@@ -6,7 +6,7 @@ ghost use Rattle.byteorder.specs.Endian.{little_bytes};
 ghost use Rattle.dp_base.specs.Field.{number_at};
 ghost use Rattle.dp_base.specs.Journal.{Epoch, IsGuest, IsBody, IsSlice, IsAnswer, IsEpoch, header, header_at, record_of, record_at, frame, closed_gate, slice, slice_at, answer, answer_at, epoch_body, epoch_body_at};
 ghost use Rattle.dp_base.specs.declared.slice.Slice.{Slice};
-ghost use Rattle.dp_base.specs.Encoding.{IsPrefixCode};
+ghost use Rattle.dp_base.specs.Encoding.{IsPrefixCode, IsWholeCode};
 
 use crate::limits::{MAX_BODY_BYTES, MAX_EPOCH_STEPS};
 
@@ -52,6 +52,17 @@ pub fn answers()
 /// An epoch has one body, and a body is of one epoch.
 pub fn epochs()
     ensures { IsPrefixCode epoch_body_at epoch_body IsEpoch }
+{}
+
+/// What is decoded from all of the bytes, with none left over: an encoding gives its value, and bytes that give a value are
+/// its encoding.
+pub fn whole_values()
+    ensures numbers { (n : ℕ) → IsWholeCode (number_at n) (little_bytes n) (λ x. x < 256 ^ n) }
+    ensures headers { IsWholeCode header_at header IsGuest }
+    ensures records { IsWholeCode record_at record_of IsBody }
+    ensures slices { IsWholeCode slice_at slice IsSlice }
+    ensures answers { IsWholeCode answer_at answer IsAnswer }
+    ensures epochs { IsWholeCode epoch_body_at epoch_body IsEpoch }
 {}
 
 /// How many bytes each encoding has.

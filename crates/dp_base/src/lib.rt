@@ -2,7 +2,8 @@
 //! fields of the journal, and the definitions of the journal's bytes (`specs/Journal.antt`).
 //!
 //! Promises: what a field writer adds is what the reader of the same width takes, and no byte more; a journal
-//! value has one encoding, and no encoding is a prefix of another. Stands on `byteorder` for numbers in bytes.
+//! value has one encoding, and no encoding is a prefix of another; `journal_reader` takes from bytes what the
+//! definitions accept, and no more. Stands on `byteorder` for numbers in bytes.
 //!
 //! An epoch becomes the bytes that an append writes behind the closed gate:
 //!
@@ -16,18 +17,23 @@
 #![tactic(auto)]
 
 mod answer;
+mod answer_view;
 mod bytes;
 pub mod field;
 pub mod journal;
+pub mod journal_reader;
 pub mod laws;
 pub mod limits;
 mod out_of_memory;
+mod page;
 mod slice;
 mod tid;
 
 pub use answer::Answer;
+pub use answer_view::AnswerView;
 pub use bytes::Bytes;
 pub use out_of_memory::OutOfMemory;
+pub use page::Page;
 pub use slice::Slice;
 pub use tid::Tid;
 

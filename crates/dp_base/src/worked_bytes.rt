@@ -5,7 +5,7 @@ ghost use Rattle.std.specs.Prelude.{◌≡◌, ◌∷◌, [], ◌≤◌, ℕ, Li
 ghost use Rattle.byteorder.specs.Endian.{little_bytes};
 ghost use Rattle.dp_base.specs.Field.{AreBytes, bytes_at, number_at};
 ghost use Rattle.dp_base.specs.Journal.{IsSlice, IsAnswer, IsBody, IsGuest, answer_at, epoch_body, epoch_body_at, frame, header, header_at, journal, record_at, record_of, slice, slice_at};
-ghost use Rattle.dp_base.specs.Encoding.{IsPrefixCode, IsPrefixOf};
+ghost use Rattle.dp_base.specs.Encoding.{IsPrefixCode, IsPrefixOf, whole};
 ghost use Rattle.dp_base.specs.declared.answer.Answer.TheVariants.{Read, Clock};
 
 // Fields are taken from the start, lowest byte first.
@@ -23,6 +23,13 @@ fn fields()
 fn prefixes()
     ensures more { IsPrefixOf (1 ∷ []) (1 ∷ 2 ∷ []) }
     ensures less { IsPrefixOf (1 ∷ 2 ∷ []) (1 ∷ []) → ⊥ }
+{}
+
+// A value is decoded from all of the bytes, or there is none.
+fn whole_values()
+    ensures all { whole (number_at 1) (5 ∷ []) ≡ Some 5 }
+    ensures behind { whole (number_at 1) (5 ∷ 6 ∷ []) ≡ None }
+    ensures too_few { whole (number_at 1) [] ≡ None }
 {}
 
 // In one byte 256 has the encoding of 0.

@@ -1,20 +1,7 @@
 // Public calls of the crates below that no other test runs yet.
 use disk_mem::CallNumbers;
-use dp_base::{Answer, Bytes};
-use guest_kernel::AnswerLog;
+use dp_base::Bytes;
 use std::test::Fail;
-
-#[test]
-fn answers_in_order(rt: HostRuntime) -> Result<(), Fail> {
-    let mut log = AnswerLog::new(rt.alloc());
-    log.put(Answer::Clock(7))?;
-    log.put(Answer::Clock(9))?;
-    let mut at = 1;
-    assert!(rt; matches!(log.next(&mut at), Some(Answer::Clock(9))));
-    assert!(rt; log.next(&mut at).is_none());
-    assert_eq!(rt; (at, log.as_slice().len()), (2, 2));
-    Ok(())
-}
 
 #[test]
 fn lists_given_back(rt: HostRuntime) -> Result<(), Fail> {

@@ -5,15 +5,16 @@ use Rattle.std.proofs.Math.Nat.{min-le_right}
 use Rattle.std.proofs.lemmas.Bool.{cond_both}
 use Rattle.dp_base.specs.declared.answer.Answer.{Answer}
 use Rattle.dp_base.specs.declared.limits.TheConstants.{MAX_CALL_BYTES}
-use Rattle.guest_kernel.specs.declared.hart.Hart.{Hart}
+use Rattle.guest_state.specs.declared.hart.Hart.{Hart}
 use Rattle.guest_kernel.specs.declared.state.State.{State}
-use Rattle.guest_kernel.specs.declared.thread.Thread.{Thread}
-use Rattle.guest_kernel.specs.declared.thread.Thread.TheVariants.{Runs}
+use Rattle.guest_state.specs.declared.thread.Thread.{Thread}
+use Rattle.guest_state.specs.declared.thread.Thread.TheVariants.{Runs}
 use Rattle.guest_kernel.specs.Call.{After, Refusal, Written, not_runnable, a7, a0, a1, a2, bytes_written, moved, written, written_by, minus, ENOSYS}
 use Rattle.guest_kernel.specs.Instruction.{Effect, goes, calls, traps}
 use Rattle.guest_kernel.specs.Lone.{RunsAlone}
-use Rattle.guest_kernel.specs.Memory.{Memory, readable}
-use Rattle.guest_kernel.specs.Register.{with_register, next}
+use Rattle.guest_kernel.specs.Memory.{readable}
+use Rattle.guest_state.specs.Pages.{Memory}
+use Rattle.guest_state.specs.Register.{with_register, next}
 use Rattle.guest_kernel.specs.Start.{first_thread}
 use Rattle.guest_kernel.specs.State.{has_ended, dropping, unreserved, without_reservation}
 use Rattle.guest_kernel.specs.Step.{effect}

@@ -7,8 +7,8 @@ use Rattle.std.proofs.lemmas.Bool.{cases_lt}
 use Rattle.std.proofs.lemmas.List.{map_push, length_push, get_or_append_left, get_or_push}
 use Rattle.std.proofs.lemmas.List.Elements.{All-push, All-map, All-get_or, All-head, All-tail}
 use Rattle.dp_base.specs.declared.limits.TheConstants.{MAX_PAGES}
-use Rattle.guest_kernel.specs.declared.pages.Page.{Page}
-use Rattle.guest_kernel.specs.Memory.{IsPage, ArePages}
+use Rattle.dp_base.specs.declared.page.Page.{Page}
+use Rattle.guest_state.specs.Pages.{IsPage, ArePages}
 
 -- a number behind rising ones that are all below it
 IsStrictlyIncreasing-push : (ns : List ℕ) (n : ℕ) → IsStrictlyIncreasing ns → All (λ m. m < n) ns → IsStrictlyIncreasing (ns ++ n ∷ [])

@@ -3,7 +3,8 @@ use Rattle.std.proofs.Common.{◌≡◌, ◌+◌, ◌-◌, ◌<◌, ℕ, zero, s
 use Rattle.std.specs.Option.{option_map}
 use Rattle.std.proofs.lemmas.List.{append-nil}
 use Rattle.dp_base.specs.Field.{◌>>=◌}
-use Rattle.guest_kernel.specs.Memory.{Memory, readable_byte, readable}
+use Rattle.guest_kernel.specs.Memory.{readable_byte, readable}
+use Rattle.guest_state.specs.Pages.{Memory}
 
 -- some bytes, and those of a range behind them
 abbrev pub followed_by : List ℕ → Option (List ℕ) → Option (List ℕ)

@@ -8,8 +8,8 @@ use Rattle.guest_kernel.specs.Call.{After, Refusal}
 use Rattle.guest_kernel.specs.Turn.{turn}
 use Rattle.guest_kernel.specs.Slices.{Stop, either, turns, slices, slice_ended, joined, run, used_up, one_slice}
 use Rattle.guest_kernel.specs.declared.state.State.{State}
-use Rattle.guest_kernel.specs.declared.thread.Thread.{Thread}
-use Rattle.guest_kernel.specs.declared.thread.Thread.TheVariants.{Runs, Waits, Gone}
+use Rattle.guest_state.specs.declared.thread.Thread.{Thread}
+use Rattle.guest_state.specs.declared.thread.Thread.TheVariants.{Runs, Waits, Gone}
 use Rattle.guest_kernel.specs.State.{dropping, without_reservation}
 use Rattle.guest_kernel.specs.Threads.{thread_at}
 

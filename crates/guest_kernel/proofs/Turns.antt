@@ -3,9 +3,9 @@ use Rattle.std.proofs.Common.{◌≡◌, ◌+◌, ℕ, Bool, true, false, cond, 
 use Rattle.std.proofs.lemmas.Bool.{cond_both}
 use Rattle.dp_base.specs.declared.answer.Answer.{Answer}
 use Rattle.dp_base.specs.declared.tid.Tid.{Tid}
-use Rattle.guest_kernel.specs.declared.hart.Hart.{Hart}
-use Rattle.guest_kernel.specs.declared.thread.Thread.{Thread}
-use Rattle.guest_kernel.specs.declared.thread.Thread.TheVariants.{Runs, Waits, Gone}
+use Rattle.guest_state.specs.declared.hart.Hart.{Hart}
+use Rattle.guest_state.specs.declared.thread.Thread.{Thread}
+use Rattle.guest_state.specs.declared.thread.Thread.TheVariants.{Runs, Waits, Gone}
 use Rattle.guest_kernel.specs.declared.state.State.{State}
 use Rattle.std.specs.Prelude.{◌==◌}
 use Rattle.guest_kernel.specs.Call.{After, Refusal, not_runnable, called, a7}

@@ -5,12 +5,13 @@ use Rattle.std.specs.Prelude.{◌-◌, ◌^◌, ℕ, min, not, List, [], Option,
 use Rattle.dp_base.specs.declared.answer.Answer.{Answer}
 use Rattle.dp_base.specs.declared.limits.TheConstants.{MAX_CALL_BYTES}
 use Rattle.dp_base.specs.declared.tid.Tid.{Tid}
-use Rattle.guest_kernel.specs.declared.hart.Hart.{Hart}
-use Rattle.guest_kernel.specs.declared.thread.Thread.TheVariants.{Runs}
+use Rattle.guest_state.specs.declared.hart.Hart.{Hart}
+use Rattle.guest_state.specs.declared.thread.Thread.TheVariants.{Runs}
 use Rattle.guest_kernel.specs.declared.state.State.{State}
-use Rattle.guest_kernel.specs.declared.state.End.TheVariants as ends
-use Rattle.guest_kernel.specs.Memory.{Memory, readable}
-use Rattle.guest_kernel.specs.Register.{register, with_register, next}
+use Rattle.guest_state.specs.declared.end.End.TheVariants as ends
+use Rattle.guest_kernel.specs.Memory.{readable}
+use Rattle.guest_state.specs.Pages.{Memory}
+use Rattle.guest_state.specs.Register.{register, with_register, next}
 use Rattle.guest_kernel.specs.State.{with_thread, counted}
 
 -- what a turn leaves: the state, the bytes that it wrote, and the rest of the log of answers

@@ -3,8 +3,8 @@
 use Rattle.std.specs.Prelude.{◌+◌, ◌-◌, ◌*◌, ◌/◌, ◌%◌, ◌^◌, ℕ, Bool, Option, Some, None, ◌==◌, ◌&&◌, nat_lt, if◌then◌else◌}
 use Rattle.guest_kernel.specs.declared.step.Instr.{Instr}
 use Rattle.guest_kernel.specs.declared.step.Instr.TheVariants.{Lui, Addi, Ecall}
-use Rattle.guest_kernel.specs.declared.hart.Hart.{Hart}
-use Rattle.guest_kernel.specs.Register.{register, with_register, wrapped, next}
+use Rattle.guest_state.specs.declared.hart.Hart.{Hart}
+use Rattle.guest_state.specs.Register.{register, with_register, wrapped, next}
 
 -- ---- fields of a word
 

@@ -1,5 +1,4 @@
 pub mod Memory
-pub mod Register
 pub mod Instruction
 pub mod Operands
 pub mod Step

@@ -1,7 +1,7 @@
 -- Guests of one thread. This machine's own.
 use Rattle.std.specs.Prelude.{◌≡◌, ℕ, [], ◌∷◌}
-use Rattle.guest_kernel.specs.declared.hart.Hart.{Hart}
-use Rattle.guest_kernel.specs.declared.thread.Thread.TheVariants.{Runs}
+use Rattle.guest_state.specs.declared.hart.Hart.{Hart}
+use Rattle.guest_state.specs.declared.thread.Thread.TheVariants.{Runs}
 use Rattle.guest_kernel.specs.declared.state.State.{State}
 
 -- its one thread runs; the guest may have ended

@@ -7,21 +7,8 @@ use Rattle.std.specs.List.Sorted.{IsStrictlyIncreasing}
 use Rattle.std.specs.Option.{option_map}
 use Rattle.dp_base.specs.Field.{◌>>=◌}
 use Rattle.dp_base.specs.declared.limits.TheConstants.{MAX_PAGES, PAGE_BYTES, PAGE_NUMBERS}
-use Rattle.guest_kernel.specs.declared.pages.Page.{Page}
-
-abbrev pub Memory : Type 0
-Memory = List Page
-
-pub record IsPage (p : Page) : Type 0 where
-  pub number : p.number < PAGE_NUMBERS
-  pub flags : p.flags < 8
-  pub bytes : length p.bytes ≡ PAGE_BYTES
-
--- what the pages of a guest always are
-pub record ArePages (memory : Memory) : Type 0 where
-  pub each : All IsPage memory
-  pub rising : IsStrictlyIncreasing (map (λ p. p.number) memory)
-  pub few : length memory ≤ MAX_PAGES
+use Rattle.dp_base.specs.declared.page.Page.{Page}
+use Rattle.guest_state.specs.Pages.{Memory}
 
 -- a page with these bytes first, and zeros behind them
 abbrev pub page_with : ℕ → ℕ → List ℕ → Page

@@ -3,17 +3,18 @@ use Rattle.std.specs.Prelude.{◌/◌, ℕ, List, [], ◌∷◌, ◌++◌, map, 
 use Rattle.std.specs.List.{range_with_len}
 use Rattle.dp_base.specs.declared.limits.TheConstants.{PAGE_BYTES, FIRST_STACK_PAGE, STACK_PAGES, STACK_POINTER}
 use Rattle.dp_base.specs.declared.tid.Tid.{Tid}
-use Rattle.guest_kernel.specs.declared.hart.Hart.{Hart}
+use Rattle.guest_state.specs.declared.hart.Hart.{Hart}
 use Rattle.guest_kernel.specs.declared.image.Image.{Image}
 use Rattle.guest_kernel.specs.declared.image.Segment.{Segment}
-use Rattle.guest_kernel.specs.declared.pages.Page.{Page}
+use Rattle.dp_base.specs.declared.page.Page.{Page}
 use Rattle.guest_kernel.specs.declared.state.State.{State}
-use Rattle.guest_kernel.specs.declared.state.End.TheVariants as ends
-use Rattle.guest_kernel.specs.declared.thread.Thread.TheVariants.{Runs}
+use Rattle.guest_state.specs.declared.end.End.TheVariants as ends
+use Rattle.guest_state.specs.declared.thread.Thread.TheVariants.{Runs}
 use Rattle.guest_kernel.specs.Image.{entry, mapped_whole}
 use Rattle.guest_kernel.specs.Segment.{heap_start}
-use Rattle.guest_kernel.specs.Memory.{Memory, page_with}
-use Rattle.guest_kernel.specs.Register.{with_register}
+use Rattle.guest_kernel.specs.Memory.{page_with}
+use Rattle.guest_state.specs.Pages.{Memory}
+use Rattle.guest_state.specs.Register.{with_register}
 
 abbrev pub segment_page : Segment → Page
 segment_page s = page_with (s.addr / PAGE_BYTES) s.flags s.bytes

@@ -1,12 +1,12 @@
 -- The guest between two turns: memory, threads, heap start, break, input place, step count, end. This machine's own.
 use Rattle.std.specs.Prelude.{◌-◌, ◌+◌, Bool, true, false, Option, Some, None, slice_set}
 use Rattle.dp_base.specs.declared.tid.Tid.{Tid}
-use Rattle.guest_kernel.specs.declared.hart.Hart.{Hart}
-use Rattle.guest_kernel.specs.declared.thread.Thread.{Thread}
-use Rattle.guest_kernel.specs.declared.thread.Thread.TheVariants.{Runs, Waits, Gone}
+use Rattle.guest_state.specs.declared.hart.Hart.{Hart}
+use Rattle.guest_state.specs.declared.thread.Thread.{Thread}
+use Rattle.guest_state.specs.declared.thread.Thread.TheVariants.{Runs, Waits, Gone}
 use Rattle.guest_kernel.specs.declared.state.State.{State}
-use Rattle.guest_kernel.specs.declared.state.End.{End}
-use Rattle.guest_kernel.specs.declared.state.End.TheVariants as ends
+use Rattle.guest_state.specs.declared.end.End.{End}
+use Rattle.guest_state.specs.declared.end.End.TheVariants as ends
 use Rattle.guest_kernel.specs.Threads.{thread_at}
 
 -- whether the guest has ended

@@ -4,8 +4,9 @@ use Rattle.std.specs.Prelude.{◌%◌, ℕ, Option, Some, None, ◌==◌, if◌t
 use Rattle.guest_kernel.specs.declared.step.Instr.{Instr}
 use Rattle.guest_kernel.specs.declared.step.Stepped.{Stepped}
 use Rattle.guest_kernel.specs.declared.step.Stepped.TheVariants as answers
-use Rattle.guest_kernel.specs.declared.hart.Hart.{Hart}
-use Rattle.guest_kernel.specs.Memory.{Memory, fetch}
+use Rattle.guest_state.specs.declared.hart.Hart.{Hart}
+use Rattle.guest_kernel.specs.Memory.{fetch}
+use Rattle.guest_state.specs.Pages.{Memory}
 use Rattle.guest_kernel.specs.Instruction.{Effect, goes, calls, traps, decoded, executed}
 
 abbrev pub misaligned : ℕ

@@ -1,7 +1,7 @@
 -- The threads of a guest, numbered from 1 in the order in which they were made. This machine's own.
 use Rattle.std.specs.Prelude.{◌-◌, List, Option, None, slice_get, ◌==◌, if◌then◌else◌}
 use Rattle.dp_base.specs.declared.tid.Tid.{Tid}
-use Rattle.guest_kernel.specs.declared.thread.Thread.{Thread}
+use Rattle.guest_state.specs.declared.thread.Thread.{Thread}
 
 -- the thread with this number; none where no such thread was made
 abbrev pub thread_at : List Thread → Tid → Option Thread

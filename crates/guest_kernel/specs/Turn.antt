@@ -4,13 +4,13 @@ use Rattle.std.specs.Option.{option_copied, option_to_list}
 use Rattle.std.specs.Borrow.{Bor}
 use Rattle.dp_base.specs.declared.answer.Answer.{Answer}
 use Rattle.dp_base.specs.declared.tid.Tid.{Tid}
-use Rattle.guest_kernel.specs.declared.hart.Hart.{Hart}
+use Rattle.guest_state.specs.declared.hart.Hart.{Hart}
 use Rattle.guest_kernel.specs.declared.kernel.Turn.{Turn}
 use Rattle.guest_kernel.specs.declared.kernel.Turn.TheVariants as answers
-use Rattle.guest_kernel.specs.declared.thread.Thread.{Thread}
-use Rattle.guest_kernel.specs.declared.thread.Thread.TheVariants.{Runs, Waits, Gone}
+use Rattle.guest_state.specs.declared.thread.Thread.{Thread}
+use Rattle.guest_state.specs.declared.thread.Thread.TheVariants.{Runs, Waits, Gone}
 use Rattle.guest_kernel.specs.declared.state.State.{State}
-use Rattle.guest_kernel.specs.declared.state.End.TheVariants as ends
+use Rattle.guest_state.specs.declared.end.End.TheVariants as ends
 use Rattle.guest_kernel.specs.Call.{After, Refusal, not_runnable, needs_answer, wrong_answer, silent, called}
 use Rattle.guest_kernel.specs.Instruction.{Effect, goes, calls, traps}
 use Rattle.guest_kernel.specs.State.{has_ended, with_thread}

@@ -6,11 +6,10 @@ ghost use Rattle.guest_kernel.specs.declared.kernel.Turn.TheVariants as answers;
 ghost use Rattle.guest_kernel.specs.State.{counted};
 ghost use Rattle.guest_kernel.specs.Turn.{turn, log_of, turn_answer, state_after, output_after};
 
-use crate::hart::Hart;
 use crate::pages::Pages;
-use crate::state::{End, State};
+use crate::state::State;
 use crate::step::{Stepped, exec};
-use crate::thread::Thread;
+use guest_state::{End, Hart, Thread};
 use dp_base::field::write_bytes;
 use dp_base::limits::MAX_CALL_BYTES;
 use dp_base::{Answer, OutOfMemory, Tid};
@@ -148,7 +147,7 @@ fn write(alloc: Global, pages: &Pages, hart: &Hart, out: &mut Vec<u8>) -> Result
 #[cfg(test)]
 mod tests {
     use super::*;
-    use crate::thread::Threads;
+    use crate::threads::Threads;
     use std::test::Fail;
 
     // A guest that stands at an ecall, with these arguments and x17 2. Its page 10 (hexadecimal) may only be executed,

@@ -16,34 +16,29 @@
 //! ```
 #![tactic(auto)]
 
-mod answer_log;
 mod guest_file;
-mod hart;
 mod image;
 mod kernel;
 mod pages;
-mod slice_log;
 mod slices;
 mod start_state;
 mod state;
 mod step;
-mod thread;
+mod threads;
 
 pub use guest_file::load;
 
 pub mod laws;
 
-pub use answer_log::AnswerLog;
-pub use hart::Hart;
+pub use guest_state::{End, Hart, Thread};
 pub use image::{Image, ImageFault, Segment, Segments};
 pub use kernel::Turn;
-pub use pages::{Page, Pages};
-pub use slice_log::SliceLog;
+pub use pages::Pages;
 pub use slices::SliceRun;
 pub use start_state::start;
-pub use state::{End, State};
+pub use state::State;
 pub use step::{Instr, Stepped, decode, exec};
-pub use thread::{Thread, Threads};
+pub use threads::Threads;
 
 #[cfg(test)]
 mod tests;

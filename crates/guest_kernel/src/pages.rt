@@ -1,21 +1,15 @@
 // Guest memory: a table of pages, seen as the list of its pages in rising order of number.
-ghost use Rattle.std.specs.Prelude.{◌≡◌, ◌^◌, ◌<◌, ◌≤◌, ◌++◌, [], ◌∷◌, All, OnOk, OnErr, IfOk, IfSome, length, replicate, ◌-◌};
+ghost use Rattle.std.specs.Prelude.{◌≡◌, ◌^◌, ◌<◌, ◌≤◌, ◌++◌, [], ◌∷◌, All, OnOk, OnErr, IfOk, IfSome, length, replicate, slice_get, ◌-◌};
 ghost use Rattle.std.specs.Option.{option_copied, option_map};
-ghost use Rattle.guest_kernel.specs.Memory.{fetch, code_byte, readable, readable_byte, page_at, page_with, ArePages, IsPage};
+ghost use Rattle.guest_kernel.specs.Memory.{fetch, code_byte, readable, readable_byte, page_at, page_with};
+ghost use Rattle.guest_state.specs.Pages.{ArePages, IsPage};
+ghost use Rattle.guest_state.specs.View.{page_of};
 
-use dp_base::OutOfMemory;
+use dp_base::{OutOfMemory, Page};
 use dp_base::limits::{MAX_PAGES, PAGE_BYTES, PAGE_NUMBERS};
+use guest_state::PageView;
 use std::alloc::Global;
 use std::marker::Model;
-
-/// One page: its number (its address divided by 4,096), who may use it (execute 1, write 2, read 4), and its
-/// bytes.
-#[derive(Drop)]
-pub struct Page {
-    pub number: u32,
-    pub flags: u8,
-    pub bytes: [u8; 4096],
-}
 
 // Bytes with zeros behind them, up to a page.
 fn padded(contents: &[u8]) -> [u8; 4096]
@@ -36,11 +30,11 @@ pub struct Pages {
 
 impl Model for Pages {
     ghost use Rattle.std.specs.Prelude.{List};
-    ghost use Rattle.guest_kernel.specs.declared.pages.Page.{Page};
+    ghost use Rattle.dp_base.specs.declared.page.Page.{Page};
 
     ghost Value = { List Page };
 
-    ghost use Rattle.guest_kernel.specs.Memory.{ArePages};
+    ghost use Rattle.guest_state.specs.Pages.{ArePages};
 
     ghost view = { λ p. p.table.items };
 
@@ -83,6 +77,19 @@ impl Pages {
         };
         self.table.push(page)?;
         Ok(())
+    }
+
+    /// Returns the page at this place in rising order of number, or `None` if there are no more.
+    pub fn at(&self, place: usize) -> Option<PageView<'_>>
+        ensures page { option_map page_of result ≡ slice_get self.now place }
+        ensures kept { IfSome result (λ page. IsPage (page_of page)) }
+    {
+        let page = self.table.get(place)?;
+        Some(PageView {
+            number: page.number,
+            flags: page.flags,
+            bytes: &page.bytes,
+        })
     }
 
     /// Returns the flags of the page with this number, or `None` if none is mapped.

@@ -4,11 +4,11 @@ ghost use Rattle.std.specs.List.{range_with_len};
 ghost use Rattle.guest_kernel.specs.Segment.{AreSegments};
 ghost use Rattle.guest_kernel.specs.Start.{start_of, start_hart, segment_page, stack_page};
 
-use crate::hart::Hart;
 use crate::image::{Image, Segment};
 use crate::pages::Pages;
-use crate::state::{End, State};
-use crate::thread::{Thread, Threads};
+use crate::state::State;
+use crate::threads::Threads;
+use guest_state::{End, Hart, Thread};
 use dp_base::OutOfMemory;
 use dp_base::limits::{FIRST_STACK_PAGE, MAX_PAGES, PAGE_BYTES, STACK_PAGES, STACK_POINTER};
 use std::alloc::Global;

@@ -3,20 +3,9 @@ ghost use Rattle.std.specs.Prelude.{◌≡◌};
 ghost use Rattle.guest_kernel.specs.State.{has_ended, without_reservation};
 
 use crate::pages::Pages;
-use crate::thread::{Thread, Threads};
+use crate::threads::Threads;
 use dp_base::Tid;
-
-/// How a guest ended, if it has.
-#[derive(Clone, Copy, Debug, PartialEq, Eq)]
-pub enum End {
-    None,
-    /// By an exit, with its code.
-    Exit(u32),
-    /// By a trap of one of its threads.
-    Trap { tid: Tid, cause: u8, value: u32 },
-    /// No thread runs, and some wait.
-    Deadlock,
-}
+use guest_state::{End, Thread};
 
 /// A guest: its memory, its threads, and how far it is.
 #[derive(Drop)]
@@ -70,8 +59,8 @@ impl State {
 #[cfg(test)]
 mod tests {
     use super::*;
-    use crate::hart::Hart;
     use crate::kernel::Turn;
+    use guest_state::Hart;
     use std::alloc::Global;
     use std::test::Fail;
 

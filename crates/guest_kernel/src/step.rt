@@ -3,8 +3,8 @@ ghost use Rattle.guest_kernel.specs.Instruction.{decoded, immediate_i, immediate
 ghost use Rattle.guest_kernel.specs.Step.{effect, answer_for, hart_after};
 ghost use Rattle.guest_kernel.specs.Operands.{AreOperands};
 
-use crate::hart::Hart;
 use crate::pages::Pages;
+use guest_state::Hart;
 
 /// An instruction, its registers by number and its immediate in 32 bits.
 #[derive(Clone, Copy, Debug, PartialEq, Eq)]

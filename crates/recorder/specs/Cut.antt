@@ -1,15 +1,10 @@
 -- An epoch that was run, as the code has it. These serve the contract of the recorder's own steps. This project's own.
-use Rattle.dp_base.specs.Journal as journals
+use Rattle.epoch_record.specs.Epoch.{epoch_of}
 use Rattle.guest_kernel.specs.declared.state.State.{State}
 use Rattle.guest_kernel.specs.Lone.{RunsAlone}
 use Rattle.recorder.specs.declared.bounds.Bounds.{Bounds}
-use Rattle.recorder.specs.declared.epoch.Epoch.{Epoch}
 use Rattle.recorder.specs.declared.epoch.EpochRun.{EpochRun}
 use Rattle.recorder.specs.SliceRun.{IsCut, RunsTo}
-
--- an epoch as its record has it
-abbrev pub epoch_of : Epoch → journals.Epoch
-epoch_of e = record { slices = e.slices; answers = e.answers }
 
 pub record IsCutFrom (start : State) (bounds : Bounds) (r : EpochRun) : Type 0 where
   pub runs : RunsTo start (epoch_of r.epoch) r.end r.out

@@ -10,15 +10,11 @@ ghost use Rattle.recorder.specs.Cut.{IsCutFrom};
 use crate::bounds::Bounds;
 use dp_base::limits::EPOCH_END_BYTES;
 use dp_base::{Bytes, OutOfMemory, Slice, Tid};
-use guest_kernel::{AnswerLog, SliceLog, State, Turn, laws};
+use epoch_record::Epoch;
+use guest_kernel::{State, Turn, laws};
+use slice_log::SliceLog;
 use std::alloc::Global;
-
-/// What an epoch did: the slices that it ran, and the answers that they took.
-#[derive(Drop)]
-pub struct Epoch {
-    pub slices: SliceLog,
-    pub answers: AnswerLog,
-}
+use syscall_log::AnswerLog;
 
 /// An epoch with its output and the state in which it ends.
 #[derive(Drop)]

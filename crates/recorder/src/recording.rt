@@ -2,14 +2,14 @@
 ghost use Rattle.std.specs.Prelude.{◌≡◌, ◌<◌, ◌≤◌, ◌-◌, ◌^◌, min, Err, IfOk, IsErrOf, length};
 ghost use Rattle.dp_base.specs.Journal.{IsBody, IsEpoch, epoch_body, frame};
 ghost use Rattle.disk_model.specs.Counts.{Rose};
+ghost use Rattle.epoch_record.specs.Epoch.{epoch_of};
 ghost use Rattle.guest_kernel.specs.Start.{start_state};
-ghost use Rattle.recorder.specs.Cut.{epoch_of};
 ghost use Rattle.recorder.specs.Recording.{Recorded};
 ghost use Rattle.recorder.specs.declared.record_fault.RecordFault.TheVariants as faults;
 
 use crate::bounds::Bounds;
 use crate::commit::commit_epoch;
-use crate::epoch::{Epoch, run_epoch};
+use crate::epoch::run_epoch;
 use crate::frame::{Frame, Ready};
 use crate::journal::Journal;
 use crate::options::Options;
@@ -17,7 +17,7 @@ use crate::record_fault::RecordFault;
 use crate::report::Report;
 use disk_model::World;
 use dp_base::OutOfMemory;
-use dp_base::journal::write_epoch_body;
+use epoch_record::{Epoch, encode};
 use guest_kernel::{State, laws};
 use std::alloc::Global;
 
@@ -115,7 +115,6 @@ fn frame_of(alloc: Global, epoch: &Epoch) -> Result<Frame, OutOfMemory>
     requires fits { IsBody (epoch_body (epoch_of epoch.now)) }
     ensures { IfOk result (λ f. f ≡ frame (epoch_body (epoch_of epoch.now))) }
 {
-    let mut body = Vec::new(alloc);
-    write_epoch_body(&mut body, epoch.slices.as_slice(), epoch.answers.as_slice())?;
+    let body = encode(alloc, epoch)?;
     Frame::of(alloc, &body)
 }

@@ -4,7 +4,7 @@ use Rattle.std.proofs.lemmas.List.{length_push}
 use Rattle.std.proofs.lemmas.List.Elements.{All-push, All-weaker}
 use Rattle.std.proofs.lemmas.List.FromFn.{map-range_with_len_more}
 use Rattle.dp_base.specs.declared.limits.TheConstants.{FIRST_STACK_PAGE, STACK_PAGES}
-use Rattle.guest_kernel.specs.Memory.{Memory}
+use Rattle.guest_state.specs.Pages.{Memory}
 use Rattle.guest_kernel.specs.Start.{stack_page}
 use Rattle.guest_kernel.proofs.start_state.map_stack.Goals as goal
 

@@ -8,7 +8,8 @@ use Rattle.guest_kernel.specs.Slices.{at}
 use Rattle.recorder.specs.declared.bounds.Bounds.{Bounds}
 use Rattle.recorder.specs.declared.epoch.EpochRun.{EpochRun}
 use Rattle.recorder.specs.declared.options.Options.{Options}
-use Rattle.recorder.specs.Cut.{epoch_of, IsCutFrom}
+use Rattle.epoch_record.specs.Epoch.{epoch_of}
+use Rattle.recorder.specs.Cut.{IsCutFrom}
 use Rattle.recorder.specs.EpochRun.{IsCutWithin}
 use Rattle.recorder.specs.Journaling.{HasCommitted}
 use Rattle.recorder.specs.Recording.{IsNext, epoch_steps}

@@ -1,6 +1,6 @@
 use Rattle.std.proofs.Common.{◌<◌, All, length, sym, subst, refl}
 use Rattle.dp_base.specs.declared.limits.TheConstants.{MAX_PAGES}
-use Rattle.guest_kernel.specs.Memory.{Memory}
+use Rattle.guest_state.specs.Pages.{Memory}
 use Rattle.guest_kernel.proofs.PageTable.{ArePages-push}
 use Rattle.guest_kernel.proofs.pages.Pages.map_above.Goals as goal
 

@@ -1,5 +1,5 @@
 ghost use Rattle.std.specs.Prelude.{◌≡◌, ◌<◌};
-ghost use Rattle.guest_kernel.specs.Register.{register, with_register};
+ghost use Rattle.guest_state.specs.Register.{register, with_register};
 
 /// What a thread has of its own: the program counter, the registers x1 to x31 and the reservation (RISC-V
 /// Unprivileged ISA 20191213, 2.1 and 8.2).

@@ -31,6 +31,13 @@ impl SliceLog {
         }
     }
 
+    /// Makes a log of the slices of a `Vec`, in their order. Takes no memory.
+    pub fn from_vec(items: Vec<Slice>) -> Self
+        ensures { result ≡ items.items }
+    {
+        SliceLog { items }
+    }
+
     /// Appends one slice. An `Err` changes nothing.
     pub fn put(&mut self, item: Slice) -> Result<(), OutOfMemory>
         ensures ok { OnOk result (self.new ≡ self.old ++ item ∷ []) }
@@ -56,6 +63,13 @@ impl SliceLog {
     {
         &self.items
     }
+
+    /// Returns the slices as the `Vec` that holds them. Takes no memory.
+    pub fn into_vec(self) -> Vec<Slice>
+        ensures { result.items ≡ self }
+    {
+        self.items
+    }
 }
 
 #[cfg(test)]
@@ -79,6 +93,17 @@ mod tests {
         assert_eq!(rt; log.next(&mut at).map(|slice| slice.steps), Some(2));
         assert_eq!(rt; log.next(&mut at).map(|slice| slice.tid), Some(Tid(9)));
         assert_eq!(rt; (log.next(&mut at), at), (None, 2));
+        Ok(())
+    }
+
+    #[test]
+    fn slices_given_back(rt: HostRuntime) -> Result<(), Fail> {
+        let slices = [Slice {
+            tid: Tid(4),
+            steps: 7,
+        }];
+        let log = SliceLog::from_vec(slices.to_vec(rt.alloc())?);
+        assert_eq!(rt; log.into_vec().as_slice(), slices.as_slice());
         Ok(())
     }
 }

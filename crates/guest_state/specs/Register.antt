@@ -1,6 +1,6 @@
 -- The registers (RISC-V Unprivileged ISA 20191213, 2.1): x0 reads 0, and what is written to it is dropped.
 use Rattle.std.specs.Prelude.{◌+◌, ◌-◌, ◌%◌, ◌^◌, ℕ, slice_index, slice_set, ◌==◌, if◌then◌else◌}
-use Rattle.guest_kernel.specs.declared.hart.Hart.{Hart}
+use Rattle.guest_state.specs.declared.hart.Hart.{Hart}
 
 abbrev pub register : Hart → ℕ → ℕ
 register hart number = if number == 0 then 0 else slice_index hart.x (number - 1)

@@ -3,22 +3,11 @@ ghost use Rattle.std.specs.Prelude.{◌≡◌, ◌≤◌, ◌<◌, ◌-◌, [], 
 ghost use Rattle.std.specs.Option.{option_copied};
 ghost use Rattle.guest_kernel.specs.Threads.{thread_at};
 
-use crate::hart::Hart;
 use dp_base::limits::MAX_THREADS;
 use dp_base::{OutOfMemory, Tid};
+use guest_state::Thread;
 use std::alloc::Global;
 use std::marker::Model;
-
-/// One thread of a guest.
-#[derive(Clone, Copy, Debug, PartialEq, Eq)]
-pub enum Thread {
-    /// It runs. Where its clear address isn't 0, that word is cleared as it exits.
-    Runs { hart: Hart, clear: u32 },
-    /// It waits for a wake at an address.
-    Waits { addr: u32, hart: Hart, clear: u32 },
-    /// It has exited with a code.
-    Gone(u32),
-}
 
 /// The threads that a guest has made, in order of number. At most 1,024.
 #[derive(Drop)]
@@ -28,7 +17,7 @@ pub struct Threads {
 
 impl Model for Threads {
     ghost use Rattle.std.specs.Prelude.{List, length, ◌≤◌};
-    ghost use Rattle.guest_kernel.specs.declared.thread.Thread.{Thread};
+    ghost use Rattle.guest_state.specs.declared.thread.Thread.{Thread};
     ghost use Rattle.dp_base.specs.declared.limits.TheConstants.{MAX_THREADS};
 
     ghost Value = { List Thread };
@@ -46,6 +35,22 @@ impl Threads {
         let mut items = Vec::new(alloc);
         items.push(thread)?;
         Ok(Threads { items })
+    }
+
+    /// Makes the threads of a list, which it keeps as it is.
+    pub fn from_vec(items: Vec<Thread>) -> Self
+        requires { length items.items ≤ MAX_THREADS }
+        ensures { result ≡ items.items }
+    {
+        Threads { items }
+    }
+
+    /// Returns the threads, from number 1 on.
+    pub fn as_slice(&self) -> &[Thread]
+        ensures threads { result.now ≡ self.now }
+        ensures few { length self.now ≤ MAX_THREADS }
+    {
+        &self.items
     }
 
     /// Returns how many threads were made.

@@ -31,6 +31,13 @@ impl AnswerLog {
         }
     }
 
+    /// Makes a log of the answers of a `Vec`, in their order. Takes no memory.
+    pub fn from_vec(items: Vec<Answer>) -> Self
+        ensures { result ≡ items.items }
+    {
+        AnswerLog { items }
+    }
+
     /// Appends one answer. An `Err` changes nothing.
     pub fn put(&mut self, item: Answer) -> Result<(), OutOfMemory>
         ensures ok { OnOk result (self.new ≡ self.old ++ item ∷ []) }
@@ -55,5 +62,30 @@ impl AnswerLog {
         ensures { result.now ≡ self.now }
     {
         &self.items
+    }
+
+    /// Returns the answers as the `Vec` that holds them. Takes no memory.
+    pub fn into_vec(self) -> Vec<Answer>
+        ensures { result.items ≡ self }
+    {
+        self.items
+    }
+}
+
+#[cfg(test)]
+mod tests {
+    use super::*;
+    use std::test::Fail;
+
+    #[test]
+    fn answers_in_order(rt: HostRuntime) -> Result<(), Fail> {
+        let mut log = AnswerLog::from_vec(Vec::new(rt.alloc()));
+        log.put(Answer::Clock(7))?;
+        log.put(Answer::Clock(9))?;
+        let mut at = 1;
+        assert!(rt; matches!(log.next(&mut at), Some(Answer::Clock(9))));
+        assert!(rt; log.next(&mut at).is_none());
+        assert_eq!(rt; (at, log.into_vec().len()), (2, 2));
+        Ok(())
     }
 }

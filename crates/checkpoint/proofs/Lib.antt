@@ -1,0 +1,3 @@
+mod Adding
+mod Mapping
+mod Parts

@@ -1,0 +1,137 @@
+// A state from its encoding.
+ghost use Rattle.std.specs.Prelude.{◌≡◌, ◌≤◌, IfOk, IfSome, length, option_map};
+ghost use Rattle.dp_base.specs.declared.limits.TheConstants.{MAX_PAGES};
+ghost use Rattle.dp_base.specs.Encoding.{whole};
+ghost use Rattle.dp_base.specs.Journal.{many_at};
+ghost use Rattle.guest_state.specs.Checkpoint.{checkpoint_from, live, thread_from};
+ghost use Rattle.checkpoint.specs.Reading.{rising_pages_at};
+ghost use Rattle.checkpoint.specs.State.{IsEncodable, checkpoint_of};
+
+use dp_base::OutOfMemory;
+use dp_base::field::{read_u16, read_u32, read_u64};
+use dp_base::limits::MAX_PAGES;
+use guest_kernel::{Pages, State, Threads};
+use guest_state::{Bounds, Thread, alive_count, read_end, read_page, read_thread};
+use std::alloc::Global;
+
+/// Returns the state whose encoding these bytes are. Returns `None` exactly if they are no state's, also if bytes stand
+/// behind it.
+#[tactic(auto, unfolding(guest_state::specs::Checkpoint::checkpoint_from))]
+pub fn decode(alloc: Global, body: &[u8]) -> Result<Option<State>, OutOfMemory>
+    ensures found { IfOk result (λ found. option_map checkpoint_of found ≡ whole checkpoint_from body.now) }
+    ensures encodable { IfOk result (λ found. IfSome found IsEncodable) }
+{
+    guest_state::laws::whole_checkpoints();
+    let Some((steps, rest)) = read_u64(body) else {
+        return Ok(None);
+    };
+    let Some((input, rest)) = read_u64(rest) else {
+        return Ok(None);
+    };
+    let Some((heap, rest)) = read_u32(rest) else {
+        return Ok(None);
+    };
+    let Some((brk, rest)) = read_u32(rest) else {
+        return Ok(None);
+    };
+    let Some((end, rest)) = read_end(rest) else {
+        return Ok(None);
+    };
+    let Some((thread_count, rest)) = read_u16(rest) else {
+        return Ok(None);
+    };
+    let Some((threads, rest)) = read_threads(alloc, thread_count, rest)? else {
+        return Ok(None);
+    };
+    let Some((page_count, rest)) = read_u16(rest) else {
+        return Ok(None);
+    };
+    if u32::from(page_count) > MAX_PAGES {
+        return Ok(None);
+    }
+    let Some((pages, rest)) = read_pages(alloc, page_count, rest)? else {
+        return Ok(None);
+    };
+    let bounds = Bounds {
+        heap,
+        brk,
+        end,
+        threads: thread_count,
+        live: live_count(&threads),
+        pages: page_count,
+        rising: true,
+    };
+    if !bounds.hold() {
+        return Ok(None);
+    }
+    if !rest.is_empty() {
+        return Ok(None);
+    }
+    Ok(Some(State {
+        pages,
+        heap,
+        brk,
+        threads: Threads::from_vec(threads),
+        input,
+        steps,
+        end,
+    }))
+}
+
+// So many threads, and the bytes behind them.
+fn read_threads(
+    alloc: Global,
+    count: u16,
+    bytes: &[u8],
+) -> Result<Option<(Vec<Thread>, &[u8])>, OutOfMemory>
+    ensures { IfOk result (λ found. option_map (λ x. (x.0.items, x.1.now)) found
+        ≡ many_at thread_from count bytes.now) }
+{
+    let mut threads = Vec::new(alloc);
+    let mut rest = bytes;
+    'threads: for _ in 0..count {
+        let Some((thread, behind)) = read_thread(rest) else {
+            return Ok(None);
+        };
+        threads.push(thread)?;
+        rest = behind;
+    }
+    Ok(Some((threads, rest)))
+}
+
+// How many of the threads are alive.
+fn live_count(threads: &[Thread]) -> usize
+    ensures { result ≡ live threads.now }
+{
+    let mut alive = 0;
+    for thread in threads {
+        alive += alive_count(thread);
+    }
+    alive
+}
+
+// So many pages in rising order, and the bytes behind them. `None` also if their numbers don't rise.
+fn read_pages(
+    alloc: Global,
+    count: u16,
+    bytes: &[u8],
+) -> Result<Option<(Pages, &[u8])>, OutOfMemory>
+    requires { count ≤ MAX_PAGES }
+    ensures { IfOk result (λ found. option_map (λ x. (x.0, x.1.now)) found ≡ rising_pages_at count bytes.now) }
+{
+    let mut pages = Pages::new(alloc);
+    let mut least = 0;
+    let mut rest = bytes;
+    'pages: for _ in 0..count {
+        let Some((page, behind)) = read_page(rest) else {
+            return Ok(None);
+        };
+        if page.number < least {
+            return Ok(None);
+        }
+        pages.map_above(page.number, page.flags, page.bytes)?;
+        least = page.number + 1;
+        rest = behind;
+    }
+    Ok(Some((pages, rest)))
+}

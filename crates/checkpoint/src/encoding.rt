@@ -1,0 +1,39 @@
+// A state's encoding in memory.
+ghost use Rattle.std.specs.Prelude.{◌≡◌, ◌++◌, true, IfOk};
+ghost use Rattle.checkpoint.specs.Sink.{Adds};
+ghost use Rattle.checkpoint.specs.State.{IsEncodable, state_bytes};
+
+use crate::sink::Sink;
+use crate::writer::write_state;
+use dp_base::OutOfMemory;
+use dp_base::field::write_bytes;
+use guest_kernel::State;
+use std::alloc::Global;
+
+// A vector as a sink.
+#[derive(Drop)]
+struct Buffer {
+    bytes: Vec<u8>,
+}
+
+impl Sink for Buffer {
+    ghost holds = { λ b bytes. b.bytes.items ≡ bytes };
+
+    ghost may_fail = { true };
+
+    fn put(&mut self, bytes: &[u8]) -> Result<(), OutOfMemory> {
+        write_bytes(&mut self.bytes, bytes)
+    }
+}
+
+/// Returns a state's encoding.
+pub fn encode(alloc: Global, state: &State) -> Result<Vec<u8>, OutOfMemory>
+    requires { IsEncodable state.now }
+    ensures { IfOk result (λ bytes. bytes.items ≡ state_bytes state.now) }
+{
+    let mut buffer = Buffer {
+        bytes: Vec::new(alloc),
+    };
+    write_state(&mut buffer, state)?;
+    Ok(buffer.bytes)
+}

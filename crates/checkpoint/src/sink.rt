@@ -1,0 +1,19 @@
+// Where the bytes of a checkpoint go: a vector, or a hash.
+ghost use Rattle.std.specs.Prelude.{◌≡◌, ℕ, Bool, List, true, IsErr};
+ghost use Rattle.checkpoint.specs.Sink.{Adds};
+
+use dp_base::OutOfMemory;
+
+/// What takes bytes, one row after another.
+pub trait Sink {
+    /// It took these bytes so far.
+    ghost holds: { Self → List ℕ → Type 0 };
+
+    /// Whether it may want memory.
+    ghost may_fail: { Bool };
+
+    /// Takes more bytes, behind those before.
+    fn put(&mut self, bytes: &[u8]) -> Result<(), OutOfMemory>
+        ensures added { Adds holds self.old self.new result bytes.now }
+        ensures cause { IsErr result → may_fail ≡ true };
+}

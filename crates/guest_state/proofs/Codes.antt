@@ -1,0 +1,407 @@
+-- Ends, threads, pages and checkpoints: decoded as they are encoded, and in no other way.
+use Rattle.std.proofs.Common.{◌≡◌, ℕ, ◌^◌, ◌<◌, ◌≤◌, Bool, true, false, cond, eqb, ltb, leb, ◌&&◌, List, [], ◌∷◌, ◌++◌, length, Option, Some, None, refl, sym, ap, subst, ◌∙◌, append_assoc, arith, inl, inr}
+use Rattle.std.specs.List.{flat_map, AllByRecursion}
+use Rattle.std.proofs.lemmas.Bool.{and_parts, eqb-true, ltb-true, leb-true, lt-ltb, le-leb, and_from, cond-true}
+use Rattle.std.proofs.lemmas.Option.{cond_some, same_Some}
+use Rattle.byteorder.specs.Endian.{little_bytes}
+use Rattle.dp_base.specs.declared.limits.TheConstants.{MAX_LIVE_THREADS, MAX_PAGES, MAX_THREADS, PAGE_BYTES, PAGE_NUMBERS}
+use Rattle.dp_base.specs.declared.page.Page.{Page}
+use Rattle.dp_base.specs.declared.tid.Tid.{Tid}
+use Rattle.dp_base.specs.Encoding.{IsPrefixCode}
+use Rattle.dp_base.specs.Field.{AreBytes, ◌>>=◌, bytes_at, number_at}
+use Rattle.dp_base.specs.Journal.{many_at}
+use Rattle.dp_base.proofs.Fields.{Splits, number_code, code_from}
+use Rattle.guest_state.specs.declared.end.End.{End}
+use Rattle.guest_state.specs.declared.end.End.TheVariants as ends
+use Rattle.guest_state.specs.declared.hart.Hart.{Hart}
+use Rattle.guest_state.specs.declared.thread.Thread.{Thread}
+use Rattle.guest_state.specs.declared.thread.Thread.TheVariants.{Runs, Waits, Gone}
+use Rattle.guest_state.specs.Checkpoint.{Checkpoint, IsWord, IsEnd, IsFreeHart, IsThread, IsPageContent, IsCheckpoint, is_bounded, is_heap, live, rising, traps_within, word, end_bytes, end_from, exit_from, trap_from, page_bytes, page_from, hart_bytes, hart_from, thread_bytes, thread_from, runs_from, waits_from, gone_from, checkpoint_bytes, checkpoint_from, if_bounded}
+use Rattle.guest_state.proofs.Steps.{Took, take_step, find_step, find_first, grouped, many_code, bytes_code, Behind, of_kind}
+use Rattle.dp_base.proofs.Epochs.{chosen, only_if}
+
+-- ---- pages
+
+page_taken : (bytes : List ℕ) (x : Page × List ℕ) → AreBytes bytes → page_from bytes ≡ Some x → Splits bytes (page_bytes x.0) x.1 × IsPageContent x.0
+unfolding page_from
+page_taken bytes x fits e =
+    let number = take_step (number_code 4) _ bytes x fits e in
+    let flags = take_step (number_code 1) _ number.rest x number.left number.goes_on in
+    let content = take_step (bytes_code PAGE_BYTES) _ flags.rest x flags.left flags.goes_on in
+    let made : Page × List ℕ = (record { number = number.value; flags = flags.value; bytes = content.value }, content.rest) in
+    let g = cond_some (ltb number.value PAGE_NUMBERS && ltb flags.value 8) made x content.goes_on in
+    let tests = and_parts (ltb number.value PAGE_NUMBERS) (ltb flags.value 8) g.0 in
+    let whole = grouped number (little_bytes 1 flags.value ++ content.value) content.rest (grouped flags content.value content.rest content.joined) in
+    subst (λ (y : Page × List ℕ). Splits bytes (page_bytes y.0) y.1 × IsPageContent y.0) {x = made} g.1
+    (record { joined = whole; left = content.left }, record { number = ltb-true _ _ tests.0; flags = ltb-true _ _ tests.1; count = content.is.0; bytes = content.is.1 })
+
+page_found : (p : Page) (rest : List ℕ) → IsPageContent p → page_from (page_bytes p ++ rest) ≡ Some (p, rest)
+unfolding page_from
+page_found p rest is =
+    let found : Option (Page × List ℕ) = Some (p, rest) in
+    let last : cond (ltb p.number PAGE_NUMBERS && ltb p.flags 8) found None ≡ found = cond-true _ _ _ (and_from _ _ (lt-ltb _ _ is.number) (lt-ltb _ _ is.flags)) in
+    find_first (number_code 4) _ p.number (little_bytes 1 p.flags ++ p.bytes) rest found (omega (arith, is.number))
+    (find_first (number_code 1) _ p.flags p.bytes rest found (omega (arith, is.flags))
+    (find_step (bytes_code PAGE_BYTES) _ p.bytes rest found (is.count, is.bytes) last))
+
+pub page_code : IsPrefixCode page_from page_bytes IsPageContent
+page_code = code_from page_from page_bytes IsPageContent page_found page_taken
+
+-- ---- ends
+
+exit_taken : (bytes : List ℕ) (x : End × List ℕ) → AreBytes bytes → exit_from bytes ≡ Some x → Behind end_bytes IsEnd 1 bytes x
+unfolding exit_from
+exit_taken bytes x fits e =
+    let code = take_step (number_code 4) _ bytes x fits e in
+    let small : IsWord code.value = omega (arith, code.is) in
+    subst (Behind end_bytes IsEnd 1 bytes) (same_Some _ _ code.goes_on) (record { body = word code.value; encoded = refl; joined = code.joined; left = code.left; is = small })
+
+trap_taken : (bytes : List ℕ) (x : End × List ℕ) → AreBytes bytes → trap_from bytes ≡ Some x → Behind end_bytes IsEnd 2 bytes x
+unfolding trap_from
+trap_taken bytes x fits e =
+    let tid = take_step (number_code 2) _ bytes x fits e in
+    let cause = take_step (number_code 1) _ tid.rest x tid.left tid.goes_on in
+    let value = take_step (number_code 4) _ cause.rest x cause.left cause.goes_on in
+    let made : End × List ℕ = (ends.Trap (record { 0 = tid.value }) cause.value value.value, value.rest) in
+    let g = cond_some (ltb cause.value 8) made x value.goes_on in
+    let body = little_bytes 2 tid.value ++ (little_bytes 1 cause.value ++ word value.value) in
+    let small_tid : tid.value < 2 ^ 16 = omega (arith, tid.is) in
+    let small : IsWord value.value = omega (arith, value.is) in
+    let whole = grouped tid (little_bytes 1 cause.value ++ word value.value) value.rest (grouped cause (word value.value) value.rest value.joined) in
+    subst (Behind end_bytes IsEnd 2 bytes) {x = made} g.1 (record { body = body; encoded = refl; joined = whole; left = value.left; is = (small_tid, ltb-true _ _ g.0, small) })
+
+end_taken : (bytes : List ℕ) (x : End × List ℕ) → AreBytes bytes → end_from bytes ≡ Some x → Splits bytes (end_bytes x.0) x.1 × IsEnd x.0
+unfolding end_from
+end_taken bytes x fits e =
+    let kind = take_step (number_code 1) _ bytes x fits e in
+    let none_at : End × List ℕ = (ends.None, kind.rest) in
+    let dead_at : End × List ℕ = (ends.Deadlock, kind.rest) in
+    let third : Option (End × List ℕ) = cond (eqb kind.value 3) (Some dead_at) None in
+    let second : Option (End × List ℕ) = cond (eqb kind.value 2) (trap_from kind.rest) third in
+    let first : Option (End × List ℕ) = cond (eqb kind.value 1) (exit_from kind.rest) second in
+    elim (chosen (eqb kind.value 0) (Some none_at) first (Some x) kind.goes_on) [
+      | inl w ↦ of_kind kind 0 x (eqb-true _ _ w.0) (subst (Behind end_bytes IsEnd 0 kind.rest) (same_Some _ _ w.1) (record { body = []; encoded = refl; joined = refl; left = kind.left; is = tt }))
+      | inr w ↦ elim (chosen (eqb kind.value 1) (exit_from kind.rest) second (Some x) w.1) [
+        | inl v ↦ of_kind kind 1 x (eqb-true _ _ v.0) (exit_taken kind.rest x kind.left v.1)
+        | inr v ↦ elim (chosen (eqb kind.value 2) (trap_from kind.rest) third (Some x) v.1) [
+          | inl u ↦ of_kind kind 2 x (eqb-true _ _ u.0) (trap_taken kind.rest x kind.left u.1)
+          | inr u ↦ let g = only_if (eqb kind.value 3) (Some dead_at) x u.1 in
+            of_kind kind 3 x (eqb-true _ _ g.0) (subst (Behind end_bytes IsEnd 3 kind.rest) (same_Some _ _ g.1) (record { body = []; encoded = refl; joined = refl; left = kind.left; is = tt }))
+        ]
+      ]
+    ]
+
+exit_found : (code : ℕ) (rest : List ℕ) → IsWord code → exit_from (word code ++ rest) ≡ Some (ends.Exit code, rest)
+unfolding exit_from
+exit_found code rest is = find_step (number_code 4) _ code rest (Some (ends.Exit code, rest)) (omega arith) refl
+
+trap_found : (tid : Tid) (cause value : ℕ) (rest : List ℕ) → IsEnd (ends.Trap tid cause value) → trap_from ((little_bytes 2 tid.0 ++ (little_bytes 1 cause ++ word value)) ++ rest) ≡ Some (ends.Trap tid cause value, rest)
+unfolding trap_from
+trap_found tid cause value rest is =
+    let found : Option (End × List ℕ) = Some (ends.Trap tid cause value, rest) in
+    let last : cond (ltb cause 8) found None ≡ found = cond-true _ _ _ (lt-ltb _ _ is.1) in
+    find_first (number_code 2) _ tid.0 (little_bytes 1 cause ++ word value) rest found (omega (arith, is.0))
+    (find_first (number_code 1) _ cause (word value) rest found (omega (arith, is.1))
+    (find_step (number_code 4) _ value rest found (omega (arith, is.2)) last))
+
+end_found : (e : End) (rest : List ℕ) → IsEnd e → end_from (end_bytes e ++ rest) ≡ Some (e, rest)
+unfolding end_from
+end_found ends.None rest is = find_step (number_code 1) _ 0 rest (Some (ends.None, rest)) (omega arith) refl
+end_found (ends.Exit code) rest is = find_step (number_code 1) _ 1 (word code ++ rest) (Some (ends.Exit code, rest)) (omega arith) (exit_found code rest is)
+end_found (ends.Trap tid cause value) rest is = find_step (number_code 1) _ 2 ((little_bytes 2 tid.0 ++ (little_bytes 1 cause ++ word value)) ++ rest) (Some (ends.Trap tid cause value, rest)) (omega arith) (trap_found tid cause value rest is)
+end_found ends.Deadlock rest is = find_step (number_code 1) _ 3 rest (Some (ends.Deadlock, rest)) (omega arith) refl
+
+pub end_code : IsPrefixCode end_from end_bytes IsEnd
+end_code = code_from end_from end_bytes IsEnd end_found end_taken
+
+-- ---- harts and threads
+
+-- a hart with its clear address, as one value
+abbrev Clearing : Type 0
+Clearing = Hart × ℕ
+
+abbrev clearing_bytes : Clearing → List ℕ
+clearing_bytes c = hart_bytes c.0 c.1
+
+abbrev IsClearing : Clearing → Type 0
+IsClearing c = IsFreeHart c.0 × IsWord c.1
+
+word_code : IsPrefixCode (number_at 4) word IsWord
+word_code = code_from (number_at 4) word IsWord
+    (λ n rest is. (number_code 4).decoded n rest (omega (arith, is)))
+    (λ bytes x fits e. let t = (number_code 4).encoded bytes x.0 x.1 fits e in (record { joined = t.0; left = t.2 }, omega (arith, t.1)))
+
+hart_taken : (bytes : List ℕ) (x : Clearing × List ℕ) → AreBytes bytes → hart_from bytes ≡ Some x → Splits bytes (clearing_bytes x.0) x.1 × IsClearing x.0
+unfolding hart_from
+hart_taken bytes x fits e =
+    let pc = take_step word_code _ bytes x fits e in
+    let clear = take_step word_code _ pc.rest x pc.left pc.goes_on in
+    let regs = take_step (many_code word_code 31) _ clear.rest x clear.left clear.goes_on in
+    let hart : Hart = record { pc = pc.value; x = regs.value; held = None } in
+    let made : Clearing × List ℕ = ((hart, clear.value), regs.rest) in
+    let whole = grouped pc (word clear.value ++ flat_map word regs.value) regs.rest (grouped clear (flat_map word regs.value) regs.rest regs.joined) in
+    subst (λ (y : Clearing × List ℕ). Splits bytes (clearing_bytes y.0) y.1 × IsClearing y.0) {x = made} (same_Some _ _ regs.goes_on)
+    (record { joined = whole; left = regs.left }, (record { pc = pc.is; count = regs.is.0; registers = regs.is.1; free = refl }, clear.is))
+
+-- a hart without a reservation is its pc and registers
+free_hart : (hart : Hart) → IsFreeHart hart → record { pc = hart.pc; x = hart.x; held = None } ≡ hart
+free_hart hart is = ap (λ (h : Option ℕ). record hart { held = h }) (sym is.free)
+
+hart_found : (c : Clearing) (rest : List ℕ) → IsClearing c → hart_from (clearing_bytes c ++ rest) ≡ Some (c, rest)
+unfolding hart_from
+hart_found c rest is =
+    let found : Option (Clearing × List ℕ) = Some (c, rest) in
+    let last : Some ((record { pc = c.0.pc; x = c.0.x; held = None }, c.1), rest) ≡ found = ap (λ (h : Hart). Some ((h, c.1), rest)) (free_hart c.0 is.0) in
+    find_first word_code _ c.0.pc (word c.1 ++ flat_map word c.0.x) rest found is.0.pc
+    (find_first word_code _ c.1 (flat_map word c.0.x) rest found is.1
+    (find_step (many_code word_code 31) _ c.0.x rest found (is.0.count, is.0.registers) last))
+
+hart_code : IsPrefixCode hart_from clearing_bytes IsClearing
+hart_code = code_from hart_from clearing_bytes IsClearing hart_found hart_taken
+
+runs_taken : (bytes : List ℕ) (x : Thread × List ℕ) → AreBytes bytes → runs_from bytes ≡ Some x → Behind thread_bytes IsThread 0 bytes x
+unfolding runs_from
+runs_taken bytes x fits e =
+    let hart = take_step hart_code _ bytes x fits e in
+    subst (Behind thread_bytes IsThread 0 bytes) (same_Some _ _ hart.goes_on) (record { body = clearing_bytes hart.value; encoded = refl; joined = hart.joined; left = hart.left; is = hart.is })
+
+waits_taken : (bytes : List ℕ) (x : Thread × List ℕ) → AreBytes bytes → waits_from bytes ≡ Some x → Behind thread_bytes IsThread 1 bytes x
+unfolding waits_from
+waits_taken bytes x fits e =
+    let addr = take_step word_code _ bytes x fits e in
+    let hart = take_step hart_code _ addr.rest x addr.left addr.goes_on in
+    subst (Behind thread_bytes IsThread 1 bytes) (same_Some _ _ hart.goes_on)
+    (record { body = word addr.value ++ clearing_bytes hart.value; encoded = refl; joined = grouped addr (clearing_bytes hart.value) hart.rest hart.joined; left = hart.left; is = (addr.is, hart.is.0, hart.is.1) })
+
+gone_taken : (bytes : List ℕ) (x : Thread × List ℕ) → AreBytes bytes → gone_from bytes ≡ Some x → Behind thread_bytes IsThread 2 bytes x
+unfolding gone_from
+gone_taken bytes x fits e =
+    let code = take_step word_code _ bytes x fits e in
+    subst (Behind thread_bytes IsThread 2 bytes) (same_Some _ _ code.goes_on) (record { body = word code.value; encoded = refl; joined = code.joined; left = code.left; is = code.is })
+
+thread_taken : (bytes : List ℕ) (x : Thread × List ℕ) → AreBytes bytes → thread_from bytes ≡ Some x → Splits bytes (thread_bytes x.0) x.1 × IsThread x.0
+unfolding thread_from
+thread_taken bytes x fits e =
+    let kind = take_step (number_code 1) _ bytes x fits e in
+    let second : Option (Thread × List ℕ) = cond (eqb kind.value 2) (gone_from kind.rest) None in
+    let first : Option (Thread × List ℕ) = cond (eqb kind.value 1) (waits_from kind.rest) second in
+    elim (chosen (eqb kind.value 0) (runs_from kind.rest) first (Some x) kind.goes_on) [
+      | inl w ↦ of_kind kind 0 x (eqb-true _ _ w.0) (runs_taken kind.rest x kind.left w.1)
+      | inr w ↦ elim (chosen (eqb kind.value 1) (waits_from kind.rest) second (Some x) w.1) [
+        | inl v ↦ of_kind kind 1 x (eqb-true _ _ v.0) (waits_taken kind.rest x kind.left v.1)
+        | inr v ↦ let g = only_if (eqb kind.value 2) (gone_from kind.rest) x v.1 in of_kind kind 2 x (eqb-true _ _ g.0) (gone_taken kind.rest x kind.left g.1)
+      ]
+    ]
+
+runs_found : (hart : Hart) (clear : ℕ) (rest : List ℕ) → IsThread (Runs hart clear) → runs_from (hart_bytes hart clear ++ rest) ≡ Some (Runs hart clear, rest)
+unfolding runs_from
+runs_found hart clear rest is = find_step hart_code _ (hart, clear) rest (Some (Runs hart clear, rest)) is refl
+
+waits_found : (addr : ℕ) (hart : Hart) (clear : ℕ) (rest : List ℕ) → IsThread (Waits addr hart clear) → waits_from ((word addr ++ hart_bytes hart clear) ++ rest) ≡ Some (Waits addr hart clear, rest)
+unfolding waits_from
+waits_found addr hart clear rest is =
+    find_first word_code _ addr (hart_bytes hart clear) rest (Some (Waits addr hart clear, rest)) is.0
+    (find_step hart_code _ (hart, clear) rest (Some (Waits addr hart clear, rest)) (is.1, is.2) refl)
+
+gone_found : (code : ℕ) (rest : List ℕ) → IsWord code → gone_from (word code ++ rest) ≡ Some (Gone code, rest)
+unfolding gone_from
+gone_found code rest is = find_step word_code _ code rest (Some (Gone code, rest)) is refl
+
+thread_found : (t : Thread) (rest : List ℕ) → IsThread t → thread_from (thread_bytes t ++ rest) ≡ Some (t, rest)
+unfolding thread_from
+thread_found (Runs hart clear) rest is = find_step (number_code 1) _ 0 (hart_bytes hart clear ++ rest) (Some (Runs hart clear, rest)) (omega arith) (runs_found hart clear rest is)
+thread_found (Waits addr hart clear) rest is = find_step (number_code 1) _ 1 ((word addr ++ hart_bytes hart clear) ++ rest) (Some (Waits addr hart clear, rest)) (omega arith) (waits_found addr hart clear rest is)
+thread_found (Gone code) rest is = find_step (number_code 1) _ 2 (word code ++ rest) (Some (Gone code, rest)) (omega arith) (gone_found code rest is)
+
+pub thread_code : IsPrefixCode thread_from thread_bytes IsThread
+thread_code = code_from thread_from thread_bytes IsThread thread_found thread_taken
+
+-- ---- checkpoints
+
+abbrev checkpoint : (steps input heap brk : ℕ) → End → List Thread → List Page → Checkpoint
+checkpoint steps input heap brk end threads pages = record { steps = steps; input = input; heap = heap; brk = brk; end = end; threads = threads; pages = pages }
+
+abbrev pages_part : List Page → List ℕ
+pages_part pages = little_bytes 2 (length pages) ++ flat_map page_bytes pages
+
+abbrev threads_part : List Thread → List Page → List ℕ
+threads_part threads pages = little_bytes 2 (length threads) ++ (flat_map thread_bytes threads ++ pages_part pages)
+
+-- what is read from a place on
+module _ (steps input heap brk : ℕ) where
+  abbrev pages_at : End → List Thread → List ℕ → Option (Checkpoint × List ℕ)
+  pages_at end threads bytes = number_at 2 bytes >>= λ count. many_at page_from count.0 count.1 >>= λ pages. if_bounded (checkpoint steps input heap brk end threads pages.0) pages.1
+
+  abbrev threads_at : End → List ℕ → Option (Checkpoint × List ℕ)
+  threads_at end bytes = number_at 2 bytes >>= λ count. many_at thread_from count.0 count.1 >>= λ threads. pages_at end threads.0 threads.1
+
+  abbrev end_at : List ℕ → Option (Checkpoint × List ℕ)
+  end_at bytes = end_from bytes >>= λ end. threads_at end.0 end.1
+
+  record TookPages (end : End) (threads : List Thread) (bytes : List ℕ) (x : Checkpoint × List ℕ) : Type 0 where
+    pub same : x.0 ≡ checkpoint steps input heap brk end threads x.0.pages
+    pub joined : bytes ≡ pages_part x.0.pages ++ x.1
+    pub pages : AllByRecursion IsPageContent x.0.pages
+    pub left : AreBytes x.1
+    pub bounded : is_bounded x.0 ≡ true
+
+  pages_taken : (end : End) (threads : List Thread) (bytes : List ℕ) (x : Checkpoint × List ℕ) → AreBytes bytes → pages_at end threads bytes ≡ Some x → TookPages end threads bytes x
+  pages_taken end threads bytes x fits e =
+      let count = take_step (number_code 2) _ bytes x fits e in
+      let pages = take_step (many_code page_code count.value) _ count.rest x count.left count.goes_on in
+      let c = checkpoint steps input heap brk end threads pages.value in
+      let g = cond_some (is_bounded c) (c, pages.rest) x pages.goes_on in
+      let whole = grouped count (flat_map page_bytes pages.value) pages.rest pages.joined in
+      subst (TookPages end threads bytes) {x = (c, pages.rest)} g.1 (record {
+        same = refl;
+        joined = subst (λ (n : ℕ). bytes ≡ (little_bytes 2 n ++ flat_map page_bytes pages.value) ++ pages.rest) (sym pages.is.0) whole;
+        pages = pages.is.1;
+        left = pages.left;
+        bounded = g.0;
+      })
+
+  record TookThreads (end : End) (bytes : List ℕ) (x : Checkpoint × List ℕ) : Type 0 where
+    pub same : x.0 ≡ checkpoint steps input heap brk end x.0.threads x.0.pages
+    pub joined : bytes ≡ threads_part x.0.threads x.0.pages ++ x.1
+    pub threads : AllByRecursion IsThread x.0.threads
+    pub pages : AllByRecursion IsPageContent x.0.pages
+    pub left : AreBytes x.1
+    pub bounded : is_bounded x.0 ≡ true
+
+  threads_from : (end : End) (n : ℕ) (threads : List Thread) (bytes : List ℕ) (x : Checkpoint × List ℕ) → bytes ≡ (little_bytes 2 n ++ (flat_map thread_bytes threads ++ pages_part x.0.pages)) ++ x.1 → length threads ≡ n → AllByRecursion IsThread threads
+      → x.0 ≡ checkpoint steps input heap brk end threads x.0.pages → AllByRecursion IsPageContent x.0.pages → AreBytes x.1 → is_bounded x.0 ≡ true → TookThreads end bytes x
+  threads_from end n threads bytes x whole size each same pages left bounded =
+      let is : threads ≡ x.0.threads = sym (ap (λ (c : Checkpoint). c.threads) same) in
+      record {
+        same = same ∙ ap (λ (t : List Thread). checkpoint steps input heap brk end t x.0.pages) is;
+        joined = subst (λ (t : List Thread). bytes ≡ threads_part t x.0.pages ++ x.1) is (subst (λ (k : ℕ). bytes ≡ (little_bytes 2 k ++ (flat_map thread_bytes threads ++ pages_part x.0.pages)) ++ x.1) (sym size) whole);
+        threads = subst (AllByRecursion IsThread) is each;
+        pages = pages;
+        left = left;
+        bounded = bounded;
+      }
+
+  threads_taken : (end : End) (bytes : List ℕ) (x : Checkpoint × List ℕ) → AreBytes bytes → threads_at end bytes ≡ Some x → TookThreads end bytes x
+  threads_taken end bytes x fits e =
+      let count = take_step (number_code 2) _ bytes x fits e in
+      let threads = take_step (many_code thread_code count.value) _ count.rest x count.left count.goes_on in
+      let behind = pages_taken end threads.value threads.rest x threads.left threads.goes_on in
+      let pages_all = pages_part x.0.pages in
+      threads_from end count.value threads.value bytes x
+      (grouped count (flat_map thread_bytes threads.value ++ pages_all) x.1 (grouped threads pages_all x.1 behind.joined)) threads.is.0 threads.is.1 behind.same behind.pages behind.left behind.bounded
+
+  record TookEnd (bytes : List ℕ) (x : Checkpoint × List ℕ) : Type 0 where
+    pub same : x.0 ≡ checkpoint steps input heap brk x.0.end x.0.threads x.0.pages
+    pub joined : bytes ≡ (end_bytes x.0.end ++ threads_part x.0.threads x.0.pages) ++ x.1
+    pub end : IsEnd x.0.end
+    pub threads : AllByRecursion IsThread x.0.threads
+    pub pages : AllByRecursion IsPageContent x.0.pages
+    pub left : AreBytes x.1
+    pub bounded : is_bounded x.0 ≡ true
+
+  end_from_parts : (end : End) (bytes : List ℕ) (x : Checkpoint × List ℕ) → bytes ≡ (end_bytes end ++ threads_part x.0.threads x.0.pages) ++ x.1 → IsEnd end → (rest : List ℕ) → TookThreads end rest x → TookEnd bytes x
+  end_from_parts end bytes x whole each rest behind =
+      let is : end ≡ x.0.end = sym (ap (λ (c : Checkpoint). c.end) behind.same) in
+      record {
+        same = behind.same ∙ ap (λ (t : End). checkpoint steps input heap brk t x.0.threads x.0.pages) is;
+        joined = subst (λ (t : End). bytes ≡ (end_bytes t ++ threads_part x.0.threads x.0.pages) ++ x.1) is whole;
+        end = subst IsEnd is each;
+        threads = behind.threads;
+        pages = behind.pages;
+        left = behind.left;
+        bounded = behind.bounded;
+      }
+
+  end_part_taken : (bytes : List ℕ) (x : Checkpoint × List ℕ) → AreBytes bytes → end_at bytes ≡ Some x → TookEnd bytes x
+  end_part_taken bytes x fits e =
+      let end = take_step end_code _ bytes x fits e in
+      let behind = threads_taken end.value end.rest x end.left end.goes_on in
+      end_from_parts end.value bytes x (grouped end (threads_part x.0.threads x.0.pages) x.1 behind.joined) end.is end.rest behind
+
+abbrev from_end : Checkpoint → List ℕ
+from_end c = end_bytes c.end ++ threads_part c.threads c.pages
+
+checkpoint_from_parts : (steps input heap brk : ℕ) (bytes rest : List ℕ) (x : Checkpoint × List ℕ) → bytes ≡ (little_bytes 8 steps ++ (little_bytes 8 input ++ (word heap ++ (word brk ++ from_end x.0)))) ++ x.1 → steps < 256 ^ 8 → input < 256 ^ 8 → IsWord heap → IsWord brk
+    → TookEnd steps input heap brk rest x → Splits bytes (checkpoint_bytes x.0) x.1 × IsCheckpoint x.0
+checkpoint_from_parts steps input heap brk bytes rest x whole small_steps small_input small_heap small_brk t =
+    let steps_is : steps ≡ x.0.steps = sym (ap (λ (c : Checkpoint). c.steps) t.same) in
+    let input_is : input ≡ x.0.input = sym (ap (λ (c : Checkpoint). c.input) t.same) in
+    let heap_is : heap ≡ x.0.heap = sym (ap (λ (c : Checkpoint). c.heap) t.same) in
+    let brk_is : brk ≡ x.0.brk = sym (ap (λ (c : Checkpoint). c.brk) t.same) in
+    let named : bytes ≡ checkpoint_bytes x.0 ++ x.1 = rw (← steps_is, ← input_is, ← heap_is, ← brk_is) whole in
+    (record { joined = named; left = t.left }, record {
+      steps = omega (arith, steps_is, small_steps);
+      input = omega (arith, input_is, small_input);
+      heap = subst IsWord heap_is small_heap;
+      brk = subst IsWord brk_is small_brk;
+      end = t.end;
+      threads = t.threads;
+      pages = t.pages;
+      bounded = t.bounded;
+    })
+
+checkpoint_taken : (bytes : List ℕ) (x : Checkpoint × List ℕ) → AreBytes bytes → checkpoint_from bytes ≡ Some x → Splits bytes (checkpoint_bytes x.0) x.1 × IsCheckpoint x.0
+unfolding checkpoint_from
+checkpoint_taken bytes x fits e =
+    let steps = take_step (number_code 8) (λ y. number_at 8 y.1 >>= λ z. number_at 4 z.1 >>= λ v. number_at 4 v.1 >>= λ w. end_at y.0 z.0 v.0 w.0 w.1) bytes x fits e in
+    let input = take_step (number_code 8) (λ z. number_at 4 z.1 >>= λ v. number_at 4 v.1 >>= λ w. end_at steps.value z.0 v.0 w.0 w.1) steps.rest x steps.left steps.goes_on in
+    let heap = take_step word_code (λ v. number_at 4 v.1 >>= λ w. end_at steps.value input.value v.0 w.0 w.1) input.rest x input.left input.goes_on in
+    let brk = take_step word_code (λ w. end_at steps.value input.value heap.value w.0 w.1) heap.rest x heap.left heap.goes_on in
+    let t = end_part_taken steps.value input.value heap.value brk.value brk.rest x brk.left brk.goes_on in
+    let from_brk = word brk.value ++ from_end x.0 in
+    let from_heap = word heap.value ++ from_brk in
+    let whole = grouped steps (little_bytes 8 input.value ++ from_heap) x.1 (grouped input from_heap x.1 (grouped heap from_brk x.1 (grouped brk (from_end x.0) x.1 t.joined))) in
+    checkpoint_from_parts steps.value input.value heap.value brk.value bytes brk.rest x whole steps.is input.is heap.is brk.is t
+
+-- what the bounds say
+pub record Bounds (c : Checkpoint) : Type 0 where
+  pub heap : is_heap c.heap c.brk ≡ true
+  pub some_thread : 0 < length c.threads
+  pub few_threads : length c.threads ≤ MAX_THREADS
+  pub few_alive : live c.threads ≤ MAX_LIVE_THREADS
+  pub traps : traps_within (length c.threads) c.end ≡ true
+  pub few_pages : length c.pages ≤ MAX_PAGES
+  pub rise : rising c.pages ≡ true
+
+pub bounds_of : (c : Checkpoint) → is_bounded c ≡ true → Bounds c
+bounds_of c is =
+    let heap = is_heap c.heap c.brk in
+    let some = ltb 0 (length c.threads) in
+    let few = leb (length c.threads) MAX_THREADS in
+    let alive = leb (live c.threads) MAX_LIVE_THREADS in
+    let traps = traps_within (length c.threads) c.end in
+    let pages = leb (length c.pages) MAX_PAGES in
+    let a = and_parts (heap && (some && few && alive) && traps && pages) (rising c.pages) is in
+    let b = and_parts (heap && (some && few && alive) && traps) pages a.0 in
+    let d = and_parts (heap && (some && few && alive)) traps b.0 in
+    let e = and_parts heap (some && few && alive) d.0 in
+    let f = and_parts (some && few) alive e.1 in
+    let g = and_parts some few f.0 in
+    record { heap = e.0; some_thread = ltb-true _ _ g.0; few_threads = leb-true _ _ g.1; few_alive = leb-true _ _ f.1; traps = d.1; few_pages = leb-true _ _ b.1; rise = a.1 }
+
+checkpoint_found : (c : Checkpoint) (rest : List ℕ) → IsCheckpoint c → checkpoint_from (checkpoint_bytes c ++ rest) ≡ Some (c, rest)
+unfolding checkpoint_from
+checkpoint_found c rest is =
+    let found : Option (Checkpoint × List ℕ) = Some (c, rest) in
+    let few = bounds_of c is.bounded in
+    let last : if_bounded c rest ≡ found = cond-true _ _ _ is.bounded in
+    let pages_are = flat_map page_bytes c.pages in
+    let pages_all = little_bytes 2 (length c.pages) ++ pages_are in
+    let threads_are = flat_map thread_bytes c.threads ++ pages_all in
+    let threads_all = little_bytes 2 (length c.threads) ++ threads_are in
+    let from_end = end_bytes c.end ++ threads_all in
+    let from_brk = word c.brk ++ from_end in
+    let from_heap = word c.heap ++ from_brk in
+    let from_input = little_bytes 8 c.input ++ from_heap in
+    find_first (number_code 8) _ c.steps from_input rest found (omega (arith, is.steps))
+    (find_first (number_code 8) _ c.input from_heap rest found (omega (arith, is.input))
+    (find_first word_code _ c.heap from_brk rest found is.heap
+    (find_first word_code _ c.brk from_end rest found is.brk
+    (find_first end_code _ c.end threads_all rest found is.end
+    (find_first (number_code 2) _ (length c.threads) threads_are rest found (omega (arith, few.few_threads))
+    (find_first (many_code thread_code (length c.threads)) _ c.threads pages_all rest found (refl, is.threads)
+    (find_first (number_code 2) _ (length c.pages) pages_are rest found (omega (arith, few.few_pages))
+    (find_step (many_code page_code (length c.pages)) _ c.pages rest found (refl, is.pages) last))))))))
+
+pub checkpoint_code : IsPrefixCode checkpoint_from checkpoint_bytes IsCheckpoint
+checkpoint_code = code_from checkpoint_from checkpoint_bytes IsCheckpoint checkpoint_found checkpoint_taken

@@ -1,0 +1,4 @@
+pub mod Steps
+pub mod Codes
+pub mod Many
+mod Scanning

@@ -1,0 +1,5 @@
+use Rattle.guest_state.proofs.Codes.{checkpoint_code}
+use Rattle.guest_state.proofs.laws.checkpoints.Goals as goal
+
+pub returns : goal.returns
+returns c = checkpoint_code

@@ -1,0 +1,4 @@
+pub mod Register
+pub mod Pages
+pub mod Checkpoint
+pub mod View

@@ -1,0 +1,27 @@
+-- What is lent by a reader, as a value. This project's own.
+use Rattle.std.specs.Prelude.{ℕ, Bool, List, ◌&&◌, nat_lt, nat_le}
+use Rattle.dp_base.specs.declared.limits.TheConstants.{MAX_LIVE_THREADS, MAX_PAGES, MAX_THREADS}
+use Rattle.dp_base.specs.declared.page.Page.{Page}
+use Rattle.guest_state.specs.Checkpoint.{is_heap, traps_within}
+use Rattle.guest_state.specs.declared.scan.Bounds.{Bounds}
+use Rattle.guest_state.specs.declared.reader.PageView.{PageView}
+
+abbrev pub page_of : PageView → Page
+page_of v = record { number = v.number; flags = v.flags; bytes = v.bytes.now }
+
+-- how many were skipped, what is known of them, and the bytes behind them
+pub record Skipped (A : Type 0) : Type 0 where
+  pub count : ℕ
+  pub known : A
+  pub rest : List ℕ
+
+abbrev pub counting : (count known : ℕ) → List ℕ → Skipped ℕ
+counting count known rest = record { count = count; known = known; rest = rest }
+
+abbrev pub testing : (count : ℕ) → Bool → List ℕ → Skipped Bool
+testing count known rest = record { count = count; known = known; rest = rest }
+
+-- the bounds of a checkpoint, by what was counted
+abbrev pub hold : Bounds → Bool
+hold b = is_heap b.heap b.brk && (nat_lt 0 b.threads && nat_le b.threads MAX_THREADS && nat_le b.live MAX_LIVE_THREADS) && traps_within b.threads b.end
+    && nat_le b.pages MAX_PAGES && b.rising

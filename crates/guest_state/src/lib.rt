@@ -1,0 +1,27 @@
+//! A guest between two slices, as data: harts, threads, how it ended, and the one encoding in bytes of all that it is
+//! (`specs/Checkpoint.antt`), which marks of a journal and digests are made of.
+//!
+//! Promises: a state has one encoding, and no encoding is a prefix of another; each reader takes exactly what the grammar
+//! accepts. Stands on `dp_base`.
+//!
+//! ```text
+//! let (end, rest) = read_end(bytes)?;
+//! let (thread, rest) = read_thread(rest)?;
+//! if is_checkpoint(body) {
+//!     ..
+//! }
+//! ```
+#![tactic(auto)]
+
+mod end;
+mod hart;
+pub mod laws;
+mod reader;
+mod scan;
+mod thread;
+
+pub use end::End;
+pub use hart::Hart;
+pub use reader::{PageView, read_end, read_page, read_thread};
+pub use scan::{Bounds, alive_count, is_checkpoint};
+pub use thread::Thread;

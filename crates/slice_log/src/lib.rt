@@ -1,0 +1,15 @@
+//! The slices of an epoch as a list: appended one by one while the epoch runs, and taken one by one while it is replayed.
+//!
+//! Promises: a `SliceLog` is the list of what was put into it, in order. Stands on `dp_base`.
+//!
+//! ```text
+//! let mut log = SliceLog::new(alloc);
+//! log.put(Slice { tid: Tid(1), steps: 3 })?;
+//! let mut at = 0;
+//! while let Some(slice) = log.next(&mut at) { .. }
+//! ```
+#![tactic(auto)]
+
+mod slice_log;
+
+pub use slice_log::SliceLog;

@@ -1,0 +1,30 @@
+-- Lists that are the same as far as they were compared.
+use Rattle.std.proofs.Common.{◌≡◌, ℕ, zero, suc, ◌+◌, ◌≤◌, List, [], ◌∷◌, length, take, slice_get, Option, Some, None, refl, sym, ap, ◌∙◌, arith}
+use Rattle.std.proofs.lemmas.List.{take_all}
+use Rattle.std.proofs.lemmas.Option.{same_Some}
+
+suc_is : (i : ℕ) → suc i + 1 ≡ suc (i + 1)
+suc_is i = omega arith
+
+pub take-more : {X : Type 0} (xs ys : List X) (i : ℕ) (x y : X) → slice_get xs i ≡ Some x → slice_get ys i ≡ Some y → x ≡ y → take i xs ≡ take i ys → take (i + 1) xs ≡ take (i + 1) ys
+take-more [] ys i x y at_x at_y same so_far = absurd cc
+take-more (a ∷ xs) [] i x y at_x at_y same so_far = absurd cc
+take-more (a ∷ xs) (b ∷ ys) zero x y at_x at_y same so_far =
+    let first : a ≡ b = same_Some _ _ at_x ∙ same ∙ sym (same_Some _ _ at_y) in
+    ap (λ z. z ∷ []) first
+take-more {X} (a ∷ xs) (b ∷ ys) (suc i) x y at_x at_y same so_far =
+    let first : a ≡ b = same_first a b (take i xs) (take i ys) so_far in
+    let others : take i xs ≡ take i ys = same_others a b (take i xs) (take i ys) so_far in
+    let more = take-more xs ys i x y at_x at_y same others in
+    ap (λ (n : ℕ). take n (a ∷ xs)) (suc_is i) ∙ ap (λ (z : X). z ∷ take (i + 1) xs) first ∙ ap (λ (l : List X). b ∷ l) more ∙ ap (λ (n : ℕ). take n (b ∷ ys)) (sym (suc_is i))
+  where
+    same_first : (a b : X) (us vs : List X) → a ∷ us ≡ b ∷ vs → a ≡ b
+    same_first a b us vs e = cc
+    same_others : (a b : X) (us vs : List X) → a ∷ us ≡ b ∷ vs → us ≡ vs
+    same_others a b us vs e = cc
+
+pub take-whole : {X : Type 0} (xs ys : List X) (n : ℕ) → length xs ≤ n → length ys ≤ n → take n xs ≡ take n ys → xs ≡ ys
+take-whole xs ys n few_x few_y same = sym (take_all n xs few_x) ∙ same ∙ take_all n ys few_y
+
+pub same_at : {X : Type 0} (xs ys : List X) (i : ℕ) (x y : X) → slice_get xs i ≡ Some x → slice_get ys i ≡ Some y → xs ≡ ys → x ≡ y
+same_at {X} xs ys i x y at_x at_y same = same_Some _ _ (sym at_x ∙ ap (λ (l : List X). slice_get l i) same ∙ at_y)

@@ -1,0 +1,15 @@
+//! Whether two states of a guest are the same.
+//!
+//! Promises: `equal` is true exactly on equal states: step counts, input places, heaps, ends, threads with their harts, and
+//! pages with their flags and bytes. No digest stands for what it stands for. Stands on `guest_kernel` and `guest_state`.
+//!
+//! ```text
+//! if !equal(&reached, &marked) {
+//!     ..
+//! }
+//! ```
+#![tactic(auto)]
+
+mod equality;
+
+pub use equality::equal;

@@ -1,0 +1,16 @@
+//! The answers to an epoch's calls as a list: appended one by one while the epoch runs, and taken one by one while it is
+//! replayed.
+//!
+//! Promises: an `AnswerLog` is the list of what was put into it, in order. Stands on `dp_base`.
+//!
+//! ```text
+//! let mut log = AnswerLog::new(alloc);
+//! log.put(Answer::Clock(7))?;
+//! let mut at = 0;
+//! while let Some(answer) = log.next(&mut at) { .. }
+//! ```
+#![tactic(auto)]
+
+mod answer_log;
+
+pub use answer_log::AnswerLog;
