@@ -1,4 +1,4 @@
-ghost use Rattle.std.specs.Prelude.{◌≡◌, ◌≤◌, IsErr, is_ok};
+ghost use Rattle.std.specs.Prelude.{◌≡◌, ◌≤◌, ◌++◌, IsErr, codes, decimal, is_ok};
 ghost use Rattle.disk_model.specs.Counts.{Rose};
 ghost use Rattle.disk_model.specs.Known.{IfKnown};
 ghost use Rattle.disk_model.specs.declared.world.Stream.TheVariants.{Note};
@@ -53,22 +53,8 @@ pub fn emit_fault<W: World>(world: &mut W, status: &Status) -> Result<(), Output
                 b" bytes\n",
             ],
         ),
-        Status::BadJournal(number) => note(
-            world,
-            &[
-                b"dpcli: record ",
-                digits.format(number).as_bytes(),
-                b" is malformed\n",
-            ],
-        ),
-        Status::BadEpoch(number) => note(
-            world,
-            &[
-                b"dpcli: record ",
-                digits.format(number).as_bytes(),
-                b" does not run\n",
-            ],
-        ),
+        Status::BadJournal(number) => note_record(world, number, b" is malformed\n"),
+        Status::BadEpoch(number) => note_record(world, number, b" does not run\n"),
         Status::StepLimit(steps) => note(
             world,
             &[
@@ -92,15 +78,23 @@ pub fn emit_fault<W: World>(world: &mut W, status: &Status) -> Result<(), Output
         }
         Status::OutOfMemory => note(world, &[b"dpcli: out of memory\n"]),
         Status::NoJournal => note(world, &[b"dpcli: no journal\n"]),
-        Status::BadMark(number) => note(
-            world,
-            &[
-                b"dpcli: record ",
-                digits.format(number).as_bytes(),
-                b" is a wrong mark\n",
-            ],
-        ),
+        Status::BadMark(number) => note_record(world, number, b" is a wrong mark\n"),
     }
+}
+
+// Emits what is to be said of the journal's record with this number.
+fn note_record<W: World>(world: &mut W, number: u32, said: &[u8]) -> Result<(), OutputFault>
+    ensures history { IfKnown (Sent Note (codes "dpcli: record " ++ decimal number ++ said.now) (is_ok result))
+        (W.history world.old) (W.history world.new) }
+    ensures cause { IsErr result → Rose (W.sink_faults world.old) (W.sink_faults world.new) }
+    ensures count { W.sink_faults world.old ≤ W.sink_faults world.new }
+    ensures disk { W.disk_faults world.new ≡ W.disk_faults world.old }
+{
+    let mut digits = Buffer::new();
+    note(
+        world,
+        &[b"dpcli: record ", digits.format(number).as_bytes(), said],
+    )
 }
 
 // Emits these pieces on Note.

@@ -23,14 +23,6 @@ pub returns-in-JournalInUse-clause-history : goal.returns-in-JournalInUse-clause
 returns-in-JournalInUse-clause-history g c =
     rw (c.in-JournalInUse.is, sym (c.as_bytes-in-JournalInUse.ensures.value ∙ c.format-in-JournalInUse.ensures.text)) c.note-in-JournalInUse.ensures.history
 
-pub returns-in-BadJournal-clause-history : goal.returns-in-BadJournal-clause-history
-returns-in-BadJournal-clause-history g c =
-    rw (c.in-BadJournal.is, sym (c.as_bytes-in-BadJournal.ensures.value ∙ c.format-in-BadJournal.ensures.text)) c.note-in-BadJournal.ensures.history
-
-pub returns-in-BadEpoch-clause-history : goal.returns-in-BadEpoch-clause-history
-returns-in-BadEpoch-clause-history g c =
-    rw (c.in-BadEpoch.is, sym (c.as_bytes-in-BadEpoch.ensures.value ∙ c.format-in-BadEpoch.ensures.text)) c.note-in-BadEpoch.ensures.history
-
 pub returns-in-JournalFull-clause-history : goal.returns-in-JournalFull-clause-history
 returns-in-JournalFull-clause-history g c =
     rw (c.in-JournalFull.is, sym (c.as_bytes-in-JournalFull.ensures.value ∙ c.format-in-JournalFull.ensures.text), sym (c.as_bytes-in-JournalFull-2.ensures.value ∙ c.format-in-JournalFull-2.ensures.text))
@@ -38,7 +30,3 @@ returns-in-JournalFull-clause-history g c =
 
 pub returns-in-NoJournal-clause-history : goal.returns-in-NoJournal-clause-history
 returns-in-NoJournal-clause-history g c = rw c.in-NoJournal.is c.note-in-NoJournal.ensures.history
-
-pub returns-in-BadMark-clause-history : goal.returns-in-BadMark-clause-history
-returns-in-BadMark-clause-history g c =
-    rw (c.in-BadMark.is, sym (c.as_bytes-in-BadMark.ensures.value ∙ c.format-in-BadMark.ensures.text)) c.note-in-BadMark.ensures.history
