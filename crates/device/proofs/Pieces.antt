@@ -1,0 +1,73 @@
+-- Several texts, sent one behind another.
+use Rattle.std.proofs.Common.{◌≡◌, ◌<◌, ◌≤◌, ℕ, ◌+◌, min, Bool, true, false, List, [], ◌∷◌, ◌++◌, length, take, drop, map, Bor, refl, sym, ◌∙◌, ap, subst, append_assoc, arith}
+use Rattle.std.specs.Prelude.{get_or}
+use Rattle.std.specs.List.{concat}
+use Rattle.std.proofs.Math.Seq.{take-append-add}
+use Rattle.std.proofs.lemmas.List.{append-nil, length-append, map-append, take_all, take_min, take_more, take-append-le, take-append-drop}
+use Rattle.std.proofs.lemmas.List.Folds.{concat-append}
+use Rattle.disk_model.specs.declared.world.Stream.{Stream}
+use Rattle.disk_model.specs.History.{History}
+use Rattle.device.specs.Sending.{Sent, joined, stream_of}
+use Rattle.device.proofs.Sends.{none_sent}
+
+module _ (to : Stream) where
+  pub nothing_sent : (s : History) → Sent to [] true s s
+  nothing_sent s = (0, none_sent to [] s, λ ok. omega arith)
+
+  -- a whole text, and then another
+  pub both_sent : (a b : List ℕ) (ok : Bool) (s t u : History) → Sent to a true s t → Sent to b ok t u → Sent to (a ++ b) ok s u
+  both_sent a b ok s t u first second =
+      let one = first.1 in
+      let two = second.1 in
+      let whole : stream_of to t ≡ stream_of to s ++ a = one.grown ∙ ap (λ (l : List ℕ). stream_of to s ++ l) (take_all first.0 a (first.2 refl)) in (
+        length a + second.0,
+        record {
+          disk = two.disk ∙ one.disk;
+          pending = two.pending ∙ one.pending;
+          grown = two.grown ∙ ap (λ (l : List ℕ). l ++ take second.0 b) whole ∙ append_assoc (stream_of to s) a (take second.0 b)
+              ∙ ap (λ (l : List ℕ). stream_of to s ++ l) (sym (take-append-add a b second.0));
+          same = two.same ∙ one.same;
+        },
+        λ all. omega (arith, second.2 all, length-append a b),
+      )
+
+  -- a prefix of a text, of which more was to come
+  pub prefix_sent : (a more : List ℕ) (s u : History) → Sent to a false s u → Sent to (a ++ more) false s u
+  prefix_sent a more s u is =
+      let count = min is.0 (length a) in
+      let same_bytes : take count (a ++ more) ≡ take is.0 a = take-append-le count a more (omega arith) ∙ take_min is.0 a in (
+        count,
+        record {
+          disk = is.1.disk;
+          pending = is.1.pending;
+          grown = is.1.grown ∙ ap (λ (l : List ℕ). stream_of to s ++ l) (sym same_bytes);
+          same = is.1.same;
+        },
+        λ never. absurd cc,
+      )
+
+module _ (pieces : List (Bor (List ℕ))) where
+  joined-append : (xs ys : List (Bor (List ℕ))) → joined (xs ++ ys) ≡ joined xs ++ joined ys
+  joined-append xs ys = ap concat (map-append (λ (p : Bor (List ℕ)). p.now) xs ys) ∙ concat-append (map (λ p. p.now) xs) (map (λ p. p.now) ys)
+
+  joined_more : (i : ℕ) (d : Bor (List ℕ)) → i < length pieces → joined (take (i + 1) pieces) ≡ joined (take i pieces) ++ (get_or pieces i d).now
+  joined_more i d within = ap joined (take_more pieces i d within) ∙ joined-append (take i pieces) (get_or pieces i d ∷ [])
+      ∙ ap (λ (l : List ℕ). joined (take i pieces) ++ l) (append-nil (get_or pieces i d).now)
+
+  joined-cut : (i : ℕ) → joined pieces ≡ joined (take i pieces) ++ joined (drop i pieces)
+  joined-cut i = ap joined (sym (take-append-drop i pieces)) ∙ joined-append (take i pieces) (drop i pieces)
+
+  pub piece_sent : (to : Stream) (i : ℕ) (d : Bor (List ℕ)) → i < length pieces → (s t u : History)
+      → Sent to (joined (take i pieces)) true s t → Sent to (get_or pieces i d).now true t u → Sent to (joined (take (i + 1) pieces)) true s u
+  piece_sent to i d within s t u so_far piece = subst (λ (l : List ℕ). Sent to l true s u) (sym (joined_more i d within))
+      (both_sent to (joined (take i pieces)) (get_or pieces i d).now true s t u so_far piece)
+
+  pub piece_not_sent : (to : Stream) (i : ℕ) (d : Bor (List ℕ)) → i < length pieces → (s t u : History)
+      → Sent to (joined (take i pieces)) true s t → Sent to (get_or pieces i d).now false t u → Sent to (joined pieces) false s u
+  piece_not_sent to i d within s t u so_far piece =
+      let up_to : Sent to (joined (take (i + 1) pieces)) false s u = subst (λ (l : List ℕ). Sent to l false s u) (sym (joined_more i d within))
+      (both_sent to (joined (take i pieces)) (get_or pieces i d).now false s t u so_far piece) in
+      subst (λ (l : List ℕ). Sent to l false s u) (sym (joined-cut (i + 1))) (prefix_sent to (joined (take (i + 1) pieces)) (joined (drop (i + 1) pieces)) s u up_to)
+
+  pub all_sent : (to : Stream) (i : ℕ) → length pieces ≤ i → (s t : History) → Sent to (joined (take i pieces)) true s t → Sent to (joined pieces) true s t
+  all_sent to i past s t is = subst (λ (l : List (Bor (List ℕ))). Sent to (joined l) true s t) (take_all i pieces past) is

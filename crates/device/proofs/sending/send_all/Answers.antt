@@ -1,0 +1,22 @@
+use Rattle.std.proofs.Common.{arith, refl, ◌∙◌, false}
+use Rattle.std.proofs.lemmas.Result.{err_from_is_err_and}
+use Rattle.disk_model.proofs.Knowing.{known-then, known-same}
+use Rattle.device.specs.Sending.{Sent}
+use Rattle.device.proofs.Sends.{none_sent, sent_more, not_all_sent}
+use Rattle.device.proofs.sending.send_all.Goals as goal
+
+pub parts-init : goal.parts-init
+parts-init g c = record { within = omega arith; history = known-same _ _ _ refl (none_sent c.args.to c.args.bytes.now); count = omega arith; disk = refl }
+
+pub parts-preserved : goal.parts-preserved
+parts-preserved g c = record {
+  within = omega (arith, c.in_ok-sent.ensures.within);
+  history = known-then _ _ _ _ _ _ (sent_more c.args.bytes.now c.args.to c.parts.sent c.in_ok-sent.field-0) c.parts.invariant.history c.in_ok-sent.ensures.history;
+  count = omega (arith, c.emit.ensures.count, c.parts.invariant.count);
+  disk = c.emit.ensures.disk ∙ c.parts.invariant.disk;
+}
+
+pub returns-in_err-sent-clause-history : goal.returns-in_err-sent-clause-history
+returns-in_err-sent-clause-history g c =
+    let p = err_from_is_err_and c.from_residual.result c.from_residual.ensures.1 in
+    rw p.1 (known-then _ _ (Sent c.args.to c.args.bytes.now false) _ _ _ (not_all_sent c.args.bytes.now c.args.to c.parts.sent c.in_err-sent.field-0.0) c.parts.invariant.history c.in_err-sent.ensures.history)

@@ -1,0 +1,19 @@
+//! What a program does to the outside that is done whole: a write that is on the disk when it is answered `Ok`, and a text
+//! that is sent to its end.
+//!
+//! Promises: where the history of the world is known, each call is one step of `specs/Writing.antt`, and after `Err` what was
+//! sent is a prefix of the text, and what the last sync had left is still on the disk. A call fails only where its count of
+//! faults rises, or is at its greatest value, and leaves the other count as it was. Stands on `disk_model`.
+//!
+//! ```text
+//! write_through(&mut world, end, record)?;
+//! send_all(&mut world, Stream::Out, output)?;
+//! send_pieces(&mut world, Stream::Note, &[b"epochs ", digits, b"\n"])?;
+//! ```
+#![tactic(auto)]
+
+mod sending;
+mod writing;
+
+pub use sending::{send_all, send_pieces};
+pub use writing::write_through;

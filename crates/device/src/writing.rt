@@ -1,0 +1,23 @@
+ghost use Rattle.std.specs.Prelude.{◌≡◌, ◌≤◌, IsErr, is_ok};
+ghost use Rattle.disk_model.specs.Counts.{Rose};
+ghost use Rattle.disk_model.specs.Known.{IfKnown};
+ghost use Rattle.device.specs.Writing.{IsWrittenThrough};
+
+use disk_model::{Failed, World};
+
+/// Writes bytes from offset `at` on, and waits until they are on the disk.
+///
+/// # Errors
+///
+/// `Failed` if the write or the sync failed. Any part of the write may have been done; what the last sync had left is still
+/// there.
+pub fn write_through<W: World>(world: &mut W, at: u64, bytes: &[u8]) -> Result<(), Failed>
+    ensures history { IfKnown (IsWrittenThrough at bytes.now (is_ok result)) (W.history world.old) (W.history world.new) }
+    ensures cause { IsErr result → Rose (W.disk_faults world.old) (W.disk_faults world.new) }
+    ensures count { W.disk_faults world.old ≤ W.disk_faults world.new }
+    ensures sink { W.sink_faults world.new ≡ W.sink_faults world.old }
+{
+    world.write_at(at, bytes)?;
+    world.sync()?;
+    Ok(())
+}

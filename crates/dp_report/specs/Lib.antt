@@ -1,0 +1,2 @@
+pub mod StatusNumber
+pub mod Texts

@@ -1,0 +1,53 @@
+-- The command line, as data of clap's definitions: a row for each word of each subcommand. Where clap builds it, it adds
+-- the flag --help to each.
+use Rattle.std.specs.Prelude.{ℕ, List, [], ◌∷◌, true, Some, codes, fold}
+use Rattle.clap.specs.Words.{App, Rule, Text, new_app, new_rule, with_rule, with_subcommand}
+use Rattle.clap.specs.Simple.{on_top}
+use Rattle.clap.specs.declared.builder.action.ArgAction.TheVariants.{Set}
+use Rattle.clap.specs.declared.builder.value_parser.ValueParser.TheVariants as parser
+
+-- a text at its place, which must be there
+abbrev pub text : Text → Rule
+text name = record (new_rule name) { action = Some Set; required = true }
+
+-- --NAME NUMBER, with the bounds of the number, and what stands for it where it isn't there
+abbrev pub number : Text → ℕ → ℕ → Text → Rule
+number name least most default = record (new_rule name) {
+  long = Some name;
+  action = Some Set;
+  parser = Some (parser.Unsigned least most);
+  defaults = default ∷ [];
+}
+
+abbrev pub record_words : List Rule
+record_words =
+    text (codes "guest")
+    ∷ text (codes "journal")
+    ∷ number (codes "workers") 1 64 (codes "4")
+    ∷ number (codes "epoch") 1 1000000 (codes "20000")
+    ∷ number (codes "slice") 1 100000 (codes "1000")
+    ∷ number (codes "ahead") 1 64 (codes "16")
+    ∷ number (codes "mark") 0 1000 (codes "16")
+    ∷ number (codes "limit") 1 1000000000000 (codes "1000000000")
+    ∷ []
+
+abbrev pub replay_words : List Rule
+replay_words =
+    text (codes "journal")
+    ∷ number (codes "workers") 1 64 (codes "4")
+    ∷ []
+
+abbrev pub record_line : App
+record_line = fold with_rule (new_app (codes "record")) record_words
+
+abbrev pub replay_line : App
+replay_line = fold with_rule (new_app (codes "replay")) replay_words
+
+-- one of the subcommands must be there, and `help` is none of them
+abbrev pub no_words : App
+no_words =
+    on_top (λ s. record s { subcommand_required = true; disable_help_subcommand = true })
+    (new_app (codes "dpcli"))
+
+abbrev pub command_line : App
+command_line = with_subcommand (with_subcommand no_words record_line.top) replay_line.top

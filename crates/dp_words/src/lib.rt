@@ -1,0 +1,27 @@
+//! The words of a command line become a command: `record GUEST JOURNAL` with its options, or `replay JOURNAL`.
+//!
+//! Promises (the contract of `parse`): it answers `Usage` only at words that the command line doesn't take, and a command
+//! only at words that it takes; the command is the one that the words say, and each number is in its range. Stands on
+//! `clap` for what a command line takes (`specs/CommandLine.antt` is ours), and on `dp_base` for the limits.
+//!
+//! ```text
+//! match parse(alloc, &words) {
+//!     Ok(Command::Record { guest, journal, workers, .. }) => record(guest.as_str(), journal.as_str(), workers),
+//!     Ok(Command::Replay { journal, workers }) => replay(journal.as_str(), workers),
+//!     Err(fault) => Err(fault),
+//! }
+//! ```
+#![tactic(auto)]
+
+mod command;
+mod command_line;
+mod matched;
+mod parsing;
+mod text;
+
+pub use command::Command;
+pub use parsing::{WordsFault, parse};
+pub use text::Text;
+
+#[cfg(test)]
+mod tests;

@@ -1,0 +1,72 @@
+// A command out of words.
+ghost use Rattle.std.specs.Prelude.{◌≡◌, IfOk, IsErrOf, false, true, map, string_bytes, Some};
+ghost use Rattle.clap.specs.Words.{subcommand_rows_of, takes};
+ghost use Rattle.dp_words.specs.CommandLine.{command_line};
+ghost use Rattle.dp_words.specs.Commands.{IsInRange, command_found, command_of};
+ghost use Rattle.dp_words.specs.Found.{IsFound};
+ghost use Rattle.dp_words.specs.Fault.{fault_of};
+ghost use Rattle.dp_words.specs.declared.parsing.WordsFault.TheVariants as faults;
+
+use crate::command::Command;
+use crate::command_line::command_line;
+use crate::matched;
+use clap::ArgMatches;
+use clap::error::ErrorKind;
+use std::alloc::{AllocError, Global};
+
+/// Why words gave no command.
+#[derive(Clone, Copy, Debug, PartialEq, Eq)]
+pub enum WordsFault {
+    /// The command line doesn't take the words.
+    Usage,
+    /// An allocation failed.
+    OutOfMemory,
+}
+
+impl From<AllocError> for WordsFault {
+    ghost from_gives = { λ _ fault. fault ≡ faults.OutOfMemory };
+
+    fn from(_: AllocError) -> Self {
+        WordsFault::OutOfMemory
+    }
+}
+
+/// The command that the words say. The first word is the program's name, which isn't looked at.
+///
+/// # Errors
+///
+/// `Usage` if the command line doesn't take the words: an unknown word, one too many or too few, a number out of its form
+/// or range, and a call for help or the version. `OutOfMemory` if an allocation fails.
+pub fn parse(alloc: Global, words: &[String]) -> Result<Command, WordsFault>
+    ensures taken { IfOk result (λ _. takes command_line (map string_bytes words.now) ≡ true) }
+    ensures command { IfOk result (λ command. command_of words.now ≡ Some command) }
+    ensures ranges { IfOk result IsInRange }
+    ensures usage { IsErrOf result faults.Usage → takes command_line (map string_bytes words.now) ≡ false }
+{
+    match command_line(alloc)?.try_get_matches_from(words) {
+        Ok(matches) => Ok(found(alloc, &matches)?),
+        Err(error) => Err(fault_of(error.kind())),
+    }
+}
+
+// The command of what clap found. It fails only if an allocation does.
+fn found(alloc: Global, matches: &ArgMatches<'_>) -> Result<Command, AllocError>
+    requires { IsFound (subcommand_rows_of matches.now) }
+    ensures command { IfOk result (λ command. command_found (subcommand_rows_of matches.now) ≡ Some command) }
+    ensures ranges { IfOk result IsInRange }
+{
+    match matches.subcommand().unwrap() {
+        ("record", matches) => matched::record(alloc, matches),
+        ("replay", matches) => matched::replay(alloc, matches),
+        _ => unreachable!(),
+    }
+}
+
+fn fault_of(kind: ErrorKind) -> WordsFault
+    ensures { result ≡ fault_of kind }
+{
+    match kind {
+        ErrorKind::OutOfMemory => WordsFault::OutOfMemory,
+        _ => WordsFault::Usage,
+    }
+}
