@@ -15,6 +15,10 @@ pub record Reading : Type 0 where
   pub records : List Record
   pub tail : Tail
 
+-- a reading that ends as a journal does
+abbrev pub ending : (guest : List ℕ) → List Record → (place : ℕ) → Reading
+ending guest records place = record { guest = guest; records = records; tail = end place }
+
 -- as much of a file as is read
 abbrev pub first_bytes : List ℕ → List ℕ
 first_bytes bytes = take MAX_JOURNAL_BYTES bytes
