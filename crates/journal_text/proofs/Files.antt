@@ -207,9 +207,9 @@ cut_file : (n : ℕ) (bytes : List ℕ) → (more : List ℕ) × (first_bytes (t
 cut_file n bytes =
     elim (cases_lt n MAX_JOURNAL_BYTES) [
       | inl lt ↦
-        let all : first_bytes (take n bytes) ≡ take n bytes = take_all MAX_JOURNAL_BYTES (take n bytes) (omega (arith, length-take n bytes, lt)) in
-        let short : take n bytes ≡ take n (first_bytes bytes) = sym (take-take n MAX_JOURNAL_BYTES bytes (omega (arith, lt))) in
-        (drop n (first_bytes bytes), ap (λ (b : List ℕ). b ++ drop n (first_bytes bytes)) (all ∙ short) ∙ take-append-drop n (first_bytes bytes))
+          let all : first_bytes (take n bytes) ≡ take n bytes = take_all MAX_JOURNAL_BYTES (take n bytes) (omega (arith, length-take n bytes, lt)) in
+          let short : take n bytes ≡ take n (first_bytes bytes) = sym (take-take n MAX_JOURNAL_BYTES bytes (omega (arith, lt))) in
+          (drop n (first_bytes bytes), ap (λ (b : List ℕ). b ++ drop n (first_bytes bytes)) (all ∙ short) ∙ take-append-drop n (first_bytes bytes))
       | inr le ↦ ([], append-nil (first_bytes (take n bytes)) ∙ take-take MAX_JOURNAL_BYTES n bytes le)
     ]
 

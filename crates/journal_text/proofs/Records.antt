@@ -1,6 +1,6 @@
 -- A record is found where its bytes stand, and in no other way.
 use Rattle.std.proofs.Common.{◌≡◌, ℕ, ◌^◌, ◌<◌, ◌≤◌, Bool, true, false, cond, eqb, ltb, leb, ◌&&◌, List, [], ◌∷◌, ◌++◌, length, take, drop, Option, Some, None, refl, ap, subst, ◌∙◌, arith}
-use Rattle.std.specs.Prelude.{option_map}
+use Rattle.std.specs.Prelude.{is_some, option_map}
 use Rattle.std.proofs.lemmas.Bool.{eqb-true, leb-true, le-leb}
 use Rattle.std.proofs.lemmas.List.{length-drop}
 use Rattle.std.proofs.lemmas.Option.{cond_some, same_Some}
@@ -13,9 +13,11 @@ use Rattle.dp_base.specs.Journal.{Epoch, answer_at, epoch_body, epoch_body_at, l
 use Rattle.dp_base.specs.declared.limits.TheConstants.{MAX_EPOCH_STEPS}
 use Rattle.dp_base.proofs.Fields.{Splits, Splits-then, bind_some, bind_at, none_after, byte_taken, bytes_found, enough, length_prefixed_found, length_prefixed_taken, number_found, number_left}
 use Rattle.dp_base.proofs.Epochs.{epoch_code, only_if}
+use Rattle.dp_base.proofs.Sizes.{length-epoch_body}
 use Rattle.dp_base.proofs.Whole.{whole_code}
 use Rattle.guest_state.specs.Checkpoint.{Checkpoint, IsCheckpoint, checkpoint_bytes, checkpoint_from}
 use Rattle.guest_state.proofs.Codes.{checkpoint_code}
+use Rattle.journal_text.specs.View.{IsRecordBody}
 use Rattle.journal_text.specs.Records.{HoldsValues, IsRecord, Record, bad, body_of, ended, epoch, first_of, fitting_at, found, found_in, mark, mark_in, mark_kind, next_at, next_of, record_bytes, record_in}
 
 -- ---- a body that fits
@@ -122,6 +124,13 @@ in_its_body (epoch e) is = ap (λ (o : Option Epoch). first_of (option_map epoch
 in_its_body (mark c) is =
     ap (λ (o : Option Epoch). first_of (option_map epoch o) (option_map mark (mark_in (body_of (mark c))))) (whole_epoch_of_a_mark (checkpoint_bytes c))
     ∙ ap (λ (o : Option Checkpoint). first_of None (option_map mark o)) (mark_found c is)
+
+some_body : (r : Record) → 0 < length (body_of r)
+some_body (epoch e) = omega (arith, length-epoch_body e)
+some_body (mark c) = omega arith
+
+pub is_record_body : (r : Record) → IsRecord r → IsRecordBody (body_of r)
+is_record_body r is = record { some = some_body r; few = is.1; is = ap is_some (in_its_body r is.0) }
 
 record_taken_as : (body : List ℕ) (e : Option Epoch) (m : Option Checkpoint) (r : Record) → AreBytes body → whole epoch_body_at body ≡ e → mark_in body ≡ m → first_of (option_map epoch e) (option_map mark m) ≡ Some r
     → (body ≡ body_of r) × HoldsValues r

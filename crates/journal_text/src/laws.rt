@@ -6,12 +6,14 @@ ghost use Rattle.dp_base.specs.Field.{AreBytes};
 ghost use Rattle.dp_base.specs.Journal.{IsGuest, closed_gate, header_at};
 ghost use Rattle.journal_text.specs.Reading.{IsMadeOf, Reading, ending, first_bytes, journal_of, listing, reads};
 ghost use Rattle.journal_text.specs.Records.{IsRecord, Record, bad, body_of, ended, found, list_from, next_at, record_bytes, record_in};
+ghost use Rattle.journal_text.specs.View.{IsRecordBody};
 
 use dp_base::limits::{MAX_BODY_BYTES, MAX_JOURNAL_BYTES};
 
 /// A record is the one that its body gives, and bytes that give a record are its body: no body is an epoch's and a mark's.
 pub fn a_record_is_its_body()
     ensures found { (r : Record) → IsRecord r → record_in (body_of r) ≡ Some r }
+    ensures framed { (r : Record) → IsRecord r → IsRecordBody (body_of r) }
     ensures taken { (body : List ℕ) (r : Record) → AreBytes body → record_in body ≡ Some r → length body ≤ MAX_BODY_BYTES →
         (body ≡ body_of r) × IsRecord r }
 {}
@@ -29,7 +31,7 @@ pub fn appending()
     ensures { (bytes guest : List ℕ) (records : List Record) (place : ℕ) (r : Record) → AreBytes bytes →
         reads bytes ≡ Some (ending guest records place) → IsRecord r → place + length (record_bytes r) + 1 ≤ MAX_JOURNAL_BYTES →
         reads (take place bytes ++ (record_bytes r ++ closed_gate ∷ []))
-            ≡ Some (ending guest (records ++ r ∷ []) (place + length (record_bytes r))) }
+        ≡ Some (ending guest (records ++ r ∷ []) (place + length (record_bytes r))) }
 {}
 
 /// What is left of a journal that is cut somewhere reads as no journal, or as the first of its records, and ends as a journal
@@ -38,7 +40,7 @@ pub fn cutting()
     ensures { (bytes guest : List ℕ) (records : List Record) (place n : ℕ) → AreBytes bytes →
         reads bytes ≡ Some (ending guest records place) →
         (reads (take n bytes) ≡ None)
-            ⊎ ((k : ℕ) × (q : ℕ) × (reads (take n bytes) ≡ Some (ending guest (take k records) q))) }
+        ⊎ ((k : ℕ) × (q : ℕ) × (reads (take n bytes) ≡ Some (ending guest (take k records) q))) }
 {}
 
 /// A journal at rest reads as its guest and its records, and ends at its closed gate.

@@ -22,3 +22,8 @@ mod next;
 pub use frame::Frame;
 pub use head::{Head, header};
 pub use next::{Rec, next_record};
+
+#[cfg(test)]
+mod tests;
+#[cfg(test)]
+mod worked_journals;
