@@ -1,0 +1,4 @@
+pub mod Records
+pub mod Lists
+pub mod Files
+pub mod Places

@@ -1,0 +1,30 @@
+-- What the readers answer, as what the definitions say. This project's own.
+use Rattle.std.specs.Prelude.{◌≡◌, ◌<◌, ◌≤◌, ℕ, true, List, length, drop, Option, Some, None, is_some}
+use Rattle.dp_base.specs.declared.limits.TheConstants.{MAX_BODY_BYTES}
+use Rattle.dp_base.specs.Journal as journal
+use Rattle.guest_state.specs.Checkpoint as state
+use Rattle.journal_text.specs.declared.head.Head.{Head}
+use Rattle.journal_text.specs.declared.head.Head.TheVariants.{Whole, NoJournal}
+use Rattle.journal_text.specs.declared.next.Rec.{Rec}
+use Rattle.journal_text.specs.declared.next.Rec.TheVariants.{Epoch, Mark, End, Bad}
+use Rattle.journal_text.specs.Records.{body_of, bad, ended, epoch, found, mark, next_at, record_in}
+
+-- what is said of a header, and of the bytes behind it
+abbrev pub IsHead : Option (List ℕ × List ℕ) → Head → Type 0
+IsHead (Some h) head = head ≡ Whole (length h.0)
+IsHead None head = head ≡ NoJournal
+
+-- what is said of the place `at` of a file
+abbrev pub IsNext : (file : List ℕ) → (at : ℕ) → Rec → Type 0
+IsNext file at (Epoch body next) = (e : journal.Epoch) × (next_at (drop at file) ≡ found (epoch e) (drop next file))
+    × (body.now ≡ body_of (epoch e)) × (at < next) × (next ≤ length file)
+IsNext file at (Mark body next) = (c : state.Checkpoint) × (next_at (drop at file) ≡ found (mark c) (drop next file))
+    × (body.now ≡ body_of (mark c)) × (at < next) × (next ≤ length file)
+IsNext file at (End place) = (next_at (drop at file) ≡ ended) × (place ≡ at)
+IsNext file at Bad = next_at (drop at file) ≡ bad
+
+-- a record may have this body
+pub record IsRecordBody (body : List ℕ) : Type 0 where
+  pub some : 0 < length body
+  pub few : length body ≤ MAX_BODY_BYTES
+  pub is : is_some (record_in body) ≡ true

@@ -1,0 +1,29 @@
+//! The journal's grammar, whole, marks included: what a file says, read as a journal (`specs/Records.antt`,
+//! `specs/Reading.antt`).
+//!
+//! Promises: `header` and `next_record` answer exactly as the definitions say, and take no memory; a file reads as its parts
+//! and as nothing else; what is appended to a journal is read behind what was there; what is left of a journal that is cut
+//! reads as no journal, or as its first records (`laws`). Stands on `dp_base` and `guest_state`.
+//!
+//! ```text
+//! let mut at = match header(file) { Head::Whole { guest_len } => 9 + u64::from(guest_len), Head::NoJournal => return };
+//! while let Rec::Epoch { next, .. } | Rec::Mark { next, .. } = next_record(file, at) {
+//!     at = next;
+//! }
+//! ```
+#![tactic(auto)]
+
+mod frame;
+mod head;
+pub mod laws;
+mod limit;
+mod next;
+
+pub use frame::Frame;
+pub use head::{Head, header};
+pub use next::{Rec, next_record};
+
+#[cfg(test)]
+mod tests;
+#[cfg(test)]
+mod worked_journals;
