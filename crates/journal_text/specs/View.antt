@@ -1,5 +1,5 @@
 -- What the readers answer, as what the definitions say. This project's own.
-use Rattle.std.specs.Prelude.{◌≡◌, ◌<◌, ◌≤◌, ℕ, true, List, length, drop, Option, Some, None, is_some}
+use Rattle.std.specs.Prelude.{◌≡◌, ◌<◌, ◌≤◌, ◌+◌, ℕ, true, List, length, drop, Option, Some, None, is_some}
 use Rattle.dp_base.specs.declared.limits.TheConstants.{MAX_BODY_BYTES}
 use Rattle.dp_base.specs.Journal as journal
 use Rattle.guest_state.specs.Checkpoint as state
@@ -28,3 +28,7 @@ pub record IsRecordBody (body : List ℕ) : Type 0 where
   pub some : 0 < length body
   pub few : length body ≤ MAX_BODY_BYTES
   pub is : is_some (record_in body) ≡ true
+
+-- how long a frame is: a body of at least one byte, its length, and the closed gate
+abbrev pub IsFrameLength : List ℕ → Type 0
+IsFrameLength frame = (5 < length frame) × (length frame ≤ MAX_BODY_BYTES + 5)

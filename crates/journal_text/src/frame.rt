@@ -1,7 +1,7 @@
 // A record as an append writes it.
 ghost use Rattle.std.specs.Prelude.{◌≡◌, ◌++◌, IfOk};
 ghost use Rattle.dp_base.specs.Journal.{frame};
-ghost use Rattle.journal_text.specs.View.{IsRecordBody};
+ghost use Rattle.journal_text.specs.View.{IsFrameLength, IsRecordBody};
 
 use dp_base::OutOfMemory;
 use dp_base::journal::write_frame;
@@ -19,7 +19,11 @@ impl Model for Frame {
 
     ghost Value = { List ℕ };
 
+    ghost use Rattle.journal_text.specs.View.{IsFrameLength};
+
     ghost view = { λ f. f.bytes.items };
+
+    ghost invariant = { λ f. IsFrameLength f.bytes.items };
 }
 
 impl Frame {
@@ -38,7 +42,8 @@ impl Frame {
 
     /// The bytes.
     pub fn as_slice(&self) -> &[u8]
-        ensures { result.now ≡ self.now }
+        ensures bytes { result.now ≡ self.now }
+        ensures length { IsFrameLength self.now }
     {
         &self.bytes
     }
