@@ -1,8 +1,7 @@
 // A state's digest.
 ghost use Rattle.std.specs.Prelude.{◌≡◌, false};
 ghost use Rattle.sha2.specs.Hashers.{Holds256};
-ghost use Rattle.sha2.specs.Sha256.{sha256};
-ghost use Rattle.checkpoint.specs.State.{IsEncodable, state_bytes};
+ghost use Rattle.checkpoint.specs.State.{IsEncodable, digest_of};
 
 use crate::sink::Sink;
 use crate::writer::write_state;
@@ -30,7 +29,7 @@ impl Sink for Hash {
 /// Returns the digest of a state: SHA-256 (FIPS 180-4) of its encoding. Takes no memory.
 pub fn digest(state: &State) -> [u8; 32]
     requires { IsEncodable state.now }
-    ensures { result ≡ sha256 (state_bytes state.now) }
+    ensures { result ≡ digest_of state.now }
 {
     let mut hash = Hash {
         hasher: Sha256::new(),

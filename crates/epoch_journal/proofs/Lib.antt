@@ -1,2 +1,2 @@
-mod OnDisk
+pub mod OnDisk
 mod Chunks

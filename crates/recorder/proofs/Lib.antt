@@ -1,5 +1,4 @@
-pub mod OnDisk
-pub mod Sends
-pub mod Slicing
 pub mod Rounds
-pub mod OneEpoch
+mod Slicing
+mod OneEpoch
+mod Commits

@@ -1,8 +1,8 @@
 -- A recording so far, and how it goes on and stops.
 use Rattle.std.proofs.Common.{◌≡◌, inl, inr, ℕ, ◌+◌, ◌*◌, ◌<◌, ◌≤◌, true, false, List, [], ◌∷◌, ◌++◌, length, take, Option, Result, Ok, Err, refl, sym, ap, subst, ◌∙◌, append_assoc, arith}
-use Rattle.std.proofs.lemmas.List.{append-nil, length-append, length_push}
+use Rattle.std.proofs.lemmas.List.{append-nil, length-append, length_push, take_all}
 use Rattle.dp_base.specs.declared.limits.TheConstants.{EPOCH_END_BYTES, MAX_CALL_BYTES}
-use Rattle.dp_base.specs.Journal.{Epoch, steps_of, epoch_body, frame, journal, length_prefixed}
+use Rattle.dp_base.specs.Journal.{Epoch, steps_of, epoch_body, frame}
 use Rattle.disk_model.specs.History.{History}
 use Rattle.disk_model.specs.Known.{IfKnown}
 use Rattle.disk_model.proofs.Knowing.{known-map, known-then}
@@ -12,16 +12,26 @@ use Rattle.guest_kernel.specs.Lone.{RunsAlone}
 use Rattle.guest_kernel.specs.Slices.{Stop, chain, either, onto}
 use Rattle.guest_kernel.specs.State.{has_ended}
 use Rattle.recorder.specs.declared.options.Options.{Options}
-use Rattle.recorder.specs.declared.begin.BeginFault.{BeginFault}
-use Rattle.recorder.specs.declared.begin.BeginFault.TheVariants as begins
+use Rattle.epoch_journal.specs.declared.begin.BeginFault.{BeginFault}
+use Rattle.epoch_journal.specs.declared.begin.BeginFault.TheVariants as begins
 use Rattle.recorder.specs.declared.commit.CommitFault.{CommitFault}
 use Rattle.recorder.specs.declared.commit.CommitFault.TheVariants as commits
 use Rattle.recorder.specs.declared.record_fault.RecordFault.TheVariants as faults
 use Rattle.recorder.specs.Faults.{of_begin, of_commit}
-use Rattle.recorder.specs.Journaling.{Stands, Begun, HasBegun, Committed, HasCommitted}
-use Rattle.recorder.specs.Recording.{IsNext, EachIsNext, Run, IsRecorded, Recorded}
-use Rattle.recorder.specs.Writing.{SentNothing}
-use Rattle.recorder.proofs.OnDisk.{length-journal-push}
+use Rattle.recorder.specs.Committing.{Committed, HasCommitted}
+use Rattle.recorder.specs.Recording.{IsNext, EachIsNext, Run, IsRecorded, IsReported, Recorded, records_of, report_of, reported}
+use Rattle.checkpoint.specs.State.{digest_of}
+use Rattle.device.specs.Sending.{Sent}
+use Rattle.device.specs.Writing.{SentNothing}
+use Rattle.disk_model.specs.declared.world.Stream.TheVariants.{Note}
+use Rattle.dp_report.specs.declared.report.Report.{Report}
+use Rattle.dp_report.specs.Texts.{report_line}
+use Rattle.epoch_journal.specs.Appending.{IsAppend}
+use Rattle.epoch_journal.specs.Beginning.{Begun, HasBegun}
+use Rattle.epoch_journal.specs.Standing.{Journal, IsJournal, Stands}
+use Rattle.epoch_journal.proofs.OnDisk.{length-journal-push}
+use Rattle.journal_text.specs.Reading.{journal_of}
+use Rattle.journal_text.specs.Records.{Record, epoch}
 
 -- ---- runs
 
@@ -59,7 +69,11 @@ each-push options start (x ∷ xs) mid before e end output each chained next_ =
 
 -- ---- the recording so far
 
-pub record SoFar (guest : List ℕ) (options : Options) (start : State) (first now : Option History) (state : State) (place epochs sent : ℕ) : Type 0 where
+records-push : (epochs : List Epoch) (e : Epoch) → records_of (epochs ++ e ∷ []) ≡ records_of epochs ++ epoch e ∷ []
+records-push [] e = refl
+records-push (x ∷ xs) e = ap (λ (l : List Record). epoch x ∷ l) (records-push xs e)
+
+pub record SoFar (guest : List ℕ) (options : Options) (start : State) (first now : Option History) (state : State) (j : Journal) (epochs sent : ℕ) : Type 0 where
   pub done : List Epoch
   pub output : List ℕ
   pub chained : chain start done ≡ Ok (state, output)
@@ -67,15 +81,17 @@ pub record SoFar (guest : List ℕ) (options : Options) (start : State) (first n
   pub counted : state.steps ≤ options.limit
   pub alone : RunsAlone state
   pub history : IfKnown (IsRecorded guest done output) first now
-  pub place_is : place ≡ length (journal guest done)
+  pub place_is : j.end ≡ length (journal_of guest (records_of done))
+  pub room_is : j.room ≡ options.room
+  pub works : j.failed ≡ false
   pub count : epochs ≡ length done
-  pub few : epochs < place
+  pub few : epochs < j.end
   pub sent_is : sent ≡ length output
   pub little : sent ≤ (EPOCH_END_BYTES + MAX_CALL_BYTES) * epochs
 
 module _ (guest : List ℕ) (options : Options) (start : State) (first now : Option History) where
-  abbrev pub run_so_far : (state : State) (place epochs sent : ℕ) → SoFar guest options start first now state place epochs sent → Run options start
-  run_so_far state place epochs sent so_far = record {
+  abbrev pub run_so_far : (state : State) (j : Journal) (epochs sent : ℕ) → SoFar guest options start first now state j epochs sent → Run options start
+  run_so_far state j epochs sent so_far = record {
     epochs = so_far.done;
     end = state;
     output = so_far.output;
@@ -84,41 +100,41 @@ module _ (guest : List ℕ) (options : Options) (start : State) (first now : Opt
     counted = so_far.counted;
   }
 
-  pub begun_so_far : (place : ℕ) → start.steps ≤ options.limit → RunsAlone start → place ≡ 10 + length guest → length (journal guest []) ≡ 10 + length guest
-      → IfKnown (λ before after. (before.disk ≡ []) × Stands guest [] after × SentNothing before after) first now → SoFar guest options start first now start place 0 0
+  pub begun_so_far : (j : Journal) → start.steps ≤ options.limit → RunsAlone start → HasBegun (length guest) options.room (Ok j) → length (journal_of guest []) ≡ 10 + length guest
+      → IfKnown (Begun guest (Ok j)) first now → SoFar guest options start first now start j 0 0
   unfolding chain
-  begun_so_far place few alone place_is size begun = record {
-    done = [];
-    output = [];
-    chained = refl;
-    each = tt;
-    counted = few;
-    alone = alone;
-    history = known-map _ _ _ _ (λ s t b. record { empty = b.0; stands = b.1; sent = b.2.sent ∙ sym (append-nil s.sent); noted = b.2.noted }) begun;
-    place_is = place_is ∙ sym size;
-    count = refl;
-    few = omega arith;
-    sent_is = refl;
-    little = omega arith;
-  }
+  begun_so_far j few alone begun_is size begun =
+      let end_is : j.end ≡ 10 + length guest = ap (λ (k : Journal). k.end) begun_is in
+      record {
+        done = [];
+        output = [];
+        chained = refl;
+        each = tt;
+        counted = few;
+        alone = alone;
+        history = known-map _ _ _ _ (λ s t b. record { empty = b.0; stands = b.1; sent = b.2.sent ∙ sym (append-nil s.sent); noted = b.2.noted }) begun;
+        place_is = end_is ∙ sym size;
+        room_is = ap (λ (k : Journal). k.room) begun_is;
+        works = ap (λ (k : Journal). k.failed) begun_is;
+        count = refl;
+        few = omega (arith, end_is);
+        sent_is = refl;
+        little = omega arith;
+      }
 
   -- ---- it stops
 
-  pub step_limit : (state : State) (place epochs sent : ℕ) → SoFar guest options start first now state place epochs sent → has_ended state.end ≡ false → options.limit ≤ state.steps
+  pub step_limit : (state : State) (j : Journal) (epochs sent : ℕ) → SoFar guest options start first now state j epochs sent → has_ended state.end ≡ false → options.limit ≤ state.steps
       → Recorded guest start options first now (Err (faults.StepLimit state.steps))
-  step_limit state place epochs sent so_far going reached =
-      (run_so_far state place epochs sent so_far, going, refl, omega (arith, so_far.counted), so_far.history)
+  step_limit state j epochs sent so_far going reached = (run_so_far state j epochs sent so_far, going, refl, omega (arith, so_far.counted), so_far.history)
 
-  pub out_of_memory : (state : State) (place epochs sent : ℕ) → SoFar guest options start first now state place epochs sent → has_ended state.end ≡ false → state.steps < options.limit
+  pub out_of_memory : (state : State) (j : Journal) (epochs sent : ℕ) → SoFar guest options start first now state j epochs sent → has_ended state.end ≡ false → state.steps < options.limit
       → Recorded guest start options first now (Err faults.OutOfMemory)
-  out_of_memory state place epochs sent so_far going left = inr (run_so_far state place epochs sent so_far, going, left, so_far.history)
+  out_of_memory state j epochs sent so_far going left = inr (run_so_far state j epochs sent so_far, inr (going, left), so_far.history)
 
-  pub ended : (state : State) (place epochs sent : ℕ) → SoFar guest options start first now state place epochs sent → has_ended state.end ≡ true
-      → Recorded guest start options first now (Ok (record { epochs = epochs; squashes = 0; steps = state.steps; sent = sent; end = state.end }))
-  ended state place epochs sent so_far is =
-      let count = so_far.count in
-      let sent_is = so_far.sent_is in
-      (run_so_far state place epochs sent so_far, is, cc, so_far.history)
+  -- its line can't be made
+  pub no_line : (state : State) (j : Journal) (epochs sent : ℕ) → SoFar guest options start first now state j epochs sent → has_ended state.end ≡ true → Recorded guest start options first now (Err faults.OutOfMemory)
+  no_line state j epochs sent so_far ended_ = inr (run_so_far state j epochs sent so_far, inl ended_, so_far.history)
 
   pub begin_failed : (fault : BeginFault) → start.steps ≤ options.limit → HasBegun (length guest) options.room (Err fault) → IfKnown (Begun guest (Err fault)) first now
       → Recorded guest start options first now (Err (of_begin fault))
@@ -130,54 +146,102 @@ module _ (guest : List ℕ) (options : Options) (start : State) (first now : Opt
   begin_failed (begins.Full end need) few numbers begun = inl (numbers.0, numbers.1, numbers.2, begun)
   begin_failed begins.OutOfMemory few numbers begun = inl begun
 
+  -- ---- the guest has ended
+
+  module _ (later : Option History) (state : State) (j : Journal) (epochs sent : ℕ) (so_far : SoFar guest options start first now state j epochs sent) (ended : has_ended state.end ≡ true)
+      (report : Report) (is : report ≡ record { epochs = epochs; squashes = 0; steps = state.steps; sent = sent; end = state.end; state = digest_of state }) where
+    report_is : report ≡ reported (run_so_far state j epochs sent so_far)
+    report_is = let count = so_far.count in let sent_is = so_far.sent_is in let made = is in cc
+
+    pub told : IfKnown (Sent Note (report_line report) true) now later → Recorded guest start options first later (Ok report)
+    told known = (
+      run_so_far state j epochs sent so_far,
+      ended,
+      report_is,
+      known-then _ _ _ _ _ _
+          (λ s t u r b.
+          record {
+            empty = r.empty;
+            stands = record { disk = b.1.disk ∙ r.stands.disk; synced = (let before = r.stands.synced in let disk = b.1.disk in let pending = b.1.pending in cc) };
+            sent = b.1.same ∙ r.sent;
+            noted = b.1.grown ∙ ap (λ (l : List ℕ). l ++ take b.0 (report_line report)) r.noted ∙ ap (λ (l : List ℕ). s.noted ++ l) (take_all b.0 (report_line report) (b.2 refl));
+          })
+          so_far.history known,
+    )
+
+    pub not_told : IfKnown (Sent Note (report_line report) false) now later → Recorded guest start options first later (Err faults.OutputFault)
+    not_told known = inr (
+      run_so_far state j epochs sent so_far,
+      ended,
+      known-then _ _ _ _ _ _
+          (λ s t u r b. (
+            b.0,
+            record {
+              empty = r.empty;
+              stands = record { disk = b.1.disk ∙ r.stands.disk; synced = (let before = r.stands.synced in let disk = b.1.disk in let pending = b.1.pending in cc) };
+              sent = b.1.same ∙ r.sent;
+              noted = b.1.grown ∙ ap (λ (l : List ℕ). l ++ take b.0 (report_line report)) r.noted ∙ ap (λ (q : Report). s.noted ++ take b.0 (report_line q)) report_is;
+            },
+          ))
+          so_far.history known,
+    )
+
   -- ---- an epoch that is next
 
-  module _ (later : Option History) (state : State) (place epochs sent : ℕ) (so_far : SoFar guest options start first now state place epochs sent)
+  module _ (later : Option History) (state : State) (j : Journal) (epochs sent : ℕ) (so_far : SoFar guest options start first now state j epochs sent)
       (e : Epoch) (end : State) (output : List ℕ) (next_ : IsNext options state e end output) (added : List ℕ) (framed : added ≡ frame (epoch_body e)) where
-    stands_there : (s t : History) → IsRecorded guest so_far.done so_far.output s t → place ≡ length t.disk
-    stands_there s t recorded = so_far.place_is ∙ ap (λ (l : List ℕ). length l) (sym recorded.stands.disk)
+    appends_there : (s t : History) → IsRecorded guest so_far.done so_far.output s t → IsAppend j.end added t guest (records_of so_far.done) (epoch e)
+    appends_there s t recorded = record { stands = recorded.stands; at_end = so_far.place_is ∙ ap (λ (l : List ℕ). length l) (sym recorded.stands.disk); framed = framed }
+
+    stands_more : (u : History) → Stands guest (records_of so_far.done ++ epoch e ∷ []) u → Stands guest (records_of (so_far.done ++ e ∷ [])) u
+    stands_more u stands = subst (λ (l : List Record). Stands guest l u) (sym (records-push so_far.done e)) stands
+
+    size_more : length (journal_of guest (records_of (so_far.done ++ e ∷ []))) ≡ length (journal_of guest (records_of so_far.done)) + length (frame (epoch_body e))
+    size_more = ap (λ (l : List Record). length (journal_of guest l)) (records-push so_far.done e) ∙ length-journal-push guest (records_of so_far.done) (epoch e)
 
     -- it was committed
     pub committed : RunsAlone end → end.steps ≡ state.steps + steps_of e.slices → chain start (so_far.done ++ e ∷ []) ≡ Ok (end, so_far.output ++ output)
-        → (place' : ℕ) → place' ≡ place + length added → IfKnown (Committed place added output (Ok tt)) now later
-        → SoFar guest options start first later end place' (epochs + 1) (sent + length output)
-    committed alone counted chained place' place_is known = record {
-      done = so_far.done ++ e ∷ [];
-      output = so_far.output ++ output;
-      chained = chained;
-      each = each-push options start so_far.done state so_far.output e end output so_far.each so_far.chained next_;
-      counted = omega (arith, counted, next_.cut.few_steps, so_far.counted);
-      alone = alone;
-      history = known-then _ _ _ _ _ _
-          (λ s t u r k.
-          let made = k guest so_far.done e r.stands (stands_there s t r) framed in
-          record {
-            empty = r.empty;
-            stands = made.0;
-            sent = made.1 ∙ ap (λ (l : List ℕ). l ++ output) r.sent ∙ append_assoc s.sent so_far.output output;
-            noted = made.2 ∙ r.noted;
-          })
-          so_far.history known;
-      place_is = place_is ∙ (let size = length-journal-push guest so_far.done e in omega (arith, size, so_far.place_is, ap (λ (l : List ℕ). length l) framed));
-      count = omega (arith, so_far.count, length_push so_far.done e);
-      few = omega (arith, place_is, so_far.few, ap (λ (l : List ℕ). length l) framed, length-append (length_prefixed (epoch_body e)) (0 ∷ []));
-      sent_is = omega (arith, so_far.sent_is, length-append so_far.output output);
-      little = omega (arith, so_far.little, next_.cut.little_output);
-    }
+        → (j' : Journal) → 0 < length added → HasCommitted j (length added) j' (Ok tt) → IfKnown (Committed j added output (Ok tt)) now later
+        → SoFar guest options start first later end j' (epochs + 1) (sent + length output)
+    committed alone counted chained j' some numbers known =
+        let end_is : j'.end ≡ j.end + length added = ap (λ (k : Journal). k.end) numbers.2 in
+        record {
+          done = so_far.done ++ e ∷ [];
+          output = so_far.output ++ output;
+          chained = chained;
+          each = each-push options start so_far.done state so_far.output e end output so_far.each so_far.chained next_;
+          counted = omega (arith, counted, next_.cut.few_steps, so_far.counted);
+          alone = alone;
+          history = known-then _ _ _ _ _ _
+              (λ s t u r k.
+              let made = k.0 guest (records_of so_far.done) (epoch e) (appends_there s t r) in
+              record {
+                empty = r.empty;
+                stands = stands_more u made;
+                sent = k.1 ∙ ap (λ (l : List ℕ). l ++ output) r.sent ∙ append_assoc s.sent so_far.output output;
+                noted = k.2 ∙ r.noted;
+              })
+              so_far.history known;
+          place_is = omega (arith, end_is, size_more, so_far.place_is, ap (λ (l : List ℕ). length l) framed);
+          room_is = ap (λ (k : Journal). k.room) numbers.2 ∙ so_far.room_is;
+          works = ap (λ (k : Journal). k.failed) numbers.2 ∙ so_far.works;
+          count = omega (arith, so_far.count, length_push so_far.done e);
+          few = omega (arith, end_is, so_far.few, some);
+          sent_is = omega (arith, so_far.sent_is, length-append so_far.output output);
+          little = omega (arith, so_far.little, next_.cut.little_output);
+        }
 
     -- it wasn't, or not sent whole
-    pub commit_failed : (fault : CommitFault) → has_ended state.end ≡ false → state.steps < options.limit → (place' : ℕ) → HasCommitted place (length added) options.room place' (Err fault)
-        → IfKnown (Committed place added output (Err fault)) now later → Recorded guest start options first later (Err (of_commit fault))
-    commit_failed commits.DiskFault going left place' numbers known = (
-      run_so_far state place epochs sent so_far,
+    pub commit_failed : (fault : CommitFault) → has_ended state.end ≡ false → state.steps < options.limit → (j' : Journal) → HasCommitted j (length added) j' (Err fault)
+        → IfKnown (Committed j added output (Err fault)) now later → Recorded guest start options first later (Err (of_commit fault))
+    commit_failed commits.DiskFault going left j' numbers known = (
+      run_so_far state j epochs sent so_far,
       known-then _ _ _ _ _ _
-          (λ s t u r k.
-          let made = k guest so_far.done e r.stands (stands_there s t r) framed in
-          record { sent = made.0.sent ∙ r.sent; noted = made.0.noted ∙ r.noted; on_disk = inr made.1; untouched = inl r.empty })
+          (λ s t u r k. record { sent = k.0.sent ∙ r.sent; noted = k.0.noted ∙ r.noted; on_disk = inr (k.1 guest (records_of so_far.done) (epoch e) (appends_there s t r)); untouched = inl r.empty })
           so_far.history known,
     )
-    commit_failed (commits.Full end_ need) going left place' numbers known = inr (
-      run_so_far state place epochs sent so_far,
+    commit_failed (commits.Full end_ need) going left j' numbers known = inr (
+      run_so_far state j epochs sent so_far,
       going,
       left,
       e,
@@ -186,26 +250,25 @@ module _ (guest : List ℕ) (options : Options) (start : State) (first now : Opt
       next_,
       numbers.1 ∙ so_far.place_is,
       numbers.2 ∙ ap (λ (l : List ℕ). length l) framed,
-      omega (arith, numbers.1, numbers.2, numbers.3),
-      known-then _ _ _ _ _ _
-          (λ s t u r k. subst (λ (h : History). IsRecorded guest so_far.done so_far.output s h) (sym (k guest so_far.done e r.stands (stands_there s t r) framed)) r)
-          so_far.history known,
+      omega (arith, numbers.1, numbers.2, numbers.3, so_far.room_is),
+      known-then _ _ _ _ _ _ (λ s t u r k. subst (λ (h : History). IsRecorded guest so_far.done so_far.output s h) (sym k) r) so_far.history known,
     )
-    commit_failed commits.OutputFault going left place' numbers known = (
-      run_so_far state place epochs sent so_far,
+    commit_failed (commits.Failed last) going left j' numbers known = absurd (let bad = sym numbers.0 ∙ so_far.works in cc)
+    commit_failed commits.OutputFault going left j' numbers known = inl (
+      run_so_far state j epochs sent so_far,
       e,
       end,
       output,
       next_,
       known-then _ _ _ _ _ _
           (λ s t u r k.
-          let made = k guest so_far.done e r.stands (stands_there s t r) framed in
+          let made = k.0 guest (records_of so_far.done) (epoch e) (appends_there s t r) in
           record {
             empty = r.empty;
-            stands = made.0;
-            count = made.1.0;
-            sent = made.1.1 ∙ ap (λ (l : List ℕ). l ++ take made.1.0 output) r.sent ∙ append_assoc s.sent so_far.output (take made.1.0 output);
-            noted = made.2 ∙ r.noted;
+            stands = stands_more u made;
+            count = k.1.0;
+            sent = k.1.1 ∙ ap (λ (l : List ℕ). l ++ take k.1.0 output) r.sent ∙ append_assoc s.sent so_far.output (take k.1.0 output);
+            noted = k.2 ∙ r.noted;
           })
           so_far.history known,
     )

@@ -1,6 +1,6 @@
 -- A fault of a recording, by that of its step. This project's own.
-use Rattle.recorder.specs.declared.begin.BeginFault.{BeginFault}
-use Rattle.recorder.specs.declared.begin.BeginFault.TheVariants as begins
+use Rattle.epoch_journal.specs.declared.begin.BeginFault.{BeginFault}
+use Rattle.epoch_journal.specs.declared.begin.BeginFault.TheVariants as begins
 use Rattle.recorder.specs.declared.commit.CommitFault.{CommitFault}
 use Rattle.recorder.specs.declared.commit.CommitFault.TheVariants as commits
 use Rattle.recorder.specs.declared.record_fault.RecordFault.{RecordFault}
@@ -15,4 +15,5 @@ of_begin begins.OutOfMemory = faults.OutOfMemory
 abbrev pub of_commit : CommitFault → RecordFault
 of_commit commits.DiskFault = faults.DiskFault
 of_commit (commits.Full end need) = faults.JournalFull end need
+of_commit (commits.Failed last) = faults.DiskFault
 of_commit commits.OutputFault = faults.OutputFault

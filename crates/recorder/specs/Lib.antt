@@ -1,5 +1,4 @@
-pub mod Writing
-pub mod Journaling
+pub mod Committing
 pub mod EpochRun
 pub mod SliceRun
 pub mod Cut

@@ -1,18 +1,22 @@
 -- What a recording comes to: a run of the guest, cut into epochs, which is in the journal and was sent. This project's own.
-use Rattle.std.specs.Prelude.{◌≡◌, ◌⊎◌, ◌<◌, ◌≤◌, ◌+◌, ◌-◌, min, ℕ, true, false, List, [], ◌∷◌, ◌++◌, length, take, Option, Result, Ok, Err, ⊤}
+use Rattle.std.specs.Prelude.{◌≡◌, ◌⊎◌, ◌<◌, ◌≤◌, ◌+◌, ◌-◌, min, ℕ, true, false, List, [], ◌∷◌, ◌++◌, length, map, take, Option, Result, Ok, Err, ⊤}
 use Rattle.dp_base.specs.Encoding.{IsPrefixOf}
-use Rattle.dp_base.specs.Journal.{Epoch, epoch_body, frame, journal}
+use Rattle.dp_base.specs.Journal.{Epoch, epoch_body, frame}
 use Rattle.disk_model.specs.History.{History}
 use Rattle.disk_model.specs.Known.{IfKnown}
 use Rattle.guest_kernel.specs.declared.state.State.{State}
 use Rattle.guest_kernel.specs.Slices.{at, run, chain}
 use Rattle.guest_kernel.specs.State.{has_ended}
 use Rattle.recorder.specs.declared.options.Options.{Options}
-use Rattle.recorder.specs.declared.report.Report.{Report}
+use Rattle.dp_report.specs.declared.report.Report.{Report}
+use Rattle.dp_report.specs.Texts.{report_line}
 use Rattle.recorder.specs.declared.record_fault.RecordFault.{RecordFault}
 use Rattle.recorder.specs.declared.record_fault.RecordFault.TheVariants as faults
 use Rattle.recorder.specs.EpochRun.{IsCutWithin}
-use Rattle.recorder.specs.Journaling.{Stands}
+use Rattle.checkpoint.specs.State.{digest_of}
+use Rattle.epoch_journal.specs.Standing.{Stands}
+use Rattle.journal_text.specs.Reading.{journal_of}
+use Rattle.journal_text.specs.Records.{Record, epoch}
 
 -- ---- a run in epochs
 
@@ -41,17 +45,32 @@ pub record Run (options : Options) (start : State) : Type 0 where
 
 -- ---- what is on the disk and was sent
 
+-- a record for each epoch
+abbrev pub records_of : List Epoch → List Record
+records_of epochs = map epoch epochs
+
 -- on a disk that was empty, the journal has the run, and its whole output was sent
 pub record IsRecorded (guest : List ℕ) (epochs : List Epoch) (output : List ℕ) (before after : History) : Type 0 where
   pub empty : before.disk ≡ []
-  pub stands : Stands guest epochs after
+  pub stands : Stands guest (records_of epochs) after
   pub sent : after.sent ≡ before.sent ++ output
   pub noted : after.noted ≡ before.noted
+
+-- the same, and this was sent on Note
+pub record IsReported (guest : List ℕ) (epochs : List Epoch) (output note : List ℕ) (before after : History) : Type 0 where
+  pub empty : before.disk ≡ []
+  pub stands : Stands guest (records_of epochs) after
+  pub sent : after.sent ≡ before.sent ++ output
+  pub noted : after.noted ≡ before.noted ++ note
+
+-- the same with a prefix of that text
+abbrev pub IsPartlyReported : (guest : List ℕ) → (epochs : List Epoch) → (output note : List ℕ) → History → History → Type 0
+IsPartlyReported guest epochs output note before after = (count : ℕ) × IsReported guest epochs output (take count note) before after
 
 -- The journal has the run and this epoch, and of the epoch's output a prefix was sent.
 pub record IsPartlySent (guest : List ℕ) (epochs : List Epoch) (last : Epoch) (output last_output : List ℕ) (before after : History) : Type 0 where
   pub empty : before.disk ≡ []
-  pub stands : Stands guest (epochs ++ last ∷ []) after
+  pub stands : Stands guest (records_of (epochs ++ last ∷ [])) after
   pub count : ℕ
   pub sent : after.sent ≡ before.sent ++ (output ++ take count last_output)
   pub noted : after.noted ≡ before.noted
@@ -60,7 +79,7 @@ pub record IsPartlySent (guest : List ℕ) (epochs : List Epoch) (last : Epoch) 
 pub record IsInterrupted (guest : List ℕ) (epochs : List Epoch) (output : List ℕ) (before after : History) : Type 0 where
   pub sent : after.sent ≡ before.sent ++ output
   pub noted : after.noted ≡ before.noted
-  pub on_disk : (epochs ≡ []) ⊎ IsPrefixOf (journal guest epochs) after.pending.synced
+  pub on_disk : (epochs ≡ []) ⊎ IsPrefixOf (journal_of guest (records_of epochs)) after.pending.synced
   pub untouched : (before.disk ≡ []) ⊎ (after ≡ before)
 
 -- nothing was written or sent
@@ -74,7 +93,11 @@ IsInUse len before after = (len ≡ length before.disk) × (after ≡ before)
 
 abbrev pub report_of : List Epoch → State → List ℕ → Report
 report_of epochs end output =
-    record { epochs = length epochs; squashes = 0; steps = end.steps; sent = length output; end = end.end }
+    record { epochs = length epochs; squashes = 0; steps = end.steps; sent = length output; end = end.end; state = digest_of end }
+
+-- the report of a run, and its line
+abbrev pub reported : {options : Options} {start : State} → Run options start → Report
+reported r = report_of r.epochs r.end r.output
 
 -- no room for the header, or for the epoch that is next
 abbrev pub HasNoRoom : (guest : List ℕ) → (start : State) → Options → (end need : ℕ) → Option History → Option History → Type 0
@@ -82,23 +105,24 @@ HasNoRoom guest start options end need before after =
     ((end ≡ 0) × (need ≡ 10 + length guest) × (options.room < need) × IfKnown IsUntouched before after)
     ⊎ ((r : Run options start) × (has_ended r.end.end ≡ false) × (r.end.steps < options.limit)
     × (next : Epoch) × (there : State) × (output : List ℕ) × IsNext options r.end next there output
-    × (end ≡ length (journal guest r.epochs)) × (need ≡ length (frame (epoch_body next))) × (options.room < end + need)
+    × (end ≡ length (journal_of guest (records_of r.epochs))) × (need ≡ length (frame (epoch_body next))) × (options.room < end + need)
     × IfKnown (IsRecorded guest r.epochs r.output) before after)
 
 abbrev pub Recorded : (guest : List ℕ) → (start : State) → Options → Option History → Option History → Result Report RecordFault → Type 0
 Recorded guest start options before after (Ok report) =
-    (r : Run options start) × (has_ended r.end.end ≡ true) × (report ≡ report_of r.epochs r.end r.output)
-    × IfKnown (IsRecorded guest r.epochs r.output) before after
+    (r : Run options start) × (has_ended r.end.end ≡ true) × (report ≡ reported r)
+    × IfKnown (IsReported guest r.epochs r.output (report_line report)) before after
 Recorded guest start options before after (Err (faults.StepLimit n)) =
     (r : Run options start) × (has_ended r.end.end ≡ false) × (n ≡ r.end.steps) × (n ≡ options.limit)
     × IfKnown (IsRecorded guest r.epochs r.output) before after
 Recorded guest start options before after (Err (faults.JournalFull end need)) = HasNoRoom guest start options end need before after
 Recorded guest start options before after (Err faults.OutOfMemory) =
-    IfKnown IsUntouched before after ⊎ ((r : Run options start) × (has_ended r.end.end ≡ false) × (r.end.steps < options.limit)
+    IfKnown IsUntouched before after ⊎ ((r : Run options start) × ((has_ended r.end.end ≡ true) ⊎ ((has_ended r.end.end ≡ false) × (r.end.steps < options.limit)))
     × IfKnown (IsRecorded guest r.epochs r.output) before after)
 Recorded guest start options before after (Err (faults.JournalInUse len)) = (0 < len) × IfKnown (IsInUse len) before after
 Recorded guest start options before after (Err faults.DiskFault) =
     (r : Run options start) × IfKnown (IsInterrupted guest r.epochs r.output) before after
 Recorded guest start options before after (Err faults.OutputFault) =
-    (r : Run options start) × (last : Epoch) × (there : State) × (output : List ℕ) × IsNext options r.end last there output
-    × IfKnown (IsPartlySent guest r.epochs last r.output output) before after
+    ((r : Run options start) × (last : Epoch) × (there : State) × (output : List ℕ) × IsNext options r.end last there output
+    × IfKnown (IsPartlySent guest r.epochs last r.output output) before after)
+    ⊎ ((r : Run options start) × (has_ended r.end.end ≡ true) × IfKnown (IsPartlyReported guest r.epochs r.output (report_line (reported r))) before after)

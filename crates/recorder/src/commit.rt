@@ -1,14 +1,13 @@
 // An epoch is committed: its record is appended, and then its output is sent.
-ghost use Rattle.std.specs.Prelude.{◌≡◌, ◌≤◌, ◌^◌, IsErrOf, length};
+ghost use Rattle.std.specs.Prelude.{◌≡◌, ◌≤◌, IsErrOf, length};
 ghost use Rattle.disk_model.specs.Counts.{Rose};
 ghost use Rattle.disk_model.specs.Known.{IfKnown};
-ghost use Rattle.recorder.specs.Journaling.{Committed, HasCommitted};
+ghost use Rattle.recorder.specs.Committing.{Committed, HasCommitted};
 
-use crate::append::AppendFault;
-use crate::device::send_all;
-use crate::frame::Ready;
-use crate::journal::Journal;
-use disk_model::World;
+use crate::ready::Ready;
+use device::send_all;
+use disk_model::{Stream, World};
+use epoch_journal::{AppendFault, Journal};
 
 /// Why an epoch was not committed, or not sent whole.
 #[derive(Clone, Copy, Debug, PartialEq, Eq)]
@@ -16,6 +15,9 @@ pub enum CommitFault {
     DiskFault,
     /// The record ends past the room, and nothing was written or sent: the journal's end, and the frame's length.
     Full { end: u64, need: u64 },
+    /// An append before this one met a fault of the disk, and nothing was written or sent: how many records were
+    /// acknowledged.
+    Failed { last: u32 },
     /// The record is in the journal, and a prefix of the output was sent.
     OutputFault,
 }
@@ -26,11 +28,9 @@ pub fn commit_epoch<W: World>(
     world: &mut W,
     ready: &Ready,
 ) -> Result<(), CommitFault>
-    requires { length ready.now.frame ≤ 2 ^ 30 }
-    ensures history { IfKnown (Committed journal.old.end ready.now.frame ready.now.out result)
+    ensures history { IfKnown (Committed journal.old ready.now.frame ready.now.out result)
         (W.history world.old) (W.history world.new) }
-    ensures numbers { HasCommitted journal.old.end (length ready.now.frame) journal.old.room journal.new.end result }
-    ensures room { journal.new.room ≡ journal.old.room }
+    ensures numbers { HasCommitted journal.old (length ready.now.frame) journal.new result }
     ensures disk_cause { IsErrOf result CommitFault.DiskFault →
         Rose (W.disk_faults world.old) (W.disk_faults world.new) }
     ensures sink_cause { IsErrOf result CommitFault.OutputFault →
@@ -42,8 +42,9 @@ pub fn commit_epoch<W: World>(
         Ok(()) => {}
         Err(AppendFault::DiskFault) => return Err(CommitFault::DiskFault),
         Err(AppendFault::Full { end, need }) => return Err(CommitFault::Full { end, need }),
+        Err(AppendFault::Failed { last }) => return Err(CommitFault::Failed { last }),
     }
-    match send_all(world, ready.out.as_slice()) {
+    match send_all(world, Stream::Out, ready.out.as_slice()) {
         Ok(()) => Ok(()),
         Err(_) => Err(CommitFault::OutputFault),
     }

@@ -4,7 +4,8 @@
 //! Promises (the contract of `record_`): if it answers `Ok`, `StepLimit` or `JournalFull`, the disk reads as the journal of this
 //! guest with a chain of epochs from its start state, and what was sent is exactly that chain's output; after each other
 //! answer it says what stands. All memory for an epoch is taken before its first write to the disk: from there on only `Ok`
-//! or a device's fault comes. Stands on `guest_kernel`, `disk_model` and `dp_base`.
+//! or a device's fault comes. At `Ok` the report's line was sent on Note, and else nothing was but a prefix of it. Stands on
+//! `guest_kernel`, `checkpoint`, `epoch_record`, `epoch_journal`, `device` and `dp_report`.
 //!
 //! ```text
 //! let image = load(alloc, file)?;
@@ -19,21 +20,18 @@
 //! ```
 #![tactic(auto)]
 
-mod append;
-mod begin;
 mod bounds;
 mod commit;
-mod device;
 mod epoch;
-mod frame;
-mod journal;
 pub mod laws;
 mod options;
+mod ready;
 mod record_fault;
 mod recording;
-mod report;
 
+pub use commit::{CommitFault, commit_epoch};
+pub use dp_report::Report;
 pub use options::Options;
+pub use ready::Ready;
 pub use record_fault::RecordFault;
 pub use recording::record_;
-pub use report::Report;

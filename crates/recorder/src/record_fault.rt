@@ -3,16 +3,17 @@ ghost use Rattle.std.specs.Prelude.{◌≡◌};
 ghost use Rattle.recorder.specs.Faults.{of_begin, of_commit};
 ghost use Rattle.recorder.specs.declared.record_fault.RecordFault.TheVariants as faults;
 
-use crate::begin::BeginFault;
 use crate::commit::CommitFault;
 use dp_base::OutOfMemory;
+use epoch_journal::BeginFault;
 
 /// Why a recording stopped before the guest's end. What is committed stays committed.
 #[derive(Clone, Copy, Debug, PartialEq, Eq)]
 pub enum RecordFault {
     /// The disk failed. The journal has the epochs whose output was sent, and at most the one that was being written.
     DiskFault,
-    /// The output failed. The journal has the epoch whose output was being sent, and a prefix of that output was sent.
+    /// The output failed. The journal has the epoch whose output was being sent, and a prefix of that output was sent; or the
+    /// guest has ended, its whole output was sent, and a prefix of the report's line was.
     OutputFault,
     /// The disk has this many bytes already. Nothing was written.
     JournalInUse(u64),
@@ -44,6 +45,8 @@ impl From<CommitFault> for RecordFault {
         match fault {
             CommitFault::DiskFault => RecordFault::DiskFault,
             CommitFault::Full { end, need } => RecordFault::JournalFull { end, need },
+            // A journal that takes nothing more, since the disk has failed.
+            CommitFault::Failed { .. } => RecordFault::DiskFault,
             CommitFault::OutputFault => RecordFault::OutputFault,
         }
     }

@@ -1,8 +1,9 @@
-// A whole recording: begin, and then one epoch after another.
+// A whole recording: begin, one epoch after another, and the report.
 ghost use Rattle.std.specs.Prelude.{◌≡◌, ◌<◌, ◌≤◌, ◌-◌, ◌^◌, min, Err, IfOk, IsErrOf, length};
 ghost use Rattle.dp_base.specs.Journal.{IsBody, IsEpoch, epoch_body, frame};
 ghost use Rattle.disk_model.specs.Counts.{Rose};
 ghost use Rattle.epoch_record.specs.Epoch.{epoch_of};
+ghost use Rattle.guest_kernel.specs.Image.{IsGuestFile};
 ghost use Rattle.guest_kernel.specs.Start.{start_state};
 ghost use Rattle.recorder.specs.Recording.{Recorded};
 ghost use Rattle.recorder.specs.declared.record_fault.RecordFault.TheVariants as faults;
@@ -10,19 +11,23 @@ ghost use Rattle.recorder.specs.declared.record_fault.RecordFault.TheVariants as
 use crate::bounds::Bounds;
 use crate::commit::commit_epoch;
 use crate::epoch::run_epoch;
-use crate::frame::{Frame, Ready};
-use crate::journal::Journal;
 use crate::options::Options;
+use crate::ready::Ready;
 use crate::record_fault::RecordFault;
-use crate::report::Report;
-use disk_model::World;
+use checkpoint::digest;
+use device::send_all;
+use disk_model::{Stream, World};
 use dp_base::OutOfMemory;
+use dp_report::{Report, line};
+use epoch_journal::Journal;
 use epoch_record::{Epoch, encode};
 use guest_kernel::{State, laws};
+use journal_text::Frame;
 use std::alloc::Global;
 
 /// Records a guest from its start state into a journal on the attached disk, and sends its output on Out, each epoch's once
-/// the epoch's record is on the disk. The world comes back whatever happens.
+/// the epoch's record is on the disk; and once the guest has ended, sends the report's line on Note. The world comes back
+/// whatever happens.
 ///
 /// # Errors
 ///
@@ -35,7 +40,7 @@ pub fn record_<R, W: World>(
     start: State,
     options: Options,
 ) -> (W, Result<Report, RecordFault>)
-    requires guest { length guest.now < 2 ^ 29 }
+    requires guest { IsGuestFile guest.now }
     requires starts { start ≡ start_state guest.now }
     ensures recorded { Recorded guest.now start options (W.history world) (W.history result.0) result.1 }
     ensures disk_cause { result.1 ≡ Err faults.DiskFault → Rose (W.disk_faults world) (W.disk_faults result.0) }
@@ -54,7 +59,7 @@ fn record_epochs<W: World>(
     start: State,
     options: Options,
 ) -> Result<Report, RecordFault>
-    requires guest { length guest.now < 2 ^ 29 }
+    requires guest { IsGuestFile guest.now }
     requires starts { start ≡ start_state guest.now }
     ensures recorded { Recorded guest.now start options (W.history world.old) (W.history world.new) result }
     ensures disk_cause { IsErrOf result RecordFault.DiskFault →
@@ -67,6 +72,8 @@ fn record_epochs<W: World>(
     laws::a_lone_thread_goes_on();
     laws::an_epoch_more();
     dp_base::laws::lengths();
+    checkpoint::laws::a_start_state_is_encodable();
+    checkpoint::laws::a_chain_keeps_a_state_encodable();
     let mut journal = Journal::begin(alloc, world, guest, options.room)?;
     let mut state = start;
     let mut epochs = 0;
@@ -87,13 +94,19 @@ fn record_epochs<W: World>(
         epochs += 1;
         sent += ready.out.len() as u64;
     }
-    Ok(Report {
+    let report = Report {
         epochs,
         squashes: 0,
         steps: state.steps,
         sent,
         end: state.end,
-    })
+        state: digest(&state),
+    };
+    let text = line(alloc, &report)?;
+    match send_all(world, Stream::Note, &text) {
+        Ok(()) => Ok(report),
+        Err(_) => Err(RecordFault::OutputFault),
+    }
 }
 
 // How far an epoch may go behind so many steps.
@@ -113,8 +126,10 @@ fn bounds_from(options: &Options, steps: u64) -> Bounds
 fn frame_of(alloc: Global, epoch: &Epoch) -> Result<Frame, OutOfMemory>
     requires epoch { IsEpoch (epoch_of epoch.now) }
     requires fits { IsBody (epoch_body (epoch_of epoch.now)) }
-    ensures { IfOk result (λ f. f ≡ frame (epoch_body (epoch_of epoch.now))) }
+    ensures frame { IfOk result (λ f. f ≡ frame (epoch_body (epoch_of epoch.now))) }
+    ensures some { IfOk result (λ f. 0 < length f) }
 {
+    journal_text::laws::a_record_is_its_body();
     let body = encode(alloc, epoch)?;
     Frame::of(alloc, &body)
 }

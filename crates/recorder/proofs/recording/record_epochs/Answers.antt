@@ -1,7 +1,8 @@
-use Rattle.std.proofs.Common.{◌≡◌, ◌+◌, [], length, Err, sym, ap, ◌∙◌, subst, arith}
+use Rattle.std.proofs.Common.{◌≡◌, ◌+◌, ℕ, List, [], length, Err, sym, ap, ◌∙◌, subst, arith}
 use Rattle.std.proofs.lemmas.List.{length_push}
 use Rattle.std.proofs.lemmas.Result.{err_from_is_err_and}
-use Rattle.dp_base.specs.Journal.{closed_gate, header, journal}
+use Rattle.dp_base.specs.Journal.{closed_gate, header}
+use Rattle.journal_text.specs.Reading.{journal_of}
 use Rattle.guest_kernel.specs.declared.state.State.{State}
 use Rattle.guest_kernel.specs.Lone.{RunsAlone}
 use Rattle.guest_kernel.specs.Slices.{at}
@@ -11,9 +12,11 @@ use Rattle.recorder.specs.declared.options.Options.{Options}
 use Rattle.epoch_record.specs.Epoch.{epoch_of}
 use Rattle.recorder.specs.Cut.{IsCutFrom}
 use Rattle.recorder.specs.EpochRun.{IsCutWithin}
-use Rattle.recorder.specs.Journaling.{HasCommitted}
+use Rattle.recorder.specs.Committing.{HasCommitted}
 use Rattle.recorder.specs.Recording.{IsNext, epoch_steps}
-use Rattle.recorder.proofs.Rounds.{begun_so_far, step_limit, out_of_memory, ended, begin_failed, committed, commit_failed}
+use Rattle.checkpoint.specs.State.{IsEncodable}
+use Rattle.dp_report.specs.declared.report.Report.{Report}
+use Rattle.recorder.proofs.Rounds.{begun_so_far, step_limit, out_of_memory, no_line, told, not_told, begin_failed, committed, commit_failed}
 use Rattle.recorder.proofs.Slicing.{positive_steps}
 use Rattle.recorder.proofs.recording.record_epochs.Goals as goal
 
@@ -34,10 +37,9 @@ pub rounds-init : goal.rounds-init
 rounds-init g c =
     let none_yet : c.args.start.steps ≡ 0 = ap (λ (s : State). s.steps) c.requires.starts in
     let guest = c.args.guest.now in
-    let size : length (journal guest []) ≡ 10 + length guest = omega (arith, c.lengths.ensures.header guest, length_push (header guest) closed_gate) in
+    let size : length (journal_of guest []) ≡ 10 + length guest = omega (arith, c.lengths.ensures.header guest, length_push (header guest) closed_gate) in
     record {
-      so_far = begun_so_far guest c.args.options c.args.start _ _ c.in_ok-journal.journal.end (omega (arith, none_yet)) (subst RunsAlone (sym c.requires.starts) (c.a_lone_thread_goes_on.ensures.start guest)) c.in_ok-journal.ensures.numbers.0 size c.in_ok-journal.ensures.history;
-      room = c.in_ok-journal.ensures.numbers.1;
+      so_far = begun_so_far guest c.args.options c.args.start _ _ c.in_ok-journal.journal (omega (arith, none_yet)) (subst RunsAlone (sym c.requires.starts) (c.a_lone_thread_goes_on.ensures.start guest)) c.in_ok-journal.ensures.numbers size c.in_ok-journal.ensures.history;
       disk_count = c.begin.ensures.count;
       sink_count = omega (arith, c.begin.ensures.sink);
     }
@@ -45,19 +47,19 @@ rounds-init g c =
 pub returns-then-state-options-clause-recorded : goal.returns-then-state-options-clause-recorded
 returns-then-state-options-clause-recorded g c =
     let l = c.rounds in
-    step_limit c.args.guest.now c.args.options c.args.start _ _ l.state l.journal.end l.epochs l.sent l.invariant.so_far (sym c.ended.ensures ∙ c.rounds-test.true) c.if-state-options.true
+    step_limit c.args.guest.now c.args.options c.args.start _ _ l.state l.journal l.epochs l.sent l.invariant.so_far (sym c.ended.ensures ∙ c.rounds-test.true) c.if-state-options.true
 
 pub returns-in_err-run-clause-recorded : goal.returns-in_err-run-clause-recorded
 returns-in_err-run-clause-recorded g c =
     let l = c.rounds in
     let p = err_from_is_err_and c.from_residual-in_err-run.result c.from_residual-in_err-run.ensures.1 in
-    rw (p.1 ∙ ap (λ e. Err e) p.2) (out_of_memory c.args.guest.now c.args.options c.args.start _ _ l.state l.journal.end l.epochs l.sent l.invariant.so_far (sym c.ended.ensures ∙ c.rounds-test.true) c.if-state-options.false)
+    rw (p.1 ∙ ap (λ e. Err e) p.2) (out_of_memory c.args.guest.now c.args.options c.args.start _ _ l.state l.journal l.epochs l.sent l.invariant.so_far (sym c.ended.ensures ∙ c.rounds-test.true) c.if-state-options.false)
 
 pub returns-in_err-frame-clause-recorded : goal.returns-in_err-frame-clause-recorded
 returns-in_err-frame-clause-recorded g c =
     let l = c.rounds in
     let p = err_from_is_err_and c.from_residual-in_err-frame.result c.from_residual-in_err-frame.ensures.1 in
-    rw (p.1 ∙ ap (λ e. Err e) p.2) (out_of_memory c.args.guest.now c.args.options c.args.start _ _ l.state l.journal.end l.epochs l.sent l.invariant.so_far (sym c.ended.ensures ∙ c.rounds-test.true) c.if-state-options.false)
+    rw (p.1 ∙ ap (λ e. Err e) p.2) (out_of_memory c.args.guest.now c.args.options c.args.start _ _ l.state l.journal l.epochs l.sent l.invariant.so_far (sym c.ended.ensures ∙ c.rounds-test.true) c.if-state-options.false)
 
 pub returns-in_err-commit_epoch-clause-recorded : goal.returns-in_err-commit_epoch-clause-recorded
 returns-in_err-commit_epoch-clause-recorded g c =
@@ -65,9 +67,8 @@ returns-in_err-commit_epoch-clause-recorded g c =
     let run_ = c.in_ok-run.run' in
     let p = err_from_is_err_and c.from_residual-in_err-commit_epoch.result c.from_residual-in_err-commit_epoch.ensures.1 in
     let next_ = is_next c.args.options l.state c.bounds_from-bounds.result run_ c.bounds_from-bounds.ensures.steps c.bounds_from-bounds.ensures.slice c.in_ok-run.ensures in
-    let numbers = subst (λ n. HasCommitted l.journal.end (length c.in_ok-frame.frame) n c.commit_epoch.new.journal.end (Err c.in_err-commit_epoch.field-0.0)) l.invariant.room c.in_err-commit_epoch.ensures.numbers in
-    rw (p.1 ∙ ap (λ e. Err e) p.2) (commit_failed c.args.guest.now c.args.options c.args.start _ _ _ l.state l.journal.end l.epochs l.sent l.invariant.so_far (epoch_of run_.epoch) run_.end run_.out next_ c.in_ok-frame.frame c.in_ok-frame.ensures
-    c.in_err-commit_epoch.field-0.0 (sym c.ended.ensures ∙ c.rounds-test.true) c.if-state-options.false c.commit_epoch.new.journal.end numbers c.in_err-commit_epoch.ensures.history)
+    rw (p.1 ∙ ap (λ e. Err e) p.2) (commit_failed c.args.guest.now c.args.options c.args.start _ _ _ l.state l.journal l.epochs l.sent l.invariant.so_far (epoch_of run_.epoch) run_.end run_.out next_ c.in_ok-frame.frame c.in_ok-frame.ensures.frame
+    c.in_err-commit_epoch.field-0.0 (sym c.ended.ensures ∙ c.rounds-test.true) c.if-state-options.false c.commit_epoch.new.journal c.in_err-commit_epoch.ensures.numbers c.in_err-commit_epoch.ensures.history)
 
 pub rounds-smaller : goal.rounds-smaller
 rounds-smaller g c =
@@ -83,17 +84,38 @@ rounds-preserved g c =
     let cut = c.in_ok-run.ensures in
     let e = epoch_of run_.epoch in
     let next_ = is_next c.args.options l.state c.bounds_from-bounds.result run_ c.bounds_from-bounds.ensures.steps c.bounds_from-bounds.ensures.slice cut in
-    let done = committed c.args.guest.now c.args.options c.args.start _ _ _ l.state l.journal.end l.epochs l.sent so_far e run_.end run_.out next_ c.in_ok-frame.frame c.in_ok-frame.ensures
+    let done = committed c.args.guest.now c.args.options c.args.start _ _ _ l.state l.journal l.epochs l.sent so_far e run_.end run_.out next_ c.in_ok-frame.frame c.in_ok-frame.ensures.frame
     cut.alone cut.runs.counted (c.an_epoch_more.ensures c.args.start so_far.done e l.state so_far.output (at run_.end run_.out []) so_far.chained cut.runs.ran)
-    c.commit_epoch.new.journal.end c.in_ok-commit_epoch.ensures.numbers.0 c.in_ok-commit_epoch.ensures.history in
+    c.commit_epoch.new.journal c.in_ok-frame.ensures.some c.in_ok-commit_epoch.ensures.numbers c.in_ok-commit_epoch.ensures.history in
     record {
       so_far = rw c.len.ensures done;
-      room = c.commit_epoch.ensures.room ∙ l.invariant.room;
       disk_count = omega (arith, c.commit_epoch.ensures.disk_count, l.invariant.disk_count);
       sink_count = omega (arith, c.commit_epoch.ensures.sink_count, l.invariant.sink_count);
     }
 
+pub digest-requires : goal.digest-requires
+digest-requires g c =
+    let l = c.rounds in
+    let so_far = l.invariant.so_far in
+    let first = subst IsEncodable (sym c.requires.starts) (c.a_start_state_is_encodable.ensures c.args.guest.now c.requires.guest (λ i. omega (arith, c.type_inv.guest i))) in
+    c.a_chain_keeps_a_state_encodable.ensures c.args.start so_far.done l.state so_far.output first so_far.chained (omega (arith, so_far.counted))
+
+pub returns-in_err-text-clause-recorded : goal.returns-in_err-text-clause-recorded
+returns-in_err-text-clause-recorded g c =
+    let l = c.rounds in
+    let p = err_from_is_err_and c.from_residual-in_err-text.result c.from_residual-in_err-text.ensures.1 in
+    rw (p.1 ∙ ap (λ e. Err e) p.2) (no_line c.args.guest.now c.args.options c.args.start _ _ l.state l.journal l.epochs l.sent l.invariant.so_far (sym c.ended.ensures ∙ c.rounds-test.false))
+
+pub returns-in-Ok-clause-recorded : goal.returns-in-Ok-clause-recorded
+returns-in-Ok-clause-recorded g c =
+    let l = c.rounds in
+    let made : List ℕ → Report = λ d. record { epochs = l.epochs; squashes = 0; steps = l.state.steps; sent = l.sent; end = l.state.end; state = d } in
+    let text = c.deref.ensures.value ∙ c.in_ok-text.ensures in
+    told c.args.guest.now c.args.options c.args.start _ _ _ l.state l.journal l.epochs l.sent l.invariant.so_far (sym c.ended.ensures ∙ c.rounds-test.false) (made c.digest.result) (ap made c.digest.ensures) (rw text at c.in-Ok.ensures.history)
+
 pub returns-clause-recorded : goal.returns-clause-recorded
 returns-clause-recorded g c =
     let l = c.rounds in
-    ended c.args.guest.now c.args.options c.args.start _ _ l.state l.journal.end l.epochs l.sent l.invariant.so_far (sym c.ended.ensures ∙ c.rounds-test.false)
+    let made : List ℕ → Report = λ d. record { epochs = l.epochs; squashes = 0; steps = l.state.steps; sent = l.sent; end = l.state.end; state = d } in
+    let text = c.deref.ensures.value ∙ c.in_ok-text.ensures in
+    not_told c.args.guest.now c.args.options c.args.start _ _ _ l.state l.journal l.epochs l.sent l.invariant.so_far (sym c.ended.ensures ∙ c.rounds-test.false) (made c.digest.result) (ap made c.digest.ensures) (rw text at c.in-Err.ensures.history)

@@ -1,11 +1,10 @@
-use Rattle.std.proofs.Common.{◌≡◌, ◌≤◌, ◌-◌}
+use Rattle.std.proofs.Common.{◌≤◌, ◌-◌}
 use Rattle.recorder.proofs.Rounds.{SoFar}
 use Rattle.recorder.proofs.recording.record_epochs.Given as goal
 
 abbrev pub invariant-rounds : goal.invariant-rounds
 invariant-rounds g l = record {
-  so_far : SoFar l.guest l.options l.fn.start (g.W.World.history l.fn.world) (g.W.World.history l.world) l.state l.journal.end l.epochs l.sent;
-  room : l.journal.room ≡ l.options.room;
+  so_far : SoFar l.guest l.options l.fn.start (g.W.World.history l.fn.world) (g.W.World.history l.world) l.state l.journal l.epochs l.sent;
   disk_count : g.W.World.disk_faults l.fn.world ≤ g.W.World.disk_faults l.world;
   sink_count : g.W.World.sink_faults l.fn.world ≤ g.W.World.sink_faults l.world;
 }
