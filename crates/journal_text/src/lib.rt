@@ -21,7 +21,7 @@ mod next;
 
 pub use frame::Frame;
 pub use head::{Head, header};
-pub use next::{Rec, next_record};
+pub use next::{MARK_KIND, Rec, next_record};
 
 #[cfg(test)]
 mod tests;
