@@ -43,7 +43,7 @@ mark_in body = do
   kind ← number_at 1 body
   if kind.0 == mark_kind then whole checkpoint_from kind.1 else None
 
--- of two that may be there
+-- the first of two that is there
 abbrev pub first_of : Option Record → Option Record → Option Record
 first_of (Some r) other = Some r
 first_of None other = other
