@@ -4,14 +4,15 @@ use Rattle.std.specs.Prelude.{◌⊎◌, ◌↔◌, option_map}
 use Rattle.std.specs.List.{flat_map, AllByRecursion}
 use Rattle.std.proofs.lemmas.Bool.{cases_lt}
 use Rattle.std.proofs.lemmas.Grind.{flat_map-append}
-use Rattle.std.proofs.lemmas.List.{append-nil, length-append, length-take, take_all, take_at, take-append-drop, take-take}
+use Rattle.std.proofs.lemmas.List.{append-nil, length-append, length-take, take_all, take_at, take-append-drop, take-take, drop_at}
 use Rattle.std.proofs.lemmas.Option.{none-some, some_pair_parts}
 use Rattle.dp_base.specs.declared.limits.TheConstants.{MAX_JOURNAL_BYTES}
 use Rattle.dp_base.specs.Field.{AreBytes}
 use Rattle.dp_base.specs.Journal.{IsGuest, closed_gate, header, header_at, record_of}
 use Rattle.dp_base.proofs.Fields.{AreBytes-take}
 use Rattle.dp_base.proofs.Records.{header_code}
-use Rattle.journal_text.specs.Reading.{IsMadeOf, IsTail, Reading, Tail, end, ending, first_bytes, journal_of, listing, reads, reads_in, tail_at}
+use Rattle.dp_base.proofs.Sizes.{length-header}
+use Rattle.journal_text.specs.Reading.{IsMadeOf, IsTail, Reading, Tail, end, ending, first_bytes, journal_of, reading_of, reads, reads_in, tail_at}
 use Rattle.journal_text.specs.Records.{IsRecord, Next, Record, bad, body_of, ended, fitting_at, found, list_from, next_at, next_of, record_bytes}
 use Rattle.journal_text.proofs.Records.{fitting_found, fitting_taken, next_behind_closed, next_none, next_of_body, next_some, none_next}
 use Rattle.journal_text.proofs.Lists.{Stops, list_ended, list_found, list_of, list_taken}
@@ -49,7 +50,7 @@ tail_ends (found r rest) place number at is = absurd is
 
 made_of : (file : List ℕ) (reading : Reading) → AreBytes file → reads_in file ≡ Some reading → IsMadeOf file reading
 made_of file reading are e =
-    let h = mapped (λ (h : List ℕ × List ℕ). listing h.0 (length file) (list_from h.1)) (header_at file) reading e in
+    let h = mapped (λ (h : List ℕ × List ℕ). reading_of h.0 (length file) (list_from h.1)) (header_at file) reading e in
     let guest = h.0.0 in
     let behind = h.0.1 in
     let t = header_code.encoded file guest behind are h.1 in
@@ -64,8 +65,8 @@ made_of file reading are e =
     })
 
 -- a file behind its header
-behind_header : (file guest behind : List ℕ) → header_at file ≡ Some (guest, behind) → reads_in file ≡ Some (listing guest (length file) (list_from behind))
-behind_header file guest behind e = ap (option_map (λ (h : List ℕ × List ℕ). listing h.0 (length file) (list_from h.1))) e
+behind_header : (file guest behind : List ℕ) → header_at file ≡ Some (guest, behind) → reads_in file ≡ Some (reading_of guest (length file) (list_from behind))
+behind_header file guest behind e = ap (option_map (λ (h : List ℕ × List ℕ). reading_of h.0 (length file) (list_from h.1))) e
 
 reads_made : (file : List ℕ) (reading : Reading) → IsMadeOf file reading → reads_in file ≡ Some reading
 reads_made file reading made =
@@ -77,7 +78,7 @@ reads_made file reading made =
     let list : list_from behind ≡ (reading.records, made.rest) = list_of reading.records made.rest made.records (tail_stops next place number reading.tail made.tail) in
     let tail : tail_at next place number ≡ reading.tail = tail_found next place number reading.tail made.tail in
     behind_header file reading.guest behind head
-    ∙ ap (λ (l : List Record × List ℕ). Some (listing reading.guest (length file) l)) list
+    ∙ ap (λ (l : List Record × List ℕ). Some (reading_of reading.guest (length file) l)) list
     ∙ ap (λ (t : Tail). Some (record { guest = reading.guest; records = reading.records; tail = t })) tail
 
 AreBytes-first : (bytes : List ℕ) → AreBytes bytes → AreBytes (first_bytes bytes)
@@ -94,12 +95,25 @@ whole bytes reading made = reads_made (first_bytes bytes) reading made
 pub no_journal : (bytes : List ℕ) → (reads bytes ≡ None) ↔ (header_at (first_bytes bytes) ≡ None)
 unfolding reads
 no_journal bytes =
-    let f : List ℕ × List ℕ → Reading = λ h. listing h.0 (length (first_bytes bytes)) (list_from h.1) in
+    let f : List ℕ × List ℕ → Reading = λ h. reading_of h.0 (length (first_bytes bytes)) (list_from h.1) in
     (λ e. mapped_none f (header_at (first_bytes bytes)) e, λ e. ap (option_map f) e)
 
-pub reads_behind : (bytes guest behind : List ℕ) → header_at (first_bytes bytes) ≡ Some (guest, behind) → reads bytes ≡ Some (listing guest (length (first_bytes bytes)) (list_from behind))
+pub reads_behind : (bytes guest behind : List ℕ) → header_at (first_bytes bytes) ≡ Some (guest, behind) → reads bytes ≡ Some (reading_of guest (length (first_bytes bytes)) (list_from behind))
 unfolding reads
 reads_behind bytes guest behind e = behind_header (first_bytes bytes) guest behind e
+
+-- ---- what stands where
+
+pub guest_stands : (bytes guest behind : List ℕ) → AreBytes bytes → header_at (first_bytes bytes) ≡ Some (guest, behind) → guest ≡ take (length guest) (drop 9 (first_bytes bytes))
+guest_stands bytes guest behind are e =
+    let all = (header_code.encoded (first_bytes bytes) guest behind (AreBytes-first bytes are) e).0 in
+    let here : drop 9 (header guest ++ behind) ≡ guest ++ behind = refl in
+    sym (ap (λ (b : List ℕ). take (length guest) (drop 9 b)) all ∙ ap (take (length guest)) here ∙ take_at guest behind (length guest) refl)
+
+pub first_record_stands : (bytes guest behind : List ℕ) → AreBytes bytes → header_at (first_bytes bytes) ≡ Some (guest, behind) → behind ≡ drop (9 + length guest) (first_bytes bytes)
+first_record_stands bytes guest behind are e =
+    let all = (header_code.encoded (first_bytes bytes) guest behind (AreBytes-first bytes are) e).0 in
+    sym (ap (drop (9 + length guest)) all ∙ drop_at (header guest) behind (9 + length guest) (length-header guest))
 
 -- ---- a journal at rest
 
@@ -221,13 +235,13 @@ cut_behind part guest records behind head cut =
     let place = length part - length cut.left in
     let number = length (take cut.count records) + 1 in
     let read = behind_header part guest behind head
-    ∙ ap (λ (l : List Record × List ℕ). Some (listing guest (length part) l)) cut.list
+    ∙ ap (λ (l : List Record × List ℕ). Some (reading_of guest (length part) l)) cut.list
     ∙ ap (λ (next : Next). Some (record { guest = guest; records = take cut.count records; tail = tail_at next place number })) cut.ends in
     inr (cut.count, place, read)
 
 cut_made : (part more guest : List ℕ) (records : List Record) (place : ℕ) (file : List ℕ) (o : Option (List ℕ × List ℕ)) → header_at part ≡ o → part ++ more ≡ file → AreBytes part → IsMadeOf file (ending guest records place)
     → CutReads guest records part
-cut_made part more guest records place file None is joined bytes made = inl (ap (option_map (λ (h : List ℕ × List ℕ). listing h.0 (length part) (list_from h.1))) is)
+cut_made part more guest records place file None is joined bytes made = inl (ap (option_map (λ (h : List ℕ × List ℕ). reading_of h.0 (length part) (list_from h.1))) is)
 cut_made part more guest records place file (Some x) is joined bytes made =
     let t = header_code.encoded part x.0 x.1 bytes is in
     let behind = flat_map record_bytes records ++ made.rest in

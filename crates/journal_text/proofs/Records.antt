@@ -18,7 +18,7 @@ use Rattle.dp_base.proofs.Whole.{whole_code}
 use Rattle.guest_state.specs.Checkpoint.{Checkpoint, IsCheckpoint, checkpoint_bytes, checkpoint_from}
 use Rattle.guest_state.proofs.Codes.{checkpoint_code}
 use Rattle.journal_text.specs.View.{IsRecordBody}
-use Rattle.journal_text.specs.Records.{HoldsValues, IsRecord, Record, bad, body_of, ended, epoch, first_of, fitting_at, found, found_in, mark, mark_in, mark_kind, next_at, next_of, record_bytes, record_in}
+use Rattle.journal_text.specs.Records.{IsContent, IsRecord, Record, bad, body_of, ended, epoch, first_of, fitting_at, found, found_in, mark, mark_in, mark_kind, next_at, next_of, record_bytes, record_in}
 
 -- ---- a body that fits
 
@@ -118,7 +118,7 @@ mark_taken body c fits e =
     let state = (whole_code checkpoint_code).encoded a.0.1 c kind.left g.1 in
     (kind.joined ∙ ap (λ (t : List ℕ). mark_kind ∷ t) state.0, state.1)
 
-pub in_its_body : (r : Record) → HoldsValues r → record_in (body_of r) ≡ Some r
+pub in_its_body : (r : Record) → IsContent r → record_in (body_of r) ≡ Some r
 unfolding record_in
 in_its_body (epoch e) is = ap (λ (o : Option Epoch). first_of (option_map epoch o) (option_map mark (mark_in (epoch_body e)))) ((whole_code epoch_code).decoded e is)
 in_its_body (mark c) is =
@@ -133,12 +133,12 @@ pub is_record_body : (r : Record) → IsRecord r → IsRecordBody (body_of r)
 is_record_body r is = record { some = some_body r; few = is.1; is = ap is_some (in_its_body r is.0) }
 
 record_taken_as : (body : List ℕ) (e : Option Epoch) (m : Option Checkpoint) (r : Record) → AreBytes body → whole epoch_body_at body ≡ e → mark_in body ≡ m → first_of (option_map epoch e) (option_map mark m) ≡ Some r
-    → (body ≡ body_of r) × HoldsValues r
-record_taken_as body (Some e) m r fits e-is m-is is = subst (λ (r : Record). (body ≡ body_of r) × HoldsValues r) (same_Some _ _ is) ((whole_code epoch_code).encoded body e fits e-is)
-record_taken_as body None (Some c) r fits e-is m-is is = subst (λ (r : Record). (body ≡ body_of r) × HoldsValues r) (same_Some _ _ is) (mark_taken body c fits m-is)
+    → (body ≡ body_of r) × IsContent r
+record_taken_as body (Some e) m r fits e-is m-is is = subst (λ (r : Record). (body ≡ body_of r) × IsContent r) (same_Some _ _ is) ((whole_code epoch_code).encoded body e fits e-is)
+record_taken_as body None (Some c) r fits e-is m-is is = subst (λ (r : Record). (body ≡ body_of r) × IsContent r) (same_Some _ _ is) (mark_taken body c fits m-is)
 record_taken_as body None None r fits e-is m-is is = absurd cc
 
-pub record_taken : (body : List ℕ) (r : Record) → AreBytes body → record_in body ≡ Some r → (body ≡ body_of r) × HoldsValues r
+pub record_taken : (body : List ℕ) (r : Record) → AreBytes body → record_in body ≡ Some r → (body ≡ body_of r) × IsContent r
 unfolding record_in
 record_taken body r fits e = record_taken_as body (whole epoch_body_at body) (mark_in body) r fits refl refl e
 

@@ -29,16 +29,16 @@ tail_at ended place number = end place
 tail_at bad place number = bad_record number
 tail_at (found r rest) place number = end place
 
--- of a file of so many bytes, behind its header
-abbrev pub listing : (guest : List ℕ) → (file_bytes : ℕ) → List Record × List ℕ → Reading
-listing guest file_bytes list = record {
+-- of a file of so many bytes, by the guest of its header and the list behind it
+abbrev pub reading_of : (guest : List ℕ) → (file_bytes : ℕ) → List Record × List ℕ → Reading
+reading_of guest file_bytes list = record {
   guest = guest;
   records = list.0;
   tail = tail_at (next_at list.1) (file_bytes - length list.1) (length list.0 + 1);
 }
 
 abbrev pub reads_in : List ℕ → Option Reading
-reads_in file = option_map (λ h. listing h.0 (length file) (list_from h.1)) (header_at file)
+reads_in file = option_map (λ h. reading_of h.0 (length file) (list_from h.1)) (header_at file)
 
 -- none where the file is no journal
 unfoldable pub reads : List ℕ → Option Reading

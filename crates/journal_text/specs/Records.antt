@@ -1,5 +1,5 @@
--- The records of a journal, marks included: the body of each, and what a reader finds at a record's gate. This project's own;
--- docs/JOURNAL.md shows the bytes.
+-- The records of a journal, marks included: the body of each, and what a reader finds at a record's gate. This project's own,
+-- over the bytes of an epoch (dp_base's Journal) and of a guest between two slices (guest_state's Checkpoint).
 use Rattle.std.specs.Prelude.{◌≤◌, ℕ, zero, suc, List, [], ◌∷◌, length, Option, Some, None, option_map, ◌==◌, nat_le, if◌then◌else◌}
 use Rattle.dp_base.specs.declared.limits.TheConstants.{MAX_BODY_BYTES}
 use Rattle.dp_base.specs.Encoding.{whole}
@@ -26,13 +26,14 @@ body_of (mark c) = mark_kind ∷ checkpoint_bytes c
 abbrev pub record_bytes : Record → List ℕ
 record_bytes r = record_of (body_of r)
 
-abbrev pub HoldsValues : Record → Type 0
-HoldsValues (epoch e) = IsEpoch e
-HoldsValues (mark c) = IsCheckpoint c
-
 -- what has an encoding
+
+abbrev pub IsContent : Record → Type 0
+IsContent (epoch e) = IsEpoch e
+IsContent (mark c) = IsCheckpoint c
+
 abbrev pub IsRecord : Record → Type 0
-IsRecord r = HoldsValues r × (length (body_of r) ≤ MAX_BODY_BYTES)
+IsRecord r = IsContent r × (length (body_of r) ≤ MAX_BODY_BYTES)
 
 -- ---- what a reader accepts as a body
 
@@ -42,6 +43,7 @@ mark_in body = do
   kind ← number_at 1 body
   if kind.0 == mark_kind then whole checkpoint_from kind.1 else None
 
+-- the first of two that is there
 abbrev pub first_of : Option Record → Option Record → Option Record
 first_of (Some r) other = Some r
 first_of None other = other

@@ -9,12 +9,12 @@ use Rattle.journal_text.specs.declared.next.Rec.{Rec}
 use Rattle.journal_text.specs.declared.next.Rec.TheVariants.{Epoch, Mark, End, Bad}
 use Rattle.journal_text.specs.Records.{body_of, bad, ended, epoch, found, mark, next_at, record_in}
 
--- what is said of a header, and of the bytes behind it
+-- what an answer says of a header at the start of a file
 abbrev pub IsHead : Option (List ℕ × List ℕ) → Head → Type 0
 IsHead (Some h) head = head ≡ Whole (length h.0)
 IsHead None head = head ≡ NoJournal
 
--- what is said of the place `at` of a file
+-- what an answer says of the place `at` of a file
 abbrev pub IsNext : (file : List ℕ) → (at : ℕ) → Rec → Type 0
 IsNext file at (Epoch body next) = (e : journal.Epoch) × (next_at (drop at file) ≡ found (epoch e) (drop next file))
     × (body.now ≡ body_of (epoch e)) × (at < next) × (next ≤ length file)

@@ -1,10 +1,10 @@
 //! Laws of the grammar, over all files.
 
-ghost use Rattle.std.specs.Prelude.{◌≡◌, ◌≤◌, ◌+◌, ◌-◌, ◌⊎◌, ◌↔◌, ◌∷◌, [], ◌++◌, ℕ, List, Some, None, length, take};
+ghost use Rattle.std.specs.Prelude.{◌≡◌, ◌≤◌, ◌+◌, ◌-◌, ◌⊎◌, ◌↔◌, ◌∷◌, [], ◌++◌, ℕ, List, Some, None, length, take, drop};
 ghost use Rattle.std.specs.List.{AllByRecursion};
 ghost use Rattle.dp_base.specs.Field.{AreBytes};
 ghost use Rattle.dp_base.specs.Journal.{IsGuest, closed_gate, header_at};
-ghost use Rattle.journal_text.specs.Reading.{IsMadeOf, Reading, ending, first_bytes, journal_of, listing, reads};
+ghost use Rattle.journal_text.specs.Reading.{IsMadeOf, Reading, ending, first_bytes, journal_of, reading_of, reads};
 ghost use Rattle.journal_text.specs.Records.{IsRecord, Record, bad, body_of, ended, found, list_from, next_at, record_bytes, record_in};
 ghost use Rattle.journal_text.specs.View.{IsRecordBody};
 
@@ -16,6 +16,21 @@ pub fn a_record_is_its_body()
     ensures framed { (r : Record) → IsRecord r → IsRecordBody (body_of r) }
     ensures taken { (body : List ℕ) (r : Record) → AreBytes body → record_in body ≡ Some r → length body ≤ MAX_BODY_BYTES →
         (body ≡ body_of r) × IsRecord r }
+{}
+
+/// A record is found where its bytes stand behind an open gate, whatever follows, and nowhere else.
+pub fn a_record_stands_at_its_gate()
+    ensures found { (r : Record) (rest : List ℕ) → IsRecord r → next_at (record_bytes r ++ rest) ≡ found r rest }
+    ensures taken { (bytes rest : List ℕ) (r : Record) → AreBytes bytes → next_at bytes ≡ found r rest →
+        (bytes ≡ record_bytes r ++ rest) × IsRecord r }
+{}
+
+/// Where the guest and the first record of a journal stand.
+pub fn a_header_stands_first()
+    ensures guest { (bytes guest behind : List ℕ) → AreBytes bytes → header_at (first_bytes bytes) ≡ Some (guest, behind) →
+        guest ≡ take (length guest) (drop 9 (first_bytes bytes)) }
+    ensures behind { (bytes guest behind : List ℕ) → AreBytes bytes → header_at (first_bytes bytes) ≡ Some (guest, behind) →
+        behind ≡ drop (9 + length guest) (first_bytes bytes) }
 {}
 
 /// A file reads as the parts that its first bytes are made of, and as nothing else: a header, records, and a rest at which no
@@ -53,7 +68,7 @@ pub fn a_journal_at_rest_reads_as_itself()
 /// What stands at a place determines the list of records from there, and a file reads as its header and the list behind it.
 pub fn reading_goes_on()
     ensures header { (bytes guest behind : List ℕ) → header_at (first_bytes bytes) ≡ Some (guest, behind) →
-        reads bytes ≡ Some (listing guest (length (first_bytes bytes)) (list_from behind)) }
+        reads bytes ≡ Some (reading_of guest (length (first_bytes bytes)) (list_from behind)) }
     ensures ended { (bytes : List ℕ) → next_at bytes ≡ ended → list_from bytes ≡ ([], bytes) }
     ensures bad { (bytes : List ℕ) → next_at bytes ≡ bad → list_from bytes ≡ ([], bytes) }
     ensures found { (bytes rest : List ℕ) (r : Record) → next_at bytes ≡ found r rest →

@@ -6,9 +6,13 @@
 //! reads as no journal, or as its first records (`laws`). Stands on `dp_base` and `guest_state`.
 //!
 //! ```text
-//! let mut at = match header(file) { Head::Whole { guest_len } => 9 + u64::from(guest_len), Head::NoJournal => return };
-//! while let Rec::Epoch { next, .. } | Rec::Mark { next, .. } = next_record(file, at) {
-//!     at = next;
+//! let Head::Whole { guest_len } = header(file) else { return };
+//! let first_gate = 9 + u64::from(guest_len);
+//! match next_record(file, first_gate) {
+//!     Rec::Epoch { body, next } => ..,
+//!     Rec::Mark { body, next } => ..,
+//!     Rec::End { at } => ..,
+//!     Rec::Bad => ..,
 //! }
 //! ```
 #![tactic(auto)]
@@ -21,7 +25,7 @@ mod next;
 
 pub use frame::Frame;
 pub use head::{Head, header};
-pub use next::{Rec, next_record};
+pub use next::{MARK_KIND, Rec, next_record};
 
 #[cfg(test)]
 mod tests;

@@ -39,8 +39,9 @@ pub fn next_record(bytes: &[u8], at: u64) -> Rec<'_>
         Some((body, rest)) => {
             let next = (file.len() - rest.len()) as u64;
             if body.len() > MAX_BODY_BYTES as usize {
-                Rec::Bad
-            } else if is_epoch_body(body) {
+                return Rec::Bad;
+            }
+            if is_epoch_body(body) {
                 Rec::Epoch { body, next }
             } else if is_mark_body(body) {
                 Rec::Mark { body, next }
