@@ -1,9 +1,9 @@
 -- The command that the words of a command line say, by what clap finds in them.
-use Rattle.std.specs.Prelude.{◌≤◌, ℕ, List, [], Option, Some, None, codes, if◌then◌else◌, unwrap_or, map, String, string_bytes}
+use Rattle.std.specs.Prelude.{◌≤◌, ℕ, Bool, List, [], Option, Some, None, codes, if◌then◌else◌, unwrap_or, map, String, string_bytes}
 use Rattle.std.specs.Str.{bytes_eq}
 use Rattle.std.specs.Str.Parse.{digits_value, without_leading_plus}
 use Rattle.std.specs.declared.alloc.Global.{Global}
-use Rattle.clap.specs.Words.{Row, Text, first_of, subcommand_of}
+use Rattle.clap.specs.Words.{Row, Text, first_of, subcommand_of, takes}
 use Rattle.dp_words.specs.CommandLine.{command_line}
 use Rattle.dp_words.specs.declared.command.Command.{Command}
 use Rattle.dp_words.specs.declared.command.Command.TheVariants.{Record, Replay}
@@ -39,6 +39,10 @@ command_found None = None
 -- the command that the words say
 abbrev pub command_of : List (String Global) → Option Command
 command_of words = command_found (subcommand_of command_line (map string_bytes words))
+
+-- the command line takes the words
+abbrev pub are_taken : List (String Global) → Bool
+are_taken words = takes command_line (map string_bytes words)
 
 -- each number of the command is in its range
 abbrev pub IsInRange : Command → Type 0

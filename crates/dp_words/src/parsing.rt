@@ -1,8 +1,7 @@
 // A command out of words.
-ghost use Rattle.std.specs.Prelude.{◌≡◌, IfOk, IsErrOf, false, true, map, string_bytes, Some};
-ghost use Rattle.clap.specs.Words.{subcommand_rows_of, takes};
-ghost use Rattle.dp_words.specs.CommandLine.{command_line};
-ghost use Rattle.dp_words.specs.Commands.{IsInRange, command_found, command_of};
+ghost use Rattle.std.specs.Prelude.{◌≡◌, IfOk, IsErrOf, false, true, Some};
+ghost use Rattle.clap.specs.Words.{subcommand_rows_of};
+ghost use Rattle.dp_words.specs.Commands.{IsInRange, are_taken, command_found, command_of};
 ghost use Rattle.dp_words.specs.Found.{IsFound};
 ghost use Rattle.dp_words.specs.Fault.{fault_of};
 ghost use Rattle.dp_words.specs.declared.parsing.WordsFault.TheVariants as faults;
@@ -38,10 +37,10 @@ impl From<AllocError> for WordsFault {
 /// `Usage` if the command line doesn't take the words: an unknown word, one too many or too few, a number out of its form
 /// or range, and a call for help or the version. `OutOfMemory` if an allocation fails.
 pub fn parse(alloc: Global, words: &[String]) -> Result<Command, WordsFault>
-    ensures taken { IfOk result (λ _. takes command_line (map string_bytes words.now) ≡ true) }
+    ensures taken { IfOk result (λ _. are_taken words.now ≡ true) }
     ensures command { IfOk result (λ command. command_of words.now ≡ Some command) }
     ensures ranges { IfOk result IsInRange }
-    ensures usage { IsErrOf result faults.Usage → takes command_line (map string_bytes words.now) ≡ false }
+    ensures usage { IsErrOf result faults.Usage → are_taken words.now ≡ false }
 {
     match command_line(alloc)?.try_get_matches_from(words) {
         Ok(matches) => Ok(found(alloc, &matches)?),

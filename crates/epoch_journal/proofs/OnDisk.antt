@@ -1,8 +1,8 @@
 -- What a begun journal and an appended record leave on the disk.
-use Rattle.std.proofs.Common.{◌≡◌, ℕ, ◌+◌, ◌-◌, true, false, List, [], ◌∷◌, ◌++◌, length, take, drop, Option, Some, None, Ok, Err, refl, sym, ◌∙◌, ap, subst, arith, append_assoc, length-append}
+use Rattle.std.proofs.Common.{◌≡◌, ℕ, ◌+◌, ◌-◌, true, List, [], ◌∷◌, ◌++◌, length, drop, Option, Some, None, refl, sym, ◌∙◌, ap, subst, arith, append_assoc, length-append}
 use Rattle.std.specs.List.{flat_map}
 use Rattle.std.proofs.lemmas.List.{append-nil, drop_all, take_all, take_at, drop_at}
-use Rattle.dp_base.specs.Journal.{open_gate, closed_gate, header, header_body, record_of, frame}
+use Rattle.dp_base.specs.Journal.{open_gate, closed_gate, header, header_body, frame}
 use Rattle.disk_model.specs.History.{History}
 use Rattle.disk_model.specs.Known.{IfKnown, IsLength, known_disk, overwritten}
 use Rattle.device.specs.Writing.{SentNothing, IsWrittenThrough}
@@ -117,4 +117,3 @@ pub begun : (guest header_ : List ℕ) (s t u : History) → header_ ≡ header_
 begun guest header_ s t u is a b =
     let three : u.disk ≡ open_gate ∷ header_ = b.disk refl (omega arith) ∙ ap (overwritten 0 (open_gate ∷ [])) a.1 in
     (a.0, record { disk = three ∙ ap (λ (l : List ℕ). open_gate ∷ l) is; synced = b.synced refl }, then_nothing s t u a.2 b.streams)
-

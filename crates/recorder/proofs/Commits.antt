@@ -1,11 +1,10 @@
 -- What a committed epoch leaves.
-use Rattle.std.proofs.Common.{◌≡◌, ℕ, true, false, List, [], ◌∷◌, ◌++◌, take, Ok, Err, refl, sym, ◌∙◌, ap}
+use Rattle.std.proofs.Common.{◌≡◌, ℕ, true, false, List, [], ◌∷◌, ◌++◌, take, Ok, Err, refl, ◌∙◌, ap}
 use Rattle.std.proofs.lemmas.List.{take_all}
 use Rattle.device.specs.Sending.{Sent}
 use Rattle.disk_model.specs.declared.world.Stream.TheVariants.{Out}
 use Rattle.disk_model.specs.History.{History}
-use Rattle.epoch_journal.specs.declared.append.AppendFault.TheVariants as appends
-use Rattle.epoch_journal.specs.Appending.{Appended, IsAppend}
+use Rattle.epoch_journal.specs.Appending.{Appended}
 use Rattle.epoch_journal.specs.Standing.{Journal, Stands}
 use Rattle.journal_text.specs.Records.{Record}
 use Rattle.recorder.specs.declared.commit.CommitFault.TheVariants as commits

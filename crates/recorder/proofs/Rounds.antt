@@ -19,16 +19,15 @@ use Rattle.recorder.specs.declared.commit.CommitFault.TheVariants as commits
 use Rattle.recorder.specs.declared.record_fault.RecordFault.TheVariants as faults
 use Rattle.recorder.specs.Faults.{of_begin, of_commit}
 use Rattle.recorder.specs.Committing.{Committed, HasCommitted}
-use Rattle.recorder.specs.Recording.{IsNext, EachIsNext, Run, IsRecorded, IsReported, Recorded, records_of, report_of, reported}
+use Rattle.recorder.specs.Recording.{IsNext, EachIsNext, Run, IsRecorded, Recorded, records_of, reported}
 use Rattle.checkpoint.specs.State.{digest_of}
 use Rattle.device.specs.Sending.{Sent}
-use Rattle.device.specs.Writing.{SentNothing}
 use Rattle.disk_model.specs.declared.world.Stream.TheVariants.{Note}
 use Rattle.dp_report.specs.declared.report.Report.{Report}
 use Rattle.dp_report.specs.Texts.{report_line}
 use Rattle.epoch_journal.specs.Appending.{IsAppend}
 use Rattle.epoch_journal.specs.Beginning.{Begun, HasBegun}
-use Rattle.epoch_journal.specs.Standing.{Journal, IsJournal, Stands}
+use Rattle.epoch_journal.specs.Standing.{Journal, Stands}
 use Rattle.epoch_journal.proofs.OnDisk.{length-journal-push}
 use Rattle.journal_text.specs.Reading.{journal_of}
 use Rattle.journal_text.specs.Records.{Record, epoch}

@@ -1,4 +1,4 @@
-use Rattle.std.proofs.Common.{arith, refl, ap, sym, ◌∙◌, length}
+use Rattle.std.proofs.Common.{arith, length}
 use Rattle.dp_base.specs.declared.limits.TheConstants.{MAX_JOURNAL_BYTES}
 use Rattle.epoch_journal.proofs.Chunks.{all_read, smaller}
 use Rattle.epoch_journal.proofs.whole.read_whole.Goals as goal

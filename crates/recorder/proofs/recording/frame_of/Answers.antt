@@ -1,8 +1,8 @@
-use Rattle.std.proofs.Common.{◌≡◌, List, ℕ, Some, true, Bool, sym, subst, ◌∙◌, ap}
+use Rattle.std.proofs.Common.{◌≡◌, Some, sym, subst, ◌∙◌, ap}
 use Rattle.std.specs.Prelude.{is_some}
 use Rattle.dp_base.specs.Journal.{epoch_body}
 use Rattle.epoch_record.specs.Epoch.{epoch_of}
-use Rattle.journal_text.specs.Records.{Record, epoch, record_in}
+use Rattle.journal_text.specs.Records.{epoch, record_in}
 use Rattle.journal_text.specs.View.{IsRecordBody}
 use Rattle.recorder.proofs.recording.frame_of.Goals as goal
 

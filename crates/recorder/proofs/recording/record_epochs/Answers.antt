@@ -12,7 +12,6 @@ use Rattle.recorder.specs.declared.options.Options.{Options}
 use Rattle.epoch_record.specs.Epoch.{epoch_of}
 use Rattle.recorder.specs.Cut.{IsCutFrom}
 use Rattle.recorder.specs.EpochRun.{IsCutWithin}
-use Rattle.recorder.specs.Committing.{HasCommitted}
 use Rattle.recorder.specs.Recording.{IsNext, epoch_steps}
 use Rattle.checkpoint.specs.State.{IsEncodable}
 use Rattle.dp_report.specs.declared.report.Report.{Report}
