@@ -9,10 +9,10 @@ ghost use Rattle.guest_kernel.specs.Turn.{turn, log_of, turn_answer, state_after
 use crate::pages::Pages;
 use crate::state::State;
 use crate::step::{Stepped, exec};
-use guest_state::{End, Hart, Thread};
 use dp_base::field::write_bytes;
 use dp_base::limits::MAX_CALL_BYTES;
 use dp_base::{Answer, OutOfMemory, Tid};
+use guest_state::{End, Hart, Thread};
 use std::alloc::Global;
 
 /// The outcome of a call for a turn. After the last three nothing has changed.

@@ -5,8 +5,8 @@ ghost use Rattle.guest_kernel.specs.Memory.{fetch, code_byte, readable, readable
 ghost use Rattle.guest_state.specs.Pages.{ArePages, IsPage};
 ghost use Rattle.guest_state.specs.View.{page_of};
 
-use dp_base::{OutOfMemory, Page};
 use dp_base::limits::{MAX_PAGES, PAGE_BYTES, PAGE_NUMBERS};
+use dp_base::{OutOfMemory, Page};
 use guest_state::PageView;
 use std::alloc::Global;
 use std::marker::Model;

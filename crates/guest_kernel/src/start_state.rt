@@ -8,9 +8,9 @@ use crate::image::{Image, Segment};
 use crate::pages::Pages;
 use crate::state::State;
 use crate::threads::Threads;
-use guest_state::{End, Hart, Thread};
 use dp_base::OutOfMemory;
 use dp_base::limits::{FIRST_STACK_PAGE, MAX_PAGES, PAGE_BYTES, STACK_PAGES, STACK_POINTER};
+use guest_state::{End, Hart, Thread};
 use std::alloc::Global;
 
 const READ_AND_WRITE: u8 = 6;
