@@ -22,6 +22,8 @@ pub use top::run;
 #[cfg(test)]
 mod guests;
 #[cfg(test)]
+mod journal_tests;
+#[cfg(test)]
 mod lower_tests;
 #[cfg(test)]
 mod recording_tests;

@@ -1,11 +1,12 @@
 // Recordings on memory forms, epoch by epoch.
 ghost use Rattle.std.specs.Prelude.{◌<◌, ◌≤◌};
 
-use crate::guests::{EXITS, WRITES};
+use crate::guests::{EXITS, EXITS_ENDED, WRITES, WRITES_ENDED};
 use disk_mem::{Call, CallNumbers, Fails, MemWorld};
 use disk_model::Stream;
+use dp_report::Report;
 use guest_kernel::{End, laws, load, start};
-use recorder::{Options, RecordFault, Report, record_};
+use recorder::{Options, RecordFault, record_};
 use std::alloc::Global;
 use std::test::Fail;
 
@@ -38,6 +39,7 @@ struct Seen {
     answer: Result<Report, RecordFault>,
     journal: Vec<u8>,
     sent: Vec<u8>,
+    noted: Vec<u8>,
     // A letter for each call, in order.
     calls: String,
 }
@@ -71,6 +73,7 @@ fn look_at(
         answer,
         journal: world.bytes().to_vec(alloc)?,
         sent: world.sent(Stream::Out).to_vec(alloc)?,
+        noted: world.sent(Stream::Note).to_vec(alloc)?,
         calls: letters(alloc, world.calls())?,
     })
 }
@@ -104,6 +107,7 @@ fn nine_epochs(rt: HostRuntime) -> Result<(), Fail> {
         steps: 9,
         sent: 3,
         end: End::Exit(0),
+        state: WRITES_ENDED,
     };
     let seen = recorded(
         &rt,
@@ -118,10 +122,11 @@ fn nine_epochs(rt: HostRuntime) -> Result<(), Fail> {
         (seen.journal.len(), seen.sent.as_slice()),
         (314, b"hi\n".as_slice())
     );
-    // The length, the header's three writes, and four calls an epoch. The sixth sends its output behind them.
+    // The length, the header's three writes, and four calls an epoch. The sixth sends its output behind them, and the
+    // last call sends the note.
     assert_eq!(rt;
         seen.calls.as_str(),
-        "lwswswswswswswswswswswswswswswsewswswswswsws"
+        "lwswswswswswswswswswswswswswswsewswswswswswse"
     );
     Ok(())
 }
@@ -134,6 +139,7 @@ fn one_epoch(rt: HostRuntime) -> Result<(), Fail> {
         steps: 9,
         sent: 3,
         end: End::Exit(0),
+        state: WRITES_ENDED,
     };
     // In pieces of two bytes.
     let seen = recorded(
@@ -149,7 +155,8 @@ fn one_epoch(rt: HostRuntime) -> Result<(), Fail> {
         (seen.journal.len(), seen.sent.as_slice()),
         (154, b"hi\n".as_slice())
     );
-    assert_eq!(rt; seen.calls.as_str(), "lwswswswswsee");
+    // Eleven calls on the disk, two emits of output, and 59 of the note of 117 bytes.
+    assert_eq!(rt; seen.calls.len(), 11 + 2 + 59);
     Ok(())
 }
 
@@ -162,6 +169,7 @@ fn limits_and_rooms(rt: HostRuntime) -> Result<(), Fail> {
         steps: 3,
         sent: 0,
         end: End::Exit(7),
+        state: EXITS_ENDED,
     });
     let full = |end, need| Err(RecordFault::JournalFull { end, need });
     let cases = [
@@ -177,7 +185,9 @@ fn limits_and_rooms(rt: HostRuntime) -> Result<(), Fail> {
     ];
     for (options, answer, len) in cases {
         let seen = recorded(&rt, &EXITS, options, Fails::Never, Fails::Never, 4096)?;
+        let noted = if answer.is_ok() { 117 } else { 0 };
         assert_eq!(rt; (seen.answer, seen.journal.len()), (answer, len));
+        assert_eq!(rt; seen.noted.len(), noted);
     }
     Ok(())
 }
@@ -198,11 +208,24 @@ fn a_slice_at_the_limit(rt: HostRuntime) -> Result<(), Fail> {
     Ok(())
 }
 
-// Nine epochs of one step, whose sixth sends three pieces of one byte. Its record is in the journal by then.
+// Nine epochs of one step, whose sixth sends three pieces of one byte; its record is in the journal by then. The report's
+// line goes out last.
 #[test]
 fn each_emit_fails(rt: HostRuntime) -> Result<(), Fail> {
-    let sent = [b"".as_slice(), b"h", b"hi"];
-    for (number, sent) in (1..=3).zip(sent) {
+    let cases: [(u64, &[u8], &[u8], usize); 6] = [
+        (1, b"", b"", 254),
+        (2, b"h", b"", 254),
+        (3, b"hi", b"", 254),
+        (4, b"hi\n", b"", 314),
+        (5, b"hi\n", b"e", 314),
+        (
+            120,
+            b"hi\n",
+            b"epochs 9 squashes 0 steps 9 sent 3 end exit 0 state 5e7e08b662a2648fef71b4527eed27a6cdaea8232e2b564dfcc9f494b1615bd4",
+            314,
+        ),
+    ];
+    for (number, sent, noted, len) in cases {
         for fails in [at(rt.alloc(), number)?, Fails::From(number)] {
             let seen = recorded(
                 &rt,
@@ -213,20 +236,13 @@ fn each_emit_fails(rt: HostRuntime) -> Result<(), Fail> {
                 1,
             )?;
             assert_eq!(rt; seen.answer, Err(RecordFault::OutputFault), "emit {number}");
-            assert_eq!(rt; (seen.sent.as_slice(), seen.journal.len()), (sent, 254));
+            assert_eq!(rt;
+                (seen.sent.as_slice(), seen.noted.as_slice()),
+                (sent, noted)
+            );
+            assert_eq!(rt; seen.journal.len(), len);
         }
     }
-    // All at once.
-    let seen = recorded(
-        &rt,
-        &WRITES,
-        options(20_000, LIMIT, ROOM),
-        Fails::Never,
-        Fails::From(1),
-        4096,
-    )?;
-    assert_eq!(rt; seen.answer, Err(RecordFault::OutputFault));
-    assert_eq!(rt; (seen.sent.len(), seen.journal.len()), (0, 154));
     Ok(())
 }
 
@@ -244,7 +260,11 @@ fn each_disk_call_fails(rt: HostRuntime) -> Result<(), Fail> {
                 Fails::Never,
                 4096,
             )?;
-            assert_eq!(rt; seen.answer, Err(RecordFault::DiskFault), "call {number}");
+            assert_eq!(rt;
+                (seen.answer, seen.noted.len()),
+                (Err(RecordFault::DiskFault), 0),
+                "call {number}"
+            );
             // What fails is not done: a record's gate is open once the call that opens it is behind.
             let opened = seen.journal.get(133 + 20 * 5) == Some(&1);
             assert_eq!(rt;

@@ -78,16 +78,18 @@ fn do_command<R, F: Files, W: World>(
     ensures sink_count { W.sink_faults world ≤ W.sink_faults result.0 }
 {
     match parse(alloc, words) {
-        Ok(Command::Record {
-            guest,
-            journal,
-            workers,
-            epoch,
-            slice,
-            ahead,
-            mark,
-            limit,
-        }) => {
+        Ok(
+            Command::Record {
+                guest,
+                journal,
+                workers,
+                epoch,
+                slice,
+                ahead,
+                mark,
+                limit,
+            },
+        ) => {
             let options = Options {
                 workers,
                 epoch,
@@ -97,7 +99,15 @@ fn do_command<R, F: Files, W: World>(
                 limit,
                 room: MAX_JOURNAL_BYTES,
             };
-            record_named(rt, alloc, files, world, guest.as_str(), journal.as_str(), options)
+            record_named(
+                rt,
+                alloc,
+                files,
+                world,
+                guest.as_str(),
+                journal.as_str(),
+                options,
+            )
         }
         Ok(Command::Replay { .. }) => (world, Status::Usage),
         Err(WordsFault::Usage) => (world, Status::Usage),
