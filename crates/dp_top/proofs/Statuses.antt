@@ -1,34 +1,40 @@
 -- What a status says, by the answer of the recording.
-use Rattle.std.proofs.Common.{◌≡◌, inl, inr, arith, ℕ, List, take, map, slice_get, Option, Some, None, Result, Ok, Err, String, string_bytes, refl, sym, ap, subst, ◌∙◌}
+use Rattle.std.proofs.Common.{◌≡◌, ◌<◌, ◌≤◌, ◌^◌, inl, inr, arith, ℕ, List, [], length, take, Option, Some, None, Result, Ok, Err, String, refl, sym, ap, subst, ◌∙◌}
+use Rattle.std.proofs.lemmas.Bool.{cases_lt}
 use Rattle.std.proofs.lemmas.List.{append-nil}
 use Rattle.std.proofs.lemmas.Option.{same_Some}
 use Rattle.std.specs.declared.alloc.Global.{Global}
+use Rattle.disk_model.specs.Counts.{Rose}
 use Rattle.disk_model.specs.declared.files.TheConstants.{MAX_FETCH_BYTES}
 use Rattle.disk_model.specs.Directory.{File, IsFetched, file_named}
 use Rattle.disk_model.specs.History.{History}
+use Rattle.disk_model.specs.Known.{IfKnown}
 use Rattle.disk_model.proofs.Knowing.{known-same}
 use Rattle.guest_kernel.specs.declared.state.State.{State}
 use Rattle.guest_kernel.specs.Image.{IsGuestFile}
 use Rattle.guest_kernel.specs.Start.{start_state}
 use Rattle.recorder.specs.declared.options.Options.{Options}
-use Rattle.recorder.specs.declared.report.Report.{Report}
+use Rattle.dp_report.specs.declared.report.Report.{Report}
 use Rattle.recorder.specs.declared.record_fault.RecordFault.{RecordFault}
 use Rattle.recorder.specs.declared.record_fault.RecordFault.TheVariants as faults
-use Rattle.recorder.specs.Recording.{Recorded}
+use Rattle.recorder.specs.Recording.{IsInUse, Recorded}
 use Rattle.recorder.proofs.Rounds.{no_epoch}
-use Rattle.dp_top.specs.declared.status.Status.{Status}
+use Rattle.dp_report.specs.declared.status.Status.{Status}
+use Rattle.dp_report.specs.declared.status.Status.TheVariants as statuses
+use Rattle.dp_words.specs.declared.command.Command.{Command}
+use Rattle.dp_words.specs.declared.command.Command.TheVariants.{Record, Replay}
 use Rattle.dp_top.specs.Answer.{status_of}
-use Rattle.dp_top.specs.Command.{IsDefault}
-use Rattle.dp_top.specs.Running.{RecordedAs, Ran, NamesGuest}
+use Rattle.dp_top.specs.Asking.{Asked}
+use Rattle.dp_top.specs.Running.{RecordedAs, CameTo, Did, Ran, NamesGuest, IsKnownEmpty, IsNoFault}
 
-pub of_answer : (words : List (String Global)) (files : Option (List File)) (before after : Option History) (answer : Result Report RecordFault) → RecordedAs words files before after answer → Ran words files before after (status_of answer)
-of_answer words files before after (Ok report) as_ = (report, as_)
-of_answer words files before after (Err faults.DiskFault) as_ = as_
-of_answer words files before after (Err faults.OutputFault) as_ = as_
-of_answer words files before after (Err (faults.JournalInUse len)) as_ = as_
-of_answer words files before after (Err (faults.StepLimit steps)) as_ = as_
-of_answer words files before after (Err (faults.JournalFull end need)) as_ = as_
-of_answer words files before after (Err faults.OutOfMemory) as_ = inr as_
+pub of_answer : (name : List ℕ) (options : Options) (files : Option (List File)) (before after : Option History) (answer : Result Report RecordFault) → RecordedAs name options files before after answer → CameTo name options files before after (status_of answer)
+of_answer name options files before after (Ok report) as_ = (report, as_)
+of_answer name options files before after (Err faults.DiskFault) as_ = as_
+of_answer name options files before after (Err faults.OutputFault) as_ = as_
+of_answer name options files before after (Err (faults.JournalInUse len)) as_ = as_
+of_answer name options files before after (Err (faults.StepLimit steps)) as_ = as_
+of_answer name options files before after (Err (faults.JournalFull end need)) as_ = as_
+of_answer name options files before after (Err faults.OutOfMemory) as_ = inr as_
 
 -- a disk that could not be attached
 pub not_attached : (guest : List ℕ) (start : State) (options : Options) (before after : Option History) → start.steps ≡ 0 → after ≡ before → Recorded guest start options before after (Err faults.DiskFault)
@@ -37,25 +43,77 @@ not_attached guest start options before after first same = (
   known-same _ _ _ same (λ s. record { sent = sym (append-nil s.sent); noted = refl; on_disk = inl refl; untouched = inr refl }),
 )
 
--- a name has one file
-pub same_guest : (words : List (String Global)) (files : Option (List File)) (name bytes : List ℕ) → NamesGuest words files → slice_get (map string_bytes words) 2 ≡ Some name → IsFetched files name bytes → IsGuestFile bytes
-same_guest words None name bytes names named fetched = absurd names
-same_guest words (Some files) name bytes names named fetched =
-    let name_is : names.0 ≡ name = same_Some _ _ (sym names.2 ∙ named) in
-    let file_is : names.3.0 ≡ fetched.0 = same_Some _ _ (sym names.3.1 ∙ ap (file_named files) name_is ∙ fetched.1) in
-    subst IsGuestFile (names.3.2 ∙ ap (λ (f : File). take MAX_FETCH_BYTES f.bytes) file_is ∙ sym fetched.2) names.4
-
 -- the guest that was fetched was recorded
-pub ran_by : (words : List (String Global)) (files : Option (List File)) (before after : Option History) (name guest loaded there : List ℕ) (state : State) (answer : Result Report RecordFault) (options : Options) (status : Status)
-    → slice_get (map string_bytes words) 2 ≡ Some name → IsFetched files name guest → loaded ≡ guest → there ≡ guest → IsGuestFile loaded → state ≡ start_state loaded
-    → IsDefault options → status ≡ status_of answer → Recorded there state options before after answer → Ran words files before after status
-ran_by words files before after name guest loaded there state answer options status named fetched loaded_is there_is accepted state_is defaults status_is recorded =
+pub came_by : (name : List ℕ) (options : Options) (files : Option (List File)) (before after : Option History) (guest loaded there : List ℕ) (state : State) (answer : Result Report RecordFault) (status : Status)
+    → IsFetched files name guest → loaded ≡ guest → there ≡ guest → IsGuestFile loaded → state ≡ start_state loaded
+    → status ≡ status_of answer → Recorded there state options before after answer → CameTo name options files before after status
+came_by name options files before after guest loaded there state answer status fetched loaded_is there_is accepted state_is status_is recorded =
     let started : state ≡ start_state guest = state_is ∙ ap start_state loaded_is in
-    let as_ : RecordedAs words files before after answer = record {
-      guest = record { name = name; named = named; bytes = guest; fetched = fetched };
+    let as_ : RecordedAs name options files before after answer = record {
+      bytes = guest;
+      fetched = fetched;
       accepted = subst IsGuestFile loaded_is accepted;
-      options = options;
-      defaults = defaults;
       recorded = subst (λ (s : State). Recorded guest s options before after answer) started (subst (λ (g : List ℕ). Recorded g state options before after answer) there_is recorded);
     } in
-    subst (Ran words files before after) (sym status_is) (of_answer words files before after answer as_)
+    subst (CameTo name options files before after) (sym status_is) (of_answer name options files before after answer as_)
+
+-- ---- completeness
+
+abbrev guest_named : Option Command → List ℕ
+guest_named (Some (Record guest journal workers epoch slice ahead mark limit)) = guest
+guest_named (Some (Replay journal workers)) = []
+guest_named None = []
+
+-- words ask for one guest
+same_name : (words : List (String Global)) (a b : Asked words) → a.guest ≡ b.guest
+same_name words a b = ap guest_named (sym a.said ∙ b.said)
+
+-- a name has one file
+same_guest : (files : Option (List File)) (name bytes : List ℕ) → NamesGuest name files → IsFetched files name bytes → IsGuestFile bytes
+same_guest None name bytes names fetched = absurd names
+same_guest (Some files) name bytes names fetched =
+    let file_is : names.1.0 ≡ fetched.0 = same_Some _ _ (sym names.1.1 ∙ fetched.1) in
+    subst IsGuestFile (names.1.2 ∙ ap (λ (f : File). take MAX_FETCH_BYTES f.bytes) file_is ∙ sym fetched.2) names.2
+
+-- an empty disk is not in use
+not_in_use : (len : ℕ) (before after : Option History) → 0 < len → IfKnown (IsInUse len) before after → IsKnownEmpty before → ⊥
+not_in_use len None after some used empty = empty
+not_in_use len (Some h) after some used empty = let none : len ≡ 0 = used.2.0 ∙ ap (λ (l : List ℕ). length l) empty in omega (arith, some, none)
+
+pub complete_by : (name : List ℕ) (options : Options) (files : Option (List File)) (before there : Option History) (status : Status) → CameTo name options files before there status → NamesGuest name files → IsKnownEmpty before
+    → (status ≡ statuses.GuestFault → ⊥) → (status ≡ statuses.DiskFault → ⊥) → (status ≡ statuses.OutputFault → ⊥) → IsNoFault status
+complete_by name options files before there statuses.Ok came names empty file disk sink = tt
+complete_by name options files before there statuses.Usage came names empty file disk sink = came
+complete_by name options files before there statuses.GuestFault came names empty file disk sink = file refl
+complete_by name options files before there (statuses.BadImage fault) came names empty file disk sink = came.2 (same_guest files name came.0 names came.1)
+complete_by name options files before there statuses.InputFault came names empty file disk sink = came
+complete_by name options files before there statuses.DiskFault came names empty file disk sink = disk refl
+complete_by name options files before there statuses.OutputFault came names empty file disk sink = sink refl
+complete_by name options files before there (statuses.JournalInUse len) came names empty file disk sink = not_in_use len before there came.recorded.0 came.recorded.1 empty
+complete_by name options files before there (statuses.BadJournal number) came names empty file disk sink = came
+complete_by name options files before there (statuses.BadEpoch number) came names empty file disk sink = came
+complete_by name options files before there (statuses.StepLimit steps) came names empty file disk sink = tt
+complete_by name options files before there (statuses.JournalFull end need) came names empty file disk sink = tt
+complete_by name options files before there statuses.OutOfMemory came names empty file disk sink = tt
+complete_by name options files before there statuses.NoJournal came names empty file disk sink = came
+complete_by name options files before there (statuses.BadMark number) came names empty file disk sink = came
+
+pub complete : (words : List (String Global)) (files : Option (List File)) (before there : Option History) (status : Status) → Did words files before there status → (asked : Asked words) → NamesGuest asked.guest files → IsKnownEmpty before
+    → (status ≡ statuses.GuestFault → ⊥) → (status ≡ statuses.DiskFault → ⊥) → (status ≡ statuses.OutputFault → ⊥) → IsNoFault status
+complete words files before there status (inl refused) asked names empty file disk sink = absurd (refused.1 asked)
+complete words files before there status (inr (inl memory)) asked names empty file disk sink = subst IsNoFault (sym memory.0) tt
+complete words files before there status (inr (inr did)) asked names empty file disk sink =
+    complete_by did.0.guest did.0.options files before there status did.1 (subst (λ (n : List ℕ). NamesGuest n files) (same_name words asked did.0) names) empty file disk sink
+
+-- a count that rose has risen later too
+pub rose_before : (a b c : ℕ) → a ≤ b → b ≤ c → Rose a b → Rose a c
+rose_before a b c kept later (inl less) = inl (omega (arith, less, later))
+rose_before a b c kept later (inr most) =
+    elim (cases_lt a c) [
+      | inl less ↦ inl less
+      | inr no_less ↦ inr (omega (arith, most, kept, later, no_less))
+    ]
+
+-- and so it has if it stands where it stood
+pub rose_same : (a b c : ℕ) → c ≡ b → Rose a b → Rose a c
+rose_same a b c same rose = subst (λ (n : ℕ). Rose a n) (sym same) rose

@@ -1,10 +1,10 @@
 -- The status of a recording's answer, a row for each. This project's own.
 use Rattle.std.specs.Prelude.{Result, Ok, Err}
-use Rattle.recorder.specs.declared.report.Report.{Report}
+use Rattle.dp_report.specs.declared.report.Report.{Report}
 use Rattle.recorder.specs.declared.record_fault.RecordFault.{RecordFault}
 use Rattle.recorder.specs.declared.record_fault.RecordFault.TheVariants as faults
-use Rattle.dp_top.specs.declared.status.Status.{Status}
-use Rattle.dp_top.specs.declared.status.Status.TheVariants as statuses
+use Rattle.dp_report.specs.declared.status.Status.{Status}
+use Rattle.dp_report.specs.declared.status.Status.TheVariants as statuses
 
 abbrev pub status_of : Result Report RecordFault → Status
 status_of (Ok report) = statuses.Ok

@@ -1,4 +1,3 @@
-pub mod Command
-pub mod StatusNumber
+pub mod Asking
 pub mod Running
 pub mod Answer

@@ -2,8 +2,8 @@
 ghost use Rattle.std.specs.Prelude.{◌≡◌};
 ghost use Rattle.dp_top.specs.Answer.{status_of};
 
-use crate::status::Status;
-use recorder::{RecordFault, Report};
+use dp_report::{Report, Status};
+use recorder::RecordFault;
 
 /// The status of a recording's answer.
 pub fn status_of_answer(answer: Result<Report, RecordFault>) -> Status

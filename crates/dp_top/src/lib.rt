@@ -2,7 +2,8 @@
 //!
 //! Promises (the contract of `run`): if it answers `Ok`, `StepLimit` or `JournalFull`, the disk reads as the journal of this
 //! guest with a chain of epochs from its start state, and what was sent is exactly that chain's output; after each other
-//! status what stands is named, and each comes only for its own cause. Stands on `recorder`, `guest_kernel` and
+//! status what stands is named, and each comes only for its own cause. On Note stands exactly the report's line, or the
+//! status's, or a prefix of it where the stream failed. Stands on `dp_words`, `recorder`, `dp_report`, `guest_kernel` and
 //! `disk_model`.
 //!
 //! ```text
@@ -12,11 +13,10 @@
 #![tactic(auto)]
 
 mod answer;
-mod command;
-mod status;
+mod recording;
 mod top;
 
-pub use status::Status;
+pub use dp_report::Status;
 pub use top::run;
 
 #[cfg(test)]

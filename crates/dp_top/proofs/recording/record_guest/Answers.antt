@@ -1,0 +1,13 @@
+use Rattle.std.proofs.Common.{Option, Err, refl, ap, subst}
+use Rattle.disk_model.specs.History.{History}
+use Rattle.guest_kernel.specs.declared.state.State.{State}
+use Rattle.recorder.specs.declared.record_fault.RecordFault.TheVariants as faults
+use Rattle.dp_top.proofs.Statuses.{not_attached}
+use Rattle.dp_top.proofs.recording.record_guest.Goals as goal
+
+pub returns-then-is_err-clause-recorded : goal.returns-then-is_err-clause-recorded
+returns-then-is_err-clause-recorded g c = (
+  Err faults.DiskFault,
+  refl,
+  not_attached c.args.guest.now c.args.start c.args.options _ _ (ap (λ (s : State). s.steps) c.requires.starts) c.attach.ensures.history,
+)

@@ -1,0 +1,32 @@
+use Rattle.std.proofs.Common.{Some, inr, refl, ◌∙◌, ap}
+use Rattle.dp_top.specs.Asking.{Asked}
+use Rattle.dp_top.proofs.top.do_command.Goals as goal
+
+pub returns-in-Ok-Record-clause-did : goal.returns-in-Ok-Record-clause-did
+returns-in-Ok-Record-clause-did g c =
+    let w = c.in-Ok-Record in
+    let given = c.options-1.given in
+    let asked : Asked c.args.words.now = record {
+      guest = w.guest;
+      journal = w.journal;
+      options = record {
+        workers = w.workers;
+        epoch = w.epoch;
+        slice = w.slice;
+        ahead = w.ahead;
+        mark = w.mark;
+        limit = w.limit;
+        room = 1073741824;
+        workers_range = given.0;
+        epoch_range = given.1.0;
+        slice_range = given.1.1.0;
+        ahead_range = given.1.1.1.0;
+        mark_range = given.1.1.1.1.0;
+        limit_range = given.1.1.1.1.1.0;
+        room_range = given.1.1.1.1.1.1.0;
+      };
+      taken = w.ensures.taken;
+      said = w.ensures.command ∙ ap Some w.field-0-is;
+      room = refl;
+    } in
+    inr (inr (asked, rw c.as_str.ensures at c.record_named.ensures.came))

@@ -1,0 +1,42 @@
+// A recording into a journal that is attached first.
+ghost use Rattle.std.specs.Prelude.{◌≡◌, ◌≤◌, Result};
+ghost use Rattle.disk_model.specs.Counts.{Rose};
+ghost use Rattle.dp_report.specs.declared.report.Report.{Report};
+ghost use Rattle.guest_kernel.specs.Image.{IsGuestFile};
+ghost use Rattle.guest_kernel.specs.Start.{start_state};
+ghost use Rattle.recorder.specs.declared.record_fault.RecordFault.{RecordFault};
+ghost use Rattle.recorder.specs.Recording.{Recorded};
+ghost use Rattle.dp_top.specs.Answer.{status_of};
+
+use crate::answer::status_of_answer;
+use disk_model::World;
+use dp_report::Status;
+use guest_kernel::State;
+use recorder::{Options, record_};
+use std::alloc::Global;
+
+/// Attaches the journal and records into it.
+pub fn record_guest<R, W: World>(
+    rt: &R,
+    alloc: Global,
+    mut world: W,
+    journal: &str,
+    guest: &[u8],
+    start: State,
+    options: Options,
+) -> (W, Status)
+    requires guest { IsGuestFile guest.now }
+    requires starts { start ≡ start_state guest.now }
+    ensures recorded { (answer : Result Report RecordFault) × (result.1 ≡ status_of answer)
+        × Recorded guest.now start options (W.history world) (W.history result.0) answer }
+    ensures disk_fault { result.1 ≡ Status.DiskFault → Rose (W.disk_faults world) (W.disk_faults result.0) }
+    ensures output_fault { result.1 ≡ Status.OutputFault → Rose (W.sink_faults world) (W.sink_faults result.0) }
+    ensures disk_count { W.disk_faults world ≤ W.disk_faults result.0 }
+    ensures sink_count { W.sink_faults world ≤ W.sink_faults result.0 }
+{
+    if world.attach(journal, true).is_err() {
+        return (world, Status::DiskFault);
+    }
+    let (world, answer) = record_(rt, alloc, world, guest, start, options);
+    (world, status_of_answer(answer))
+}
