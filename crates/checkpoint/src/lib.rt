@@ -24,3 +24,6 @@ mod writer;
 pub use decoding::decode;
 pub use encoding::encode;
 pub use hash::digest;
+
+#[cfg(test)]
+mod tests;
