@@ -1,12 +1,13 @@
 -- What a status says, by the answer of the recording.
-use Rattle.std.proofs.Common.{◌≡◌, ◌<◌, ◌≤◌, ◌^◌, inl, inr, arith, ℕ, List, [], length, take, Option, Some, None, Result, Ok, Err, String, refl, sym, ap, subst, ◌∙◌}
+use Rattle.std.proofs.Common.{◌≡◌, ◌<◌, ◌≤◌, inl, inr, arith, ℕ, List, [], length, take, Option, Some, None, Result, Ok, Err, String, refl, sym, ap, subst, ◌∙◌}
 use Rattle.std.proofs.lemmas.Bool.{cases_lt}
 use Rattle.std.proofs.lemmas.List.{append-nil}
 use Rattle.std.proofs.lemmas.Option.{same_Some}
+use Rattle.std.specs.Prelude.{false, is_ok, IsErr}
 use Rattle.std.specs.declared.alloc.Global.{Global}
 use Rattle.disk_model.specs.Counts.{Rose}
 use Rattle.disk_model.specs.declared.files.TheConstants.{MAX_FETCH_BYTES}
-use Rattle.disk_model.specs.Directory.{File, IsFetched, file_named}
+use Rattle.disk_model.specs.Directory.{File, IsFetched}
 use Rattle.disk_model.specs.History.{History}
 use Rattle.disk_model.specs.Known.{IfKnown}
 use Rattle.disk_model.proofs.Knowing.{known-same}
@@ -25,7 +26,7 @@ use Rattle.dp_words.specs.declared.command.Command.{Command}
 use Rattle.dp_words.specs.declared.command.Command.TheVariants.{Record, Replay}
 use Rattle.dp_top.specs.Answer.{status_of}
 use Rattle.dp_top.specs.Asking.{Asked}
-use Rattle.dp_top.specs.Running.{RecordedAs, CameTo, Did, Ran, NamesGuest, IsKnownEmpty, IsNoFault}
+use Rattle.dp_top.specs.Running.{RecordedAs, CameTo, Did, NamesGuest, IsKnownEmpty, IsNoFault}
 
 pub of_answer : (name : List ℕ) (options : Options) (files : Option (List File)) (before after : Option History) (answer : Result Report RecordFault) → RecordedAs name options files before after answer → CameTo name options files before after (status_of answer)
 of_answer name options files before after (Ok report) as_ = (report, as_)
@@ -40,6 +41,7 @@ of_answer name options files before after (Err faults.OutOfMemory) as_ = inr as_
 pub not_attached : (guest : List ℕ) (start : State) (options : Options) (before after : Option History) → start.steps ≡ 0 → after ≡ before → Recorded guest start options before after (Err faults.DiskFault)
 not_attached guest start options before after first same = (
   no_epoch options start (omega (arith, first)),
+  inl refl,
   known-same _ _ _ same (λ s. record { sent = sym (append-nil s.sent); noted = refl; on_disk = inl refl; untouched = inr refl }),
 )
 
@@ -117,3 +119,7 @@ rose_before a b c kept later (inr most) =
 -- and so it has if it stands where it stood
 pub rose_same : (a b c : ℕ) → c ≡ b → Rose a b → Rose a c
 rose_same a b c same rose = subst (λ (n : ℕ). Rose a n) (sym same) rose
+
+pub err_where_not_ok : {A B : Type 0} (r : Result A B) → is_ok r ≡ false → IsErr r
+err_where_not_ok (Ok x) is = absurd cc
+err_where_not_ok (Err e) is = refl

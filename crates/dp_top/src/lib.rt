@@ -2,8 +2,9 @@
 //!
 //! Promises (the contract of `run`): if it answers `Ok`, `StepLimit` or `JournalFull`, the disk reads as the journal of this
 //! guest with a chain of epochs from its start state, and what was sent is exactly that chain's output; after each other
-//! status what stands is named, and each comes only for its own cause. On Note stands exactly the report's line, or the
-//! status's, or a prefix of it where the stream failed. Stands on `dp_words`, `recorder`, `dp_report`, `guest_kernel` and
+//! status what stands is named, and each comes only for its own cause. On Note goes the report's line at `Ok`, and else the
+//! status's line: all of it, or a prefix where the stream failed. Where the report's line was cut off, its prefix stands
+//! before the line of that status. Stands on `dp_words`, `recorder`, `dp_report`, `guest_kernel` and
 //! `disk_model`.
 //!
 //! ```text

@@ -1,5 +1,5 @@
 // The top call.
-ghost use Rattle.std.specs.Prelude.{◌≡◌, ◌≤◌, ◌⊎◌, Bool, IfOk, IsErrOf, false};
+ghost use Rattle.std.specs.Prelude.{◌≡◌, ◌≤◌, ◌⊎◌, ℕ, Bool, IfOk, IsErrOf, false};
 ghost use Rattle.disk_model.specs.Counts.{Rose};
 ghost use Rattle.dp_words.specs.Commands.{are_taken};
 ghost use Rattle.guest_kernel.specs.Image.{IsGuestFile};
@@ -21,8 +21,8 @@ use std::alloc::Global;
 /// report's line at `Ok`, and the status's line else. The world comes back whatever happens.
 ///
 /// The words are looked at first, then the guest's file, then its image, and then the disk: after `Usage`, `GuestFault` and
-/// `BadImage` no call on the disk was made. Words of another command answer `Usage`. A status's line that can't be sent
-/// changes no status. The runtime `rt` is lent for what runs on threads; a recording of one thread needs none.
+/// `BadImage` the disk is as it was, and has met no fault. Words of another command answer `Usage`. A status's line that
+/// can't be sent changes no status. The runtime `rt` is lent for what runs on threads; a recording of one thread needs none.
 pub fn run<R, F: Files, W: World>(
     rt: &R,
     alloc: Global,
@@ -30,9 +30,12 @@ pub fn run<R, F: Files, W: World>(
     files: &mut F,
     world: W,
 ) -> (W, Status)
-    // What stands, by the status, and what was sent on Note.
-    ensures ran { (told : Bool) × Ran words.now (F.directory files.old) (W.history world) (W.history result.0) result.1 told
-        × (told ≡ false → Rose (W.sink_faults world) (W.sink_faults result.0)) }
+    // What stands, by the status, and what was sent on Note. The line is cut off only where a count rises once more.
+    ensures ran { (told : Bool) × (faults : ℕ)
+        × Ran words.now (F.directory files.old) (W.history world) (W.history result.0) result.1 told
+        × (W.sink_faults world ≤ faults) × (faults ≤ W.sink_faults result.0)
+        × (result.1 ≡ Status.OutputFault → Rose (W.sink_faults world) faults)
+        × (told ≡ false → Rose faults (W.sink_faults result.0)) }
 
     // When each refusal comes.
     ensures usage { result.1 ≡ Status.Usage → Asked words.now → ⊥ }

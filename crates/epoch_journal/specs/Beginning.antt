@@ -15,7 +15,7 @@ Begun guest (Err begins.DiskFault) before after = SentNothing before after × ((
 
 -- where a new journal ends, and its room; why one has no room
 abbrev pub HasBegun : (guest_bytes room : ℕ) → Result Journal BeginFault → Type 0
-HasBegun size room (Ok j) = j ≡ record { end = 10 + size; room = room; count = 0; failed = false }
+HasBegun size room (Ok j) = (j ≡ record { end = 10 + size; room = room; count = 0; failed = false }) × (10 + size ≤ room)
 HasBegun size room (Err (begins.InUse len)) = 0 < len
 HasBegun size room (Err (begins.Full end need)) = (end ≡ 0) × (need ≡ 10 + size) × (room < need)
 HasBegun size room (Err begins.OutOfMemory) = 10 + size ≤ room

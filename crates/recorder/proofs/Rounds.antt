@@ -19,7 +19,7 @@ use Rattle.recorder.specs.declared.commit.CommitFault.TheVariants as commits
 use Rattle.recorder.specs.declared.record_fault.RecordFault.TheVariants as faults
 use Rattle.recorder.specs.Faults.{of_begin, of_commit}
 use Rattle.recorder.specs.Committing.{Committed, HasCommitted}
-use Rattle.recorder.specs.Recording.{IsNext, EachIsNext, Run, IsRecorded, Recorded, records_of, reported}
+use Rattle.recorder.specs.Recording.{IsNext, EachIsNext, Run, HasRoom, IsRecorded, Recorded, records_of, reported}
 use Rattle.checkpoint.specs.State.{digest_of}
 use Rattle.device.specs.Sending.{Sent}
 use Rattle.disk_model.specs.declared.world.Stream.TheVariants.{Note}
@@ -82,6 +82,7 @@ pub record SoFar (guest : List ℕ) (options : Options) (start : State) (first n
   pub history : IfKnown (IsRecorded guest done output) first now
   pub place_is : j.end ≡ length (journal_of guest (records_of done))
   pub room_is : j.room ≡ options.room
+  pub fits : j.end ≤ j.room
   pub works : j.failed ≡ false
   pub count : epochs ≡ length done
   pub few : epochs < j.end
@@ -99,11 +100,14 @@ module _ (guest : List ℕ) (options : Options) (start : State) (first now : Opt
     counted = so_far.counted;
   }
 
+  fits_still : (state : State) (j : Journal) (epochs sent : ℕ) (so_far : SoFar guest options start first now state j epochs sent) → HasRoom guest options so_far.done
+  fits_still state j epochs sent so_far = omega (arith, so_far.fits, so_far.place_is, so_far.room_is)
+
   pub begun_so_far : (j : Journal) → start.steps ≤ options.limit → RunsAlone start → HasBegun (length guest) options.room (Ok j) → length (journal_of guest []) ≡ 10 + length guest
       → IfKnown (Begun guest (Ok j)) first now → SoFar guest options start first now start j 0 0
   unfolding chain
   begun_so_far j few alone begun_is size begun =
-      let end_is : j.end ≡ 10 + length guest = ap (λ (k : Journal). k.end) begun_is in
+      let end_is : j.end ≡ 10 + length guest = ap (λ (k : Journal). k.end) begun_is.0 in
       record {
         done = [];
         output = [];
@@ -113,8 +117,9 @@ module _ (guest : List ℕ) (options : Options) (start : State) (first now : Opt
         alone = alone;
         history = known-map _ _ _ _ (λ s t b. record { empty = b.0; stands = b.1; sent = b.2.sent ∙ sym (append-nil s.sent); noted = b.2.noted }) begun;
         place_is = end_is ∙ sym size;
-        room_is = ap (λ (k : Journal). k.room) begun_is;
-        works = ap (λ (k : Journal). k.failed) begun_is;
+        room_is = ap (λ (k : Journal). k.room) begun_is.0;
+        fits = omega (arith, begun_is.1, end_is, ap (λ (k : Journal). k.room) begun_is.0);
+        works = ap (λ (k : Journal). k.failed) begun_is.0;
         count = refl;
         few = omega (arith, end_is);
         sent_is = refl;
@@ -125,21 +130,22 @@ module _ (guest : List ℕ) (options : Options) (start : State) (first now : Opt
 
   pub step_limit : (state : State) (j : Journal) (epochs sent : ℕ) → SoFar guest options start first now state j epochs sent → has_ended state.end ≡ false → options.limit ≤ state.steps
       → Recorded guest start options first now (Err (faults.StepLimit state.steps))
-  step_limit state j epochs sent so_far going reached = (run_so_far state j epochs sent so_far, going, refl, omega (arith, so_far.counted), so_far.history)
+  step_limit state j epochs sent so_far going reached = (run_so_far state j epochs sent so_far, going, refl, omega (arith, so_far.counted), fits_still state j epochs sent so_far, so_far.history)
 
   pub out_of_memory : (state : State) (j : Journal) (epochs sent : ℕ) → SoFar guest options start first now state j epochs sent → has_ended state.end ≡ false → state.steps < options.limit
       → Recorded guest start options first now (Err faults.OutOfMemory)
-  out_of_memory state j epochs sent so_far going left = inr (run_so_far state j epochs sent so_far, inr (going, left), so_far.history)
+  out_of_memory state j epochs sent so_far going left = inr (run_so_far state j epochs sent so_far, inr (going, left), fits_still state j epochs sent so_far, so_far.history)
 
   -- its line can't be made
   pub no_line : (state : State) (j : Journal) (epochs sent : ℕ) → SoFar guest options start first now state j epochs sent → has_ended state.end ≡ true → Recorded guest start options first now (Err faults.OutOfMemory)
-  no_line state j epochs sent so_far ended_ = inr (run_so_far state j epochs sent so_far, inl ended_, so_far.history)
+  no_line state j epochs sent so_far ended_ = inr (run_so_far state j epochs sent so_far, inl ended_, fits_still state j epochs sent so_far, so_far.history)
 
   pub begin_failed : (fault : BeginFault) → start.steps ≤ options.limit → HasBegun (length guest) options.room (Err fault) → IfKnown (Begun guest (Err fault)) first now
       → Recorded guest start options first now (Err (of_begin fault))
   begin_failed (begins.InUse len) few numbers begun = (numbers, begun)
   begin_failed begins.DiskFault few numbers begun = (
     no_epoch options start few,
+    inl refl,
     known-map _ _ _ _ (λ s t b. record { sent = b.0.sent ∙ sym (append-nil s.sent); noted = b.0.noted; on_disk = inl refl; untouched = b.1 }) begun,
   )
   begin_failed (begins.Full end need) few numbers begun = inl (numbers.0, numbers.1, numbers.2, begun)
@@ -157,6 +163,7 @@ module _ (guest : List ℕ) (options : Options) (start : State) (first now : Opt
       run_so_far state j epochs sent so_far,
       ended,
       report_is,
+      fits_still state j epochs sent so_far,
       known-then _ _ _ _ _ _
           (λ s t u r b.
           record {
@@ -172,6 +179,7 @@ module _ (guest : List ℕ) (options : Options) (start : State) (first now : Opt
     not_told known = inr (
       run_so_far state j epochs sent so_far,
       ended,
+      fits_still state j epochs sent so_far,
       known-then _ _ _ _ _ _
           (λ s t u r b. (
             b.0,
@@ -223,6 +231,7 @@ module _ (guest : List ℕ) (options : Options) (start : State) (first now : Opt
               so_far.history known;
           place_is = omega (arith, end_is, size_more, so_far.place_is, ap (λ (l : List ℕ). length l) framed);
           room_is = ap (λ (k : Journal). k.room) numbers.2 ∙ so_far.room_is;
+          fits = omega (arith, end_is, numbers.1, ap (λ (k : Journal). k.room) numbers.2);
           works = ap (λ (k : Journal). k.failed) numbers.2 ∙ so_far.works;
           count = omega (arith, so_far.count, length_push so_far.done e);
           few = omega (arith, end_is, so_far.few, some);
@@ -235,6 +244,7 @@ module _ (guest : List ℕ) (options : Options) (start : State) (first now : Opt
         → IfKnown (Committed j added output (Err fault)) now later → Recorded guest start options first later (Err (of_commit fault))
     commit_failed commits.DiskFault going left j' numbers known = (
       run_so_far state j epochs sent so_far,
+      inr (fits_still state j epochs sent so_far),
       known-then _ _ _ _ _ _
           (λ s t u r k. record { sent = k.0.sent ∙ r.sent; noted = k.0.noted ∙ r.noted; on_disk = inr (k.1 guest (records_of so_far.done) (epoch e) (appends_there s t r)); untouched = inl r.empty })
           so_far.history known,
@@ -243,6 +253,7 @@ module _ (guest : List ℕ) (options : Options) (start : State) (first now : Opt
       run_so_far state j epochs sent so_far,
       going,
       left,
+      fits_still state j epochs sent so_far,
       e,
       end,
       output,
@@ -259,6 +270,7 @@ module _ (guest : List ℕ) (options : Options) (start : State) (first now : Opt
       end,
       output,
       next_,
+      omega (arith, numbers.1, size_more, so_far.place_is, so_far.room_is, ap (λ (l : List ℕ). length l) framed),
       known-then _ _ _ _ _ _
           (λ s t u r k.
           let made = k.0 guest (records_of so_far.done) (epoch e) (appends_there s t r) in

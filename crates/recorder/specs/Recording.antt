@@ -49,6 +49,10 @@ pub record Run (options : Options) (start : State) : Type 0 where
 abbrev pub records_of : List Epoch → List Record
 records_of epochs = map epoch epochs
 
+-- the journal of these epochs has room
+abbrev pub HasRoom : (guest : List ℕ) → Options → List Epoch → Type 0
+HasRoom guest options epochs = length (journal_of guest (records_of epochs)) ≤ options.room
+
 -- on a disk that was empty, the journal has the run, and its whole output was sent
 pub record IsRecorded (guest : List ℕ) (epochs : List Epoch) (output : List ℕ) (before after : History) : Type 0 where
   pub empty : before.disk ≡ []
@@ -103,26 +107,27 @@ reported r = report_of r.epochs r.end r.output
 abbrev pub HasNoRoom : (guest : List ℕ) → (start : State) → Options → (end need : ℕ) → Option History → Option History → Type 0
 HasNoRoom guest start options end need before after =
     ((end ≡ 0) × (need ≡ 10 + length guest) × (options.room < need) × IfKnown IsUntouched before after)
-    ⊎ ((r : Run options start) × (has_ended r.end.end ≡ false) × (r.end.steps < options.limit)
+    ⊎ ((r : Run options start) × (has_ended r.end.end ≡ false) × (r.end.steps < options.limit) × HasRoom guest options r.epochs
     × (next : Epoch) × (there : State) × (output : List ℕ) × IsNext options r.end next there output
     × (end ≡ length (journal_of guest (records_of r.epochs))) × (need ≡ length (frame (epoch_body next))) × (options.room < end + need)
     × IfKnown (IsRecorded guest r.epochs r.output) before after)
 
 abbrev pub Recorded : (guest : List ℕ) → (start : State) → Options → Option History → Option History → Result Report RecordFault → Type 0
 Recorded guest start options before after (Ok report) =
-    (r : Run options start) × (has_ended r.end.end ≡ true) × (report ≡ reported r)
+    (r : Run options start) × (has_ended r.end.end ≡ true) × (report ≡ reported r) × HasRoom guest options r.epochs
     × IfKnown (IsReported guest r.epochs r.output (report_line report)) before after
 Recorded guest start options before after (Err (faults.StepLimit n)) =
-    (r : Run options start) × (has_ended r.end.end ≡ false) × (n ≡ r.end.steps) × (n ≡ options.limit)
+    (r : Run options start) × (has_ended r.end.end ≡ false) × (n ≡ r.end.steps) × (n ≡ options.limit) × HasRoom guest options r.epochs
     × IfKnown (IsRecorded guest r.epochs r.output) before after
 Recorded guest start options before after (Err (faults.JournalFull end need)) = HasNoRoom guest start options end need before after
 Recorded guest start options before after (Err faults.OutOfMemory) =
     IfKnown IsUntouched before after ⊎ ((r : Run options start) × ((has_ended r.end.end ≡ true) ⊎ ((has_ended r.end.end ≡ false) × (r.end.steps < options.limit)))
-    × IfKnown (IsRecorded guest r.epochs r.output) before after)
+    × HasRoom guest options r.epochs × IfKnown (IsRecorded guest r.epochs r.output) before after)
 Recorded guest start options before after (Err (faults.JournalInUse len)) = (0 < len) × IfKnown (IsInUse len) before after
 Recorded guest start options before after (Err faults.DiskFault) =
-    (r : Run options start) × IfKnown (IsInterrupted guest r.epochs r.output) before after
+    (r : Run options start) × ((r.epochs ≡ []) ⊎ HasRoom guest options r.epochs) × IfKnown (IsInterrupted guest r.epochs r.output) before after
 Recorded guest start options before after (Err faults.OutputFault) =
     ((r : Run options start) × (last : Epoch) × (there : State) × (output : List ℕ) × IsNext options r.end last there output
-    × IfKnown (IsPartlySent guest r.epochs last r.output output) before after)
-    ⊎ ((r : Run options start) × (has_ended r.end.end ≡ true) × IfKnown (IsPartlyReported guest r.epochs r.output (report_line (reported r))) before after)
+    × HasRoom guest options (r.epochs ++ last ∷ []) × IfKnown (IsPartlySent guest r.epochs last r.output output) before after)
+    ⊎ ((r : Run options start) × (has_ended r.end.end ≡ true) × HasRoom guest options r.epochs
+    × IfKnown (IsPartlyReported guest r.epochs r.output (report_line (reported r))) before after)

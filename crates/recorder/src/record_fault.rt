@@ -10,7 +10,8 @@ use epoch_journal::BeginFault;
 /// Why a recording stopped before the guest's end. What is committed stays committed.
 #[derive(Clone, Copy, Debug, PartialEq, Eq)]
 pub enum RecordFault {
-    /// The disk failed. The journal has the epochs whose output was sent, and at most the one that was being written.
+    /// The disk failed. What was synced begins with the journal of the epochs whose output was sent, whole, and nothing of a
+    /// later epoch was sent.
     DiskFault,
     /// The output failed. The journal has the epoch whose output was being sent, and a prefix of that output was sent; or the
     /// guest has ended, its whole output was sent, and a prefix of the report's line was.

@@ -1,5 +1,4 @@
-use Rattle.std.proofs.Common.{Option, Err, refl, ap, subst}
-use Rattle.disk_model.specs.History.{History}
+use Rattle.std.proofs.Common.{Err, refl, ap}
 use Rattle.guest_kernel.specs.declared.state.State.{State}
 use Rattle.recorder.specs.declared.record_fault.RecordFault.TheVariants as faults
 use Rattle.dp_top.proofs.Statuses.{not_attached}

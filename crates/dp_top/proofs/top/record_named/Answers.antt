@@ -1,5 +1,3 @@
-use Rattle.std.proofs.Common.{Err, sym, ap, subst, refl}
-use Rattle.guest_kernel.specs.Image.{IsGuestFile}
 use Rattle.dp_top.proofs.Statuses.{came_by}
 use Rattle.dp_top.proofs.top.record_named.Goals as goal
 

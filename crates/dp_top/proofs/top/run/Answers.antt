@@ -1,6 +1,5 @@
-use Rattle.std.proofs.Common.{arith}
-use Rattle.disk_model.specs.Counts.{Rose}
-use Rattle.dp_top.proofs.Statuses.{complete, rose_before, rose_same}
+use Rattle.std.specs.Prelude.{is_ok}
+use Rattle.dp_top.proofs.Statuses.{complete, err_where_not_ok, rose_before, rose_same}
 use Rattle.dp_top.proofs.top.run.Goals as goal
 
 pub returns-clause-complete : goal.returns-clause-complete
@@ -10,3 +9,16 @@ returns-clause-complete g c = λ asked names empty file disk sink.
     (λ is. file (did.guest_fault is))
     (λ is. disk (rose_same _ _ _ c.emit_fault.ensures.disk (did.disk_fault is)))
     (λ is. sink (rose_before _ _ _ did.sink_count c.emit_fault.ensures.count (did.output_fault is)))
+
+pub returns-clause-ran : goal.returns-clause-ran
+returns-clause-ran g c =
+    let did = c.do_command-world.ensures in
+    let told = c.emit_fault.ensures in (
+      is_ok c.emit_fault.result,
+      _,
+      (_, did.did, told.history),
+      did.sink_count,
+      told.count,
+      did.output_fault,
+      λ cut. told.cause (err_where_not_ok c.emit_fault.result cut),
+    )
