@@ -28,7 +28,7 @@ pub fn a_turn_keeps_a_state_encodable()
         turn s tid log ≡ Ok after → after.state.steps < 2 ^ 64 → IsEncodable (without_reservation after.state tid) }
 {}
 
-/// A run of slices from a state that has an encoding ends in one.
+/// A run of slices from a state that has an encoding ends in one, if it has fewer than 2^64 steps.
 pub fn a_run_keeps_a_state_encodable()
     ensures { (s : State) (slices : List Slice) (log : List Answer) (there : After) → IsEncodable s →
         run slices (at s [] log) ≡ Ok there → there.state.steps < 2 ^ 64 → IsEncodable there.state }
@@ -36,7 +36,7 @@ pub fn a_run_keeps_a_state_encodable()
     guest_kernel::laws::a_turn_is_one_step();
 }
 
-/// A chain of epochs from a state that has an encoding ends in one.
+/// A chain of epochs from a state that has an encoding ends in one, if it has fewer than 2^64 steps.
 pub fn a_chain_keeps_a_state_encodable()
     ensures { (s : State) (epochs : List Epoch) (end : State) (output : List ℕ) → IsEncodable s →
         chain s epochs ≡ Ok (end, output) → end.steps < 2 ^ 64 → IsEncodable end }

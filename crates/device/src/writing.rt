@@ -5,7 +5,8 @@ ghost use Rattle.device.specs.Writing.{IsWrittenThrough};
 
 use disk_model::{Failed, World};
 
-/// Writes bytes from offset `at` on, and waits until they are on the disk.
+/// Writes bytes from offset `at` on, and waits until they are on the disk. What the disk has then is known for an offset up to
+/// its length.
 ///
 /// # Errors
 ///

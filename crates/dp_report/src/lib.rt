@@ -6,7 +6,7 @@
 //! and `hex` for digits.
 //!
 //! ```text
-//! let text = line(alloc, &report)?;                 // epochs 9 squashes 0 steps 9 sent 3 end exit 0 state 6e34..
+//! let text = line(alloc, &report)?;                 // epochs 9 squashes 0 steps 9 sent 3 end exit 0 state 5e7e..
 //! send_all(&mut world, Stream::Note, &text)?;
 //! emit_fault(&mut world, &status)?;                 // dpcli: journal device failed
 //! ExitCode::from(status.number())

@@ -34,8 +34,8 @@ impl From<AllocError> for WordsFault {
 ///
 /// # Errors
 ///
-/// `Usage` if the command line doesn't take the words: an unknown word, one too many or too few, a number out of its form
-/// or range, and a call for help or the version. `OutOfMemory` if an allocation fails.
+/// `Usage` only if the command line doesn't take the words (`are_taken`): an unknown word, one too many or too few, a number
+/// out of its form or range, and a call for help or the version. `OutOfMemory` if an allocation fails.
 pub fn parse(alloc: Global, words: &[String]) -> Result<Command, WordsFault>
     ensures taken { IfOk result (λ _. are_taken words.now ≡ true) }
     ensures command { IfOk result (λ command. command_of words.now ≡ Some command) }

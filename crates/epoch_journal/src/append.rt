@@ -13,7 +13,8 @@ use journal_text::Frame;
 /// Why a record was not appended.
 #[derive(Clone, Copy, Debug, PartialEq, Eq)]
 pub enum AppendFault {
-    /// The disk failed. The record may be in the journal or not; each further append answers `Failed`.
+    /// The disk failed. What was synced begins with the journal as it was, and the record may be behind it or not; each further
+    /// append answers `Failed`.
     DiskFault,
     /// The record ends past the room, and nothing was written: the journal's end, and the frame's length.
     Full { end: u64, need: u64 },

@@ -49,8 +49,8 @@ pub fn appending()
         ≡ Some (ending guest (records ++ r ∷ []) (place + length (record_bytes r))) }
 {}
 
-/// What is left of a journal that is cut somewhere reads as no journal, or as the first of its records, and ends as a journal
-/// does.
+/// What is left of a journal without a bad record that is cut somewhere reads as no journal, or as the first of its records,
+/// and ends as a journal does.
 pub fn cutting()
     ensures { (bytes guest : List ℕ) (records : List Record) (place n : ℕ) → AreBytes bytes →
         reads bytes ≡ Some (ending guest records place) →

@@ -2,8 +2,8 @@
 //! `specs/Reading.antt`).
 //!
 //! Promises: `header` and `next_record` answer exactly as the definitions say, and take no memory; a file reads as its parts
-//! and as nothing else; what is appended to a journal is read behind what was there; what is left of a journal that is cut
-//! reads as no journal, or as its first records (`laws`). Stands on `dp_base` and `guest_state`.
+//! and as nothing else; of a journal without a bad record, what is appended is read behind what was there, and what is left
+//! of it when it is cut reads as no journal, or as its first records (`laws`). Stands on `dp_base` and `guest_state`.
 //!
 //! ```text
 //! let Head::Whole { guest_len } = header(file) else { return };
