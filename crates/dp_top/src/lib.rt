@@ -27,6 +27,8 @@ mod journal_tests;
 #[cfg(test)]
 mod lower_tests;
 #[cfg(test)]
+mod record_tests;
+#[cfg(test)]
 mod recording_tests;
 #[cfg(test)]
 mod tests;

@@ -20,7 +20,7 @@ fn lists_given_back(rt: HostRuntime) -> Result<(), Fail> {
     Ok(())
 }
 
-fn started(alloc: Global, file: &[u8]) -> Result<State, Fail>
+pub fn started(alloc: Global, file: &[u8]) -> Result<State, Fail>
     ensures { IfOk result IsEncodable }
 {
     guest_kernel::laws::an_image_starts_as_its_file();
