@@ -5,3 +5,4 @@ mod SliceRuns
 mod TurnTaken
 mod Lone
 mod Joining
+mod RunBounds

@@ -31,7 +31,7 @@ bytes_are_short : (count : ℕ) (bytes : Option (List ℕ)) → count ≤ MAX_CA
 bytes_are_short count None few known = omega arith
 bytes_are_short count (Some bytes) few known = omega (arith, known bytes refl)
 
-written_is_short : (memory : Memory) (fd addr len : ℕ) → IsShort (written memory fd addr len)
+pub written_is_short : (memory : Memory) (fd addr len : ℕ) → IsShort (written memory fd addr len)
 written_is_short memory fd addr len =
     cond_both (not (fd == 1)) _ _ IsShort (λ _. omega arith)
     (λ _. cond_both (len == 0) _ _ IsShort (λ _. omega arith)

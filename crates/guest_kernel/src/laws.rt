@@ -1,12 +1,12 @@
 //! What follows from the definitions alone. Each function's contract is a law over all guests, states, slices and
 //! logs; a call of it costs nothing and hands the law to the caller's proof.
 
-ghost use Rattle.std.specs.Prelude.{◌≡◌, ◌+◌, ◌≤◌, ◌++◌, ℕ, List, [], ◌∷◌, length, true, false, Ok, Err};
+ghost use Rattle.std.specs.Prelude.{◌≡◌, ◌+◌, ◌*◌, ◌≤◌, ◌++◌, ℕ, List, [], ◌∷◌, length, true, false, Ok, Err};
 ghost use Rattle.dp_base.specs.declared.answer.Answer.{Answer};
 ghost use Rattle.dp_base.specs.declared.limits.TheConstants.{MAX_CALL_BYTES};
 ghost use Rattle.dp_base.specs.declared.slice.Slice.{Slice};
 ghost use Rattle.dp_base.specs.declared.tid.Tid.{Tid};
-ghost use Rattle.dp_base.specs.Journal.{Epoch};
+ghost use Rattle.dp_base.specs.Journal.{Epoch, steps_of};
 ghost use Rattle.guest_state.specs.declared.hart.Hart.{Hart};
 ghost use Rattle.guest_kernel.specs.declared.image.Image.{Image};
 ghost use Rattle.guest_kernel.specs.declared.state.State.{State};
@@ -33,10 +33,30 @@ pub fn a_turn_is_one_step()
         turn s tid log ≡ Err why → state_after s (turn s tid log) ≡ s }
 {}
 
+/// A turn reads and writes at most 4,096 bytes.
+pub fn a_turn_reads_and_writes_little()
+    ensures reads { (s : State) (tid : Tid) (log : List Answer) (after : After) →
+        turn s tid log ≡ Ok after → after.state.input ≤ s.input + MAX_CALL_BYTES }
+    ensures writes { (s : State) (tid : Tid) (log : List Answer) (after : After) →
+        turn s tid log ≡ Ok after → length after.output ≤ MAX_CALL_BYTES }
+{}
+
 /// A guest that has ended has no turn.
 pub fn an_ended_guest_has_no_turn()
     ensures { (s : State) (tid : Tid) (log : List Answer) →
         has_ended s.end ≡ true → turn s tid log ≡ Err not_runnable }
+{}
+
+/// A run takes as many steps as its slices have, uses its answers up, and reads and writes at most 4,096 bytes a step.
+pub fn a_run_is_as_long_as_its_slices()
+    ensures counts { (s : State) (slices : List Slice) (log : List Answer) (there : After) →
+        run slices (at s [] log) ≡ Ok there → there.state.steps ≡ s.steps + steps_of slices }
+    ensures used { (s : State) (slices : List Slice) (log : List Answer) (there : After) →
+        run slices (at s [] log) ≡ Ok there → there.rest ≡ [] }
+    ensures reads { (s : State) (slices : List Slice) (log : List Answer) (there : After) →
+        run slices (at s [] log) ≡ Ok there → there.state.input ≤ s.input + MAX_CALL_BYTES * steps_of slices }
+    ensures writes { (s : State) (slices : List Slice) (log : List Answer) (there : After) →
+        run slices (at s [] log) ≡ Ok there → length there.output ≤ MAX_CALL_BYTES * steps_of slices }
 {}
 
 /// Running slices and then others, each with a log of its own, is running all of them with both logs.

@@ -2,7 +2,8 @@
 //!
 //! Promises: `load` accepts exactly the files of the definition (`specs/Image.antt`), `start` makes their start
 //! state, and each turn and each run of slices is the one of the definitions (`specs/Turn.antt`,
-//! `specs/Slices.antt`); `laws` says what follows from the definitions alone. Stands on `dp_base`.
+//! `specs/Slices.antt`); `laws` says what follows from the definitions alone. Stands on `dp_base` and
+//! `guest_state`.
 //!
 //! ```text
 //! let image = load(alloc, file)?;
