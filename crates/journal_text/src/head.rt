@@ -9,6 +9,7 @@ use dp_base::field::{read_bytes, read_u8, read_u32};
 use dp_base::journal::OPEN_GATE;
 
 /// What stands at the start of a file.
+#[derive(Clone, Copy, Debug, PartialEq, Eq)]
 pub enum Head {
     /// A journal's header, with a guest of so many bytes.
     Whole { guest_len: u32 },

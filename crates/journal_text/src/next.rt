@@ -15,6 +15,7 @@ use guest_state::is_checkpoint;
 pub const MARK_KIND: u8 = 1;
 
 /// What stands at a record's gate.
+#[derive(Clone, Copy, Debug, PartialEq, Eq)]
 pub enum Rec<'a> {
     /// An epoch: the whole body of its record, and the place of the next gate.
     Epoch { body: &'a [u8], next: u64 },

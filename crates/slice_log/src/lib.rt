@@ -1,4 +1,4 @@
-//! The slices of an epoch as a list: appended one by one while the epoch runs, and taken one by one while it is replayed.
+//! The slices of an epoch as a list: appended one by one while the epoch runs, and read back as a slice or one by one.
 //!
 //! Promises: a `SliceLog` is the list of what was put into it, in order. Stands on `dp_base`.
 //!

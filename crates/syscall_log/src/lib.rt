@@ -1,5 +1,5 @@
-//! The answers to an epoch's calls as a list: appended one by one while the epoch runs, and taken one by one while it is
-//! replayed.
+//! The answers to an epoch's calls as a list: appended one by one while the epoch runs, and read back as a slice or one by
+//! one.
 //!
 //! Promises: an `AnswerLog` is the list of what was put into it, in order. Stands on `dp_base`.
 //!
