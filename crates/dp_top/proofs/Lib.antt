@@ -1,1 +1,3 @@
 pub mod Statuses
+mod Halves
+mod Replays

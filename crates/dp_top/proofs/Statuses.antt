@@ -3,7 +3,7 @@ use Rattle.std.proofs.Common.{◌≡◌, ◌<◌, ◌≤◌, inl, inr, arith, �
 use Rattle.std.proofs.lemmas.Bool.{cases_lt}
 use Rattle.std.proofs.lemmas.List.{append-nil}
 use Rattle.std.proofs.lemmas.Option.{same_Some}
-use Rattle.std.specs.Prelude.{false, is_ok, IsErr}
+use Rattle.std.specs.Prelude.{Bool, true, false, is_ok, IsErr}
 use Rattle.std.specs.declared.alloc.Global.{Global}
 use Rattle.disk_model.specs.Counts.{Rose}
 use Rattle.disk_model.specs.declared.files.TheConstants.{MAX_FETCH_BYTES}
@@ -25,7 +25,7 @@ use Rattle.dp_report.specs.declared.status.Status.TheVariants as statuses
 use Rattle.dp_words.specs.declared.command.Command.{Command}
 use Rattle.dp_words.specs.declared.command.Command.TheVariants.{Record, Replay}
 use Rattle.dp_top.specs.Answer.{status_of}
-use Rattle.dp_top.specs.Asking.{Asked}
+use Rattle.dp_top.specs.Asking.{Asked, AskedReplay}
 use Rattle.dp_top.specs.Running.{RecordedAs, CameTo, Did, NamesGuest, IsKnownEmpty, IsNoFault}
 
 pub of_answer : (name : List ℕ) (options : Options) (files : Option (List File)) (before after : Option History) (answer : Result Report RecordFault) → RecordedAs name options files before after answer → CameTo name options files before after (status_of answer)
@@ -70,6 +70,15 @@ guest_named None = []
 same_name : (words : List (String Global)) (a b : Asked words) → a.guest ≡ b.guest
 same_name words a b = ap guest_named (sym a.said ∙ b.said)
 
+abbrev asks_to_record : Option Command → Bool
+asks_to_record (Some (Record guest journal workers epoch slice ahead mark limit)) = true
+asks_to_record (Some (Replay journal workers)) = false
+asks_to_record None = false
+
+-- words ask for one command
+pub not_both : (words : List (String Global)) → Asked words → AskedReplay words → ⊥
+not_both words record_ replay = let same : true ≡ false = ap asks_to_record (sym record_.said ∙ replay.said) in cc
+
 -- a name has one file
 same_guest : (files : Option (List File)) (name bytes : List ℕ) → NamesGuest name files → IsFetched files name bytes → IsGuestFile bytes
 same_guest None name bytes names fetched = absurd names
@@ -102,10 +111,11 @@ complete_by name options files before there (statuses.BadMark number) came names
 
 pub complete : (words : List (String Global)) (files : Option (List File)) (before there : Option History) (status : Status) → Did words files before there status → (asked : Asked words) → NamesGuest asked.guest files → IsKnownEmpty before
     → (status ≡ statuses.GuestFault → ⊥) → (status ≡ statuses.DiskFault → ⊥) → (status ≡ statuses.OutputFault → ⊥) → IsNoFault status
-complete words files before there status (inl refused) asked names empty file disk sink = absurd (refused.1 asked)
+complete words files before there status (inl refused) asked names empty file disk sink = absurd (let not_taken = refused.1 in let taken = asked.taken in cc)
 complete words files before there status (inr (inl memory)) asked names empty file disk sink = subst IsNoFault (sym memory.0) tt
-complete words files before there status (inr (inr did)) asked names empty file disk sink =
+complete words files before there status (inr (inr (inl did))) asked names empty file disk sink =
     complete_by did.0.guest did.0.options files before there status did.1 (subst (λ (n : List ℕ). NamesGuest n files) (same_name words asked did.0) names) empty file disk sink
+complete words files before there status (inr (inr (inr did))) asked names empty file disk sink = absurd (not_both words asked did.0)
 
 -- a count that rose has risen later too
 pub rose_before : (a b c : ℕ) → a ≤ b → b ≤ c → Rose a b → Rose a c

@@ -1,11 +1,14 @@
--- The status of a recording's answer, a row for each. This project's own.
+-- The status of an answer, a row for each. This project's own.
 use Rattle.std.specs.Prelude.{Result, Ok, Err}
 use Rattle.dp_report.specs.declared.report.Report.{Report}
 use Rattle.recorder.specs.declared.record_fault.RecordFault.{RecordFault}
 use Rattle.recorder.specs.declared.record_fault.RecordFault.TheVariants as faults
+use Rattle.epoch_replay.specs.declared.replay_fault.ReplayFault.{ReplayFault}
+use Rattle.epoch_replay.specs.declared.replay_fault.ReplayFault.TheVariants as replays
 use Rattle.dp_report.specs.declared.status.Status.{Status}
 use Rattle.dp_report.specs.declared.status.Status.TheVariants as statuses
 
+-- of a recording
 abbrev pub status_of : Result Report RecordFault → Status
 status_of (Ok report) = statuses.Ok
 status_of (Err faults.DiskFault) = statuses.DiskFault
@@ -14,3 +17,15 @@ status_of (Err (faults.JournalInUse len)) = statuses.JournalInUse len
 status_of (Err (faults.StepLimit steps)) = statuses.StepLimit steps
 status_of (Err (faults.JournalFull end need)) = statuses.JournalFull end need
 status_of (Err faults.OutOfMemory) = statuses.OutOfMemory
+
+-- of a replay
+abbrev pub status_of_replay : Result Report ReplayFault → Status
+status_of_replay (Ok report) = statuses.Ok
+status_of_replay (Err replays.NoJournal) = statuses.NoJournal
+status_of_replay (Err (replays.BadImage fault)) = statuses.BadImage fault
+status_of_replay (Err (replays.BadJournal number)) = statuses.BadJournal number
+status_of_replay (Err (replays.BadEpoch number)) = statuses.BadEpoch number
+status_of_replay (Err (replays.BadMark number)) = statuses.BadMark number
+status_of_replay (Err replays.DiskFault) = statuses.DiskFault
+status_of_replay (Err replays.OutputFault) = statuses.OutputFault
+status_of_replay (Err replays.OutOfMemory) = statuses.OutOfMemory

@@ -4,7 +4,7 @@ use Rattle.std.specs.declared.alloc.Global.{Global}
 use Rattle.dp_base.specs.declared.limits.TheConstants.{MAX_JOURNAL_BYTES}
 use Rattle.dp_words.specs.Commands.{are_taken, command_of}
 use Rattle.dp_words.specs.declared.command.Command.{Command}
-use Rattle.dp_words.specs.declared.command.Command.TheVariants.{Record}
+use Rattle.dp_words.specs.declared.command.Command.TheVariants.{Record, Replay}
 use Rattle.recorder.specs.declared.options.Options.{Options}
 
 -- a recording of this guest into this journal with these options
@@ -19,3 +19,10 @@ pub record Asked (words : List (String Global)) : Type 0 where
   pub taken : are_taken words ≡ true
   pub said : command_of words ≡ Some (record_command guest journal options)
   pub room : options.room ≡ MAX_JOURNAL_BYTES
+
+-- the words ask for a replay of this journal
+pub record AskedReplay (words : List (String Global)) : Type 0 where
+  pub journal : List ℕ
+  pub workers : ℕ
+  pub taken : are_taken words ≡ true
+  pub said : command_of words ≡ Some (Replay journal workers)

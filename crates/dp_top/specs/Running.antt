@@ -1,11 +1,11 @@
 -- What a command comes to, by its status. This project's own.
-use Rattle.std.specs.Prelude.{◌≡◌, ◌⊎◌, ℕ, Bool, List, [], Option, Some, None, Result, Ok, Err, String}
+use Rattle.std.specs.Prelude.{◌≡◌, ◌⊎◌, ℕ, Bool, false, List, [], Option, Some, None, Result, Ok, Err, String}
 use Rattle.std.specs.declared.alloc.Global.{Global}
 use Rattle.device.specs.Sending.{Sent}
 use Rattle.disk_model.specs.declared.world.Stream.TheVariants.{Note}
 use Rattle.disk_model.specs.Directory.{File, IsFetched}
 use Rattle.disk_model.specs.History.{History}
-use Rattle.disk_model.specs.Known.{IfKnown}
+use Rattle.disk_model.specs.Known.{IfKnown, known_disk}
 use Rattle.dp_report.specs.declared.report.Report.{Report}
 use Rattle.dp_report.specs.declared.status.Status.{Status}
 use Rattle.dp_report.specs.declared.status.Status.TheVariants as statuses
@@ -16,7 +16,12 @@ use Rattle.recorder.specs.declared.options.Options.{Options}
 use Rattle.recorder.specs.declared.record_fault.RecordFault.{RecordFault}
 use Rattle.recorder.specs.declared.record_fault.RecordFault.TheVariants as faults
 use Rattle.recorder.specs.Recording.{Recorded}
-use Rattle.dp_top.specs.Asking.{Asked}
+use Rattle.dp_words.specs.Commands.{are_taken}
+use Rattle.epoch_replay.specs.declared.replay_fault.ReplayFault.{ReplayFault}
+use Rattle.epoch_replay.specs.Replaying.{OnDisk, Replayed}
+use Rattle.journal_text.specs.Reading.{reads}
+use Rattle.dp_top.specs.Answer.{status_of_replay}
+use Rattle.dp_top.specs.Asking.{Asked, AskedReplay}
 
 -- The file of this name is a guest, and its recording with these options came to this.
 pub record RecordedAs (name : List ℕ) (options : Options) (files : Option (List File)) (before after : Option History) (answer : Result Report RecordFault) : Type 0 where
@@ -44,12 +49,18 @@ CameTo name options files before after (statuses.BadEpoch number) = ⊥
 CameTo name options files before after statuses.NoJournal = ⊥
 CameTo name options files before after (statuses.BadMark number) = ⊥
 
--- the words ask for no recording, or for one that came to this
+-- What a replay command comes to, before its status is told on Note: a replay of the bytes that the disk reads as.
+abbrev pub ReplayedTo : Option History → Option History → Status → Type 0
+ReplayedTo before after status = (answer : Result Report ReplayFault) × (status ≡ status_of_replay answer)
+    × OnDisk (known_disk before) (λ bytes. Replayed (reads bytes) before after answer)
+
+-- the words aren't taken, or ask for a recording or for a replay that came to this
 abbrev pub Did : List (String Global) → Option (List File) → Option History → Option History → Status → Type 0
 Did words files before after status =
-    ((status ≡ statuses.Usage) × (Asked words → ⊥) × (after ≡ before))
+    ((status ≡ statuses.Usage) × (are_taken words ≡ false) × (after ≡ before))
     ⊎ ((status ≡ statuses.OutOfMemory) × (after ≡ before))
     ⊎ ((a : Asked words) × CameTo a.guest a.options files before after status)
+    ⊎ (AskedReplay words × ReplayedTo before after status)
 
 -- The command came to this, and then the status's line was sent on Note: all of it, or a prefix. At Ok it has no line: the
 -- report's has been sent by then.

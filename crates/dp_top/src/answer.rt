@@ -1,8 +1,9 @@
-// The status of a recording's answer.
+// The status of an answer.
 ghost use Rattle.std.specs.Prelude.{◌≡◌};
-ghost use Rattle.dp_top.specs.Answer.{status_of};
+ghost use Rattle.dp_top.specs.Answer.{status_of, status_of_replay};
 
 use dp_report::{Report, Status};
+use epoch_replay::ReplayFault;
 use recorder::RecordFault;
 
 /// The status of a recording's answer.
@@ -17,5 +18,22 @@ pub fn status_of_answer(answer: Result<Report, RecordFault>) -> Status
         Err(RecordFault::StepLimit(steps)) => Status::StepLimit(steps),
         Err(RecordFault::JournalFull { end, need }) => Status::JournalFull { end, need },
         Err(RecordFault::OutOfMemory) => Status::OutOfMemory,
+    }
+}
+
+/// The status of a replay's answer.
+pub fn status_of_replayed(answer: Result<Report, ReplayFault>) -> Status
+    ensures { result ≡ status_of_replay answer }
+{
+    match answer {
+        Ok(_) => Status::Ok,
+        Err(ReplayFault::NoJournal) => Status::NoJournal,
+        Err(ReplayFault::BadImage(fault)) => Status::BadImage(fault),
+        Err(ReplayFault::BadJournal(number)) => Status::BadJournal(number),
+        Err(ReplayFault::BadEpoch(number)) => Status::BadEpoch(number),
+        Err(ReplayFault::BadMark(number)) => Status::BadMark(number),
+        Err(ReplayFault::DiskFault) => Status::DiskFault,
+        Err(ReplayFault::OutputFault) => Status::OutputFault,
+        Err(ReplayFault::OutOfMemory) => Status::OutOfMemory,
     }
 }

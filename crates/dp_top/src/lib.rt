@@ -1,11 +1,12 @@
 //! The whole program as one call, `run`: from the words of a command and the world around it to a status.
 //!
-//! Promises (the contract of `run`): if it answers `Ok`, `StepLimit` or `JournalFull`, the disk reads as the journal of this
-//! guest with a chain of epochs from its start state, and what was sent is exactly that chain's output; after each other
-//! status what stands is named, and each comes only for its own cause. On Note goes the report's line at `Ok`, and else the
-//! status's line: all of it, or a prefix where the stream failed. Where the report's line was cut off, its prefix stands
-//! before the line of that status. Stands on `dp_words`, `recorder`, `dp_report`, `guest_kernel` and
-//! `disk_model`.
+//! Promises (the contract of `run`): if a recording answers `Ok`, `StepLimit` or `JournalFull`, the disk reads as the journal
+//! of this guest with a chain of epochs from its start state, and what was sent is exactly that chain's output. A replay
+//! answers what its journal plays to, sends exactly that output, and doesn't write the disk. After each other status what
+//! stands is named, and each comes only for its own cause. On Note goes the report's line at `Ok`, and else the status's line:
+//! all of it, or a prefix where the stream failed. Where the report's line was cut off, its prefix stands before the line of
+//! that status. The two halves meet in `laws`. Stands on `dp_words`, `recorder`, `epoch_replay`, `dp_report`, `guest_kernel`
+//! and `disk_model`.
 //!
 //! ```text
 //! let (world, status) = run(&rt, alloc, &words, &mut files, world);
@@ -14,7 +15,9 @@
 #![tactic(auto)]
 
 mod answer;
+pub mod laws;
 mod recording;
+mod replaying;
 mod top;
 
 pub use dp_report::Status;
@@ -30,6 +33,8 @@ mod lower_tests;
 mod record_tests;
 #[cfg(test)]
 mod recording_tests;
+#[cfg(test)]
+mod replay_tests;
 #[cfg(test)]
 mod tests;
 #[cfg(test)]

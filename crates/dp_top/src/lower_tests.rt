@@ -1,4 +1,4 @@
-// Public calls of the crates below that no other test runs yet.
+// Public calls of the crates below, by themselves.
 ghost use Rattle.std.specs.Prelude.{IfOk};
 ghost use Rattle.checkpoint.specs.State.{IsEncodable};
 

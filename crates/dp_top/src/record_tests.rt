@@ -24,19 +24,24 @@ fn seen(file: &[u8], at: u64) -> (Kind, u64, usize) {
     }
 }
 
+// How many bytes there are, as a journal has it.
+pub fn length_of(bytes: &[u8]) -> [u8; 4] {
+    let count = bytes.len().min(u32::MAX as usize) as u32;
+    u32::to_le_bytes(count)
+}
+
 // The body behind its open gate, and the closed gate.
 fn recorded(alloc: Global, body: &[u8]) -> Result<Vec<u8>, Fail> {
     let mut file = Vec::new(alloc);
     file.push(1)?;
-    let len = body.len().min(u32::MAX as usize) as u32;
-    file.extend_from_slice(&u32::to_le_bytes(len))?;
+    file.extend_from_slice(&length_of(body))?;
     file.extend_from_slice(body)?;
     file.push(0)?;
     Ok(file)
 }
 
-// The bytes with so many of them, from a place on, replaced.
-fn replaced(
+/// The bytes with so many of them, from a place on, replaced.
+pub fn replaced(
     alloc: Global,
     bytes: &[u8],
     at: usize,
@@ -69,9 +74,9 @@ fn is_mark(alloc: Global, body: &[u8], at: usize, count: usize, by: &[u8]) -> Re
     is_record(alloc, &replaced(alloc, body, at, count, by)?, Kind::Mark)
 }
 
-// A start state as a mark's body of 69,880 bytes.
-fn body_of_a_start(alloc: Global) -> Result<Vec<u8>, Fail> {
-    let state = started(alloc, &EXITS)?;
+/// The state in which a guest starts, as a mark's body of 69,880 bytes.
+pub fn body_of_a_start(alloc: Global, guest: &[u8]) -> Result<Vec<u8>, Fail> {
+    let state = started(alloc, guest)?;
     let encoding = encode(alloc, &state)?;
     let body = replaced(alloc, &encoding, 0, 0, b"\x01")?;
     if body.len() == 69_880 {
@@ -84,7 +89,7 @@ fn body_of_a_start(alloc: Global) -> Result<Vec<u8>, Fail> {
 // In each table a row is an offset in the body, how many bytes are replaced, by what, and whether it is a mark then.
 #[test]
 fn numbers_of_a_mark(rt: HostRuntime) -> Result<(), Fail> {
-    let body = body_of_a_start(rt.alloc())?;
+    let body = body_of_a_start(rt.alloc(), &EXITS)?;
     let cases: [(usize, usize, &[u8], bool); 11] = [
         // the kind
         (0, 1, b"\x01", true),
@@ -109,7 +114,7 @@ fn numbers_of_a_mark(rt: HostRuntime) -> Result<(), Fail> {
 
 #[test]
 fn end_and_threads_of_a_mark(rt: HostRuntime) -> Result<(), Fail> {
-    let body = body_of_a_start(rt.alloc())?;
+    let body = body_of_a_start(rt.alloc(), &EXITS)?;
     let cases: [(usize, usize, &[u8], bool); 12] = [
         // the end: each kind, and one past; a trap of threads 0, 1 and 2, and of causes 0, 7 and 8
         (25, 1, b"\x01\xff\xff\xff\xff", true),
@@ -134,7 +139,7 @@ fn end_and_threads_of_a_mark(rt: HostRuntime) -> Result<(), Fail> {
 
 #[test]
 fn pages_of_a_mark(rt: HostRuntime) -> Result<(), Fail> {
-    let body = body_of_a_start(rt.alloc())?;
+    let body = body_of_a_start(rt.alloc(), &EXITS)?;
     let cases: [(usize, usize, &[u8], bool); 12] = [
         // none, one more than there are, and one fewer
         (161, 69_719, b"\x00\x00", true),

@@ -94,8 +94,8 @@ fn letters(alloc: Global, calls: &[Call]) -> Result<String, Fail> {
     Ok(text)
 }
 
-// The call with this number fails.
-fn at(alloc: Global, number: u64) -> Result<Fails, Fail> {
+/// The call with this number fails.
+pub fn at(alloc: Global, number: u64) -> Result<Fails, Fail> {
     Ok(Fails::At(CallNumbers::from_vec([number].to_vec(alloc)?)))
 }
 

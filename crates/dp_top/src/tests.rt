@@ -17,11 +17,15 @@ const BEHIND_GUEST: [u8; 21] = [
 
 const RECORD: [&str; 4] = ["dpcli", "record", "g", "j"];
 
+/// The report's line of the guest of three steps, which is run as one epoch.
+pub const NOTE_OF_EXITS: &[u8] =
+    b"epochs 1 squashes 0 steps 3 sent 0 end exit 7 state 7721bc1cff3d699bd42bce08f27668ac407481c96f7b1c17878d62bfbd540ce7\n";
+
 const USAGE: &[u8] =
     b"usage: dpcli record GUEST JOURNAL [options], replay JOURNAL [--workers N], inspect JOURNAL, selftest N\n";
 
-// What a run with these words comes to, where `g` is this guest and the world has this disk.
-fn ran(
+/// What a run with these words comes to, where `g` is this guest and the world has this disk.
+pub fn ran(
     rt: &HostRuntime,
     words: &[&str],
     guest: &[u8],
@@ -42,6 +46,14 @@ fn ran(
     Ok(run(rt, alloc, &texts, &mut files, world))
 }
 
+/// The journal of `EXITS` that has one epoch, of 126 bytes.
+pub fn journal_of_exits(alloc: Global) -> Result<Vec<u8>, Fail> {
+    let mut journal = BEFORE_GUEST.to_vec(alloc)?;
+    journal.extend_from_slice(&EXITS)?;
+    journal.extend_from_slice(&BEHIND_GUEST)?;
+    Ok(journal)
+}
+
 fn world(alloc: Global, disk: Fails, sink: Fails) -> Result<MemWorld, Fail> {
     Ok(MemWorld::new(alloc, disk, sink, 4096)?)
 }
@@ -53,15 +65,11 @@ fn a_journal_and_its_note(rt: HostRuntime) -> Result<(), Fail> {
     let empty = world(alloc, Fails::Never, Fails::Never)?;
     let (after, status) = ran(&rt, &RECORD, &EXITS, Fails::Never, empty)?;
     assert_eq!(rt; (status, status.number()), (Status::Ok, 0));
-    let mut journal = BEFORE_GUEST.to_vec(alloc)?;
-    journal.extend_from_slice(&EXITS)?;
-    journal.extend_from_slice(&BEHIND_GUEST)?;
+    let journal = journal_of_exits(alloc)?;
     assert_eq!(rt; journal.len(), 126);
     assert_eq!(rt; after.bytes(), journal.as_slice());
     assert_eq!(rt; after.sent(Stream::Out).len(), 0);
-    let note: &[u8] =
-        b"epochs 1 squashes 0 steps 3 sent 0 end exit 7 state 7721bc1cff3d699bd42bce08f27668ac407481c96f7b1c17878d62bfbd540ce7\n";
-    assert_eq!(rt; after.sent(Stream::Note), note);
+    assert_eq!(rt; after.sent(Stream::Note), NOTE_OF_EXITS);
     Ok(())
 }
 

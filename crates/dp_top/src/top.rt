@@ -1,13 +1,16 @@
 // The top call.
 ghost use Rattle.std.specs.Prelude.{◌≡◌, ◌≤◌, ◌⊎◌, ℕ, Bool, IfOk, IsErrOf, false};
 ghost use Rattle.disk_model.specs.Counts.{Rose};
+ghost use Rattle.disk_model.specs.Known.{known_disk};
+ghost use Rattle.epoch_replay.specs.Replaying.{IsKnownToEnd};
 ghost use Rattle.dp_words.specs.Commands.{are_taken};
 ghost use Rattle.guest_kernel.specs.Image.{IsGuestFile};
 ghost use Rattle.guest_kernel.specs.Start.{start_state};
-ghost use Rattle.dp_top.specs.Asking.{Asked};
+ghost use Rattle.dp_top.specs.Asking.{Asked, AskedReplay};
 ghost use Rattle.dp_top.specs.Running.{CameTo, Did, IsKnownEmpty, IsNoFault, NamesGuest, Ran};
 
 use crate::recording::record_guest;
+use crate::replaying::replay_journal;
 use disk_model::{FetchFault, Files, World};
 use dp_base::limits::MAX_JOURNAL_BYTES;
 use dp_report::{Status, emit_fault};
@@ -16,13 +19,15 @@ use guest_kernel::{ImageFault, State, laws, load, start};
 use recorder::Options;
 use std::alloc::Global;
 
-/// Does what the words say: `NAME record GUEST JOURNAL` with its options records the guest whose file GUEST names into the
-/// journal JOURNAL of the world, which is made if there is none, and sends the guest's output on Out. On Note it sends the
-/// report's line at `Ok`, and the status's line else. The world comes back whatever happens.
+/// Does what the words say. `NAME record GUEST JOURNAL` with its options records the guest whose file GUEST names into the
+/// journal JOURNAL of the world, which is made if there is none, and sends the guest's output on Out. `NAME replay JOURNAL`
+/// replays the journal, which isn't written, and sends the output of its epochs on Out. On Note goes the report's line at
+/// `Ok`, and the status's line else. The world comes back whatever happens.
 ///
-/// The words are looked at first, then the guest's file, then its image, and then the disk: after `Usage`, `GuestFault` and
-/// `BadImage` the disk is as it was, and has met no fault. Words of another command answer `Usage`. A status's line that
-/// can't be sent changes no status. The runtime `rt` is lent for what runs on threads; a recording of one thread needs none.
+/// The words are looked at first. For a recording then come the guest's file, its image, and the disk: after `Usage`,
+/// `GuestFault` and a recording's `BadImage` the disk is as it was, and has met no fault. For a replay then come the disk, the
+/// journal's guest and its records. A status's line that can't be sent changes no status. The runtime `rt` is lent for what
+/// runs on threads; nothing does yet.
 pub fn run<R, F: Files, W: World>(
     rt: &R,
     alloc: Global,
@@ -38,12 +43,13 @@ pub fn run<R, F: Files, W: World>(
         × (told ≡ false → Rose faults (W.sink_faults result.0)) }
 
     // When each refusal comes.
-    ensures usage { result.1 ≡ Status.Usage → Asked words.now → ⊥ }
+    ensures usage { result.1 ≡ Status.Usage → are_taken words.now ≡ false }
     ensures not_taken { are_taken words.now ≡ false → (result.1 ≡ Status.Usage) ⊎ (result.1 ≡ Status.OutOfMemory) }
     ensures guest_fault { result.1 ≡ Status.GuestFault → Rose (F.file_faults files.old) (F.file_faults files.new) }
     ensures disk_fault { result.1 ≡ Status.DiskFault → Rose (W.disk_faults world) (W.disk_faults result.0) }
     ensures output_fault { result.1 ≡ Status.OutputFault → Rose (W.sink_faults world) (W.sink_faults result.0) }
-    ensures no_disk_call { (result.1 ≡ Status.Usage) ⊎ (result.1 ≡ Status.GuestFault) ⊎ (result.1 ≡ Status.BadImage 0) →
+    ensures no_disk_call { (result.1 ≡ Status.Usage) ⊎ (result.1 ≡ Status.GuestFault)
+        ⊎ (Asked words.now × (result.1 ≡ Status.BadImage 0)) →
         W.disk_faults result.0 ≡ W.disk_faults world }
 
     ensures file_count { F.file_faults files.old ≤ F.file_faults files.new }
@@ -56,6 +62,12 @@ pub fn run<R, F: Files, W: World>(
         (Rose (F.file_faults files.old) (F.file_faults files.new) → ⊥) →
         (Rose (W.disk_faults world) (W.disk_faults result.0) → ⊥) →
         (Rose (W.sink_faults world) (W.sink_faults result.0) → ⊥) → IsNoFault result.1 }
+
+    // With a journal that plays to its end and no fault a replay answers Ok or OutOfMemory.
+    ensures complete_replay { AskedReplay words.now → IsKnownToEnd (known_disk (W.history world)) →
+        (Rose (W.disk_faults world) (W.disk_faults result.0) → ⊥) →
+        (Rose (W.sink_faults world) (W.sink_faults result.0) → ⊥) →
+        (result.1 ≡ Status.Ok) ⊎ (result.1 ≡ Status.OutOfMemory) }
 {
     let (mut world, status) = do_command(rt, alloc, words, files, world);
     let _ = emit_fault(&mut world, &status);
@@ -74,8 +86,12 @@ fn do_command<R, F: Files, W: World>(
     ensures guest_fault { result.1 ≡ Status.GuestFault → Rose (F.file_faults files.old) (F.file_faults files.new) }
     ensures disk_fault { result.1 ≡ Status.DiskFault → Rose (W.disk_faults world) (W.disk_faults result.0) }
     ensures output_fault { result.1 ≡ Status.OutputFault → Rose (W.sink_faults world) (W.sink_faults result.0) }
-    ensures no_call { (result.1 ≡ Status.Usage) ⊎ (result.1 ≡ Status.GuestFault) ⊎ (result.1 ≡ Status.BadImage 0) →
-        result.0 ≡ world }
+    ensures no_call { (result.1 ≡ Status.Usage) ⊎ (result.1 ≡ Status.GuestFault)
+        ⊎ (Asked words.now × (result.1 ≡ Status.BadImage 0)) → result.0 ≡ world }
+    ensures complete_replay { AskedReplay words.now → IsKnownToEnd (known_disk (W.history world)) →
+        (Rose (W.disk_faults world) (W.disk_faults result.0) → ⊥) →
+        (Rose (W.sink_faults world) (W.sink_faults result.0) → ⊥) →
+        (result.1 ≡ Status.Ok) ⊎ (result.1 ≡ Status.OutOfMemory) }
     ensures file_count { F.file_faults files.old ≤ F.file_faults files.new }
     ensures disk_count { W.disk_faults world ≤ W.disk_faults result.0 }
     ensures sink_count { W.sink_faults world ≤ W.sink_faults result.0 }
@@ -112,7 +128,9 @@ fn do_command<R, F: Files, W: World>(
                 options,
             )
         }
-        Ok(Command::Replay { .. }) => (world, Status::Usage),
+        Ok(Command::Replay { journal, workers }) => {
+            replay_journal(rt, alloc, world, journal.as_str(), workers)
+        }
         Err(WordsFault::Usage) => (world, Status::Usage),
         Err(WordsFault::OutOfMemory) => (world, Status::OutOfMemory),
     }

@@ -1,5 +1,5 @@
-use Rattle.std.proofs.Common.{Some, inr, refl, ◌∙◌, ap}
-use Rattle.dp_top.specs.Asking.{Asked}
+use Rattle.std.proofs.Common.{Some, inl, inr, refl, ◌∙◌, ap}
+use Rattle.dp_top.specs.Asking.{Asked, AskedReplay}
 use Rattle.dp_top.proofs.top.do_command.Goals as goal
 
 pub returns-in-Ok-Record-clause-did : goal.returns-in-Ok-Record-clause-did
@@ -29,4 +29,15 @@ returns-in-Ok-Record-clause-did g c =
       said = w.ensures.command ∙ ap Some w.field-0-is;
       room = refl;
     } in
-    inr (inr (asked, rw c.as_str.ensures at c.record_named.ensures.came))
+    inr (inr (inl (asked, rw c.as_str.ensures at c.record_named.ensures.came)))
+
+pub returns-in-Ok-Replay-clause-did : goal.returns-in-Ok-Replay-clause-did
+returns-in-Ok-Replay-clause-did g c =
+    let w = c.in-Ok-Replay in
+    let asked : AskedReplay c.args.words.now = record {
+      journal = w.journal;
+      workers = w.workers;
+      taken = w.ensures.taken;
+      said = w.ensures.command ∙ ap Some w.field-0-is;
+    } in
+    inr (inr (inr (asked, c.replay_journal.ensures.replayed)))

@@ -1,0 +1,96 @@
+-- What a recording leaves plays to what it was.
+use Rattle.std.proofs.Common.{◌≡◌, inr, ℕ, ◌+◌, ◌-◌, ◌≤◌, List, [], ◌∷◌, ◌++◌, length, Option, Some, Result, Ok, Err, refl, sym, ap, subst, ◌∙◌, arith}
+use Rattle.std.specs.List.{AllByRecursion}
+use Rattle.std.proofs.lemmas.Option.{same_Some}
+use Rattle.checkpoint.specs.State.{digest_of}
+use Rattle.dp_base.specs.declared.limits.TheConstants.{MAX_JOURNAL_BYTES}
+use Rattle.dp_base.specs.Field.{AreBytes}
+use Rattle.dp_base.specs.Journal.{Epoch, IsGuest}
+use Rattle.disk_model.specs.History.{History}
+use Rattle.dp_report.specs.declared.report.Report.{Report}
+use Rattle.epoch_replay.specs.Play.{Played, Plays, Refusal, behind, play_from, play_of, played}
+use Rattle.epoch_replay.specs.Replaying.{Ends, epochs_of}
+use Rattle.guest_kernel.specs.declared.state.State.{State}
+use Rattle.guest_kernel.specs.Call.{After}
+use Rattle.guest_kernel.specs.Image.{IsGuestFile}
+use Rattle.guest_kernel.specs.Slices.{Stop, at, chain, either, onto, run}
+use Rattle.guest_kernel.specs.Start.{start_state}
+use Rattle.journal_text.specs.Reading.{Reading, Tail, end, ending, journal_of, reads}
+use Rattle.journal_text.specs.Records.{IsRecord, Record}
+use Rattle.recorder.specs.declared.options.Options.{Options}
+use Rattle.recorder.specs.Recording.{EachIsNext, HasRoom, Recorded, Run, records_of}
+
+-- ---- a chain of epochs plays as it runs
+
+abbrev made : Result State Refusal → List ℕ → Played
+made stop output = record { output = output; stop = stop }
+
+abbrev ended_as : Result (State × List ℕ) ℕ → Played → Type 0
+ended_as (Ok last) p = p ≡ made (Ok last.0) last.1
+ended_as (Err count) p = Unit {0}
+
+-- the epochs behind one
+behind_one : (r : Result (State × List ℕ) ℕ) (output : List ℕ) (p : Played) → ended_as r p → ended_as (either r (λ count. Err (count + 1)) (onto output)) (behind output p)
+behind_one (Ok last) output p is = ap (behind output) is
+behind_one (Err count) output p is = tt
+
+-- one in front of others
+in_front : (r : Result After (Stop × After)) (epochs : List Epoch) (number : ℕ) (tail : Tail) (wrong : Stop × After → Played)
+    → ((s : State) → ended_as (chain s epochs) (play_from s (number + 1) (records_of epochs) tail))
+    → ended_as (either r (λ stop. Err 0) (λ here. either (chain here.state epochs) (λ count. Err (count + 1)) (onto here.output)))
+    (either r wrong (λ here. behind here.output (play_from here.state (number + 1) (records_of epochs) tail)))
+in_front (Ok here) epochs number tail wrong others = behind_one (chain here.state epochs) here.output (play_from here.state (number + 1) (records_of epochs) tail) (others here.state)
+in_front (Err stop) epochs number tail wrong others = tt
+
+chain_plays : (epochs : List Epoch) (number place : ℕ) (s : State) → ended_as (chain s epochs) (play_from s number (records_of epochs) (end place))
+unfolding chain play_from
+chain_plays [] number place s = refl
+chain_plays (e ∷ epochs) number place s = in_front (run e.slices (at s [] e.answers)) epochs number (end place) _ (chain_plays epochs (number + 1) place)
+
+-- ---- a run's records
+
+are_records : (options : Options) (s : State) (epochs : List Epoch) → EachIsNext options s epochs → AllByRecursion IsRecord (records_of epochs)
+are_records options s [] each = tt
+are_records options s (e ∷ epochs) each = ((each.2.cut.is_epoch, each.2.cut.fits.1), are_records options each.0 epochs each.3)
+
+epochs_are : (epochs : List Epoch) → epochs_of (records_of epochs) ≡ epochs
+epochs_are [] = refl
+epochs_are (e ∷ epochs) = ap (λ (l : List Epoch). e ∷ l) (epochs_are epochs)
+
+abbrev AtRest : Type 0
+AtRest = (guest : List ℕ) (records : List Record) → IsGuest guest → AllByRecursion IsRecord records → length (journal_of guest records) ≤ MAX_JOURNAL_BYTES
+    → reads (journal_of guest records) ≡ Some (ending guest records (length (journal_of guest records) - 1))
+
+module _ (law : AtRest) (guest : List ℕ) (options : Options) (r : Run options (start_state guest)) (accepted : IsGuestFile guest) (fits : AreBytes guest) (room : HasRoom guest options r.epochs) where
+  abbrev place : ℕ
+  place = length (journal_of guest (records_of r.epochs)) - 1
+
+  reads_as : reads (journal_of guest (records_of r.epochs)) ≡ Some (ending guest (records_of r.epochs) place)
+  reads_as = law guest (records_of r.epochs) (omega (arith, accepted.not_long), fits) (are_records options (start_state guest) r.epochs r.each) (omega (arith, room, options.room_range))
+
+  plays_to : play_of (ending guest (records_of r.epochs) place) ≡ made (Ok r.end) r.output
+  plays_to = subst (λ (c : Result (State × List ℕ) ℕ). ended_as c (play_of (ending guest (records_of r.epochs) place))) r.chained (chain_plays r.epochs 1 place (start_state guest))
+
+  pub run_plays : Plays (reads (journal_of guest (records_of r.epochs))) (played (made (Ok r.end) r.output))
+  run_plays = subst (λ (q : Option Reading). Plays q (played (made (Ok r.end) r.output))) (sym reads_as) (inr (accepted, ap played (sym plays_to)))
+
+  pub run_ends : (report : Report) → report ≡ record { epochs = length r.epochs; squashes = 0; steps = r.end.steps; sent = length r.output; end = r.end.end; state = digest_of r.end }
+      → Ends (reads (journal_of guest (records_of r.epochs))) r.output (record report { squashes = 0 })
+  run_ends report is = record {
+    journal = ending guest (records_of r.epochs) place;
+    journal_is = reads_as;
+    state = r.end;
+    plays = run_plays;
+    reported = (let count = ap (λ (l : List Epoch). length l) (epochs_are r.epochs) in let report_is = is in cc);
+  }
+
+pub recording_plays : AtRest → (guest : List ℕ) (options : Options) (before after : History) (report : Report) → IsGuestFile guest → AreBytes guest
+    → Recorded guest (start_state guest) options (Some before) (Some after) (Ok report) → (output : List ℕ) × (after.sent ≡ before.sent ++ output) × Ends (reads after.disk) output (record report { squashes = 0 })
+recording_plays law guest options before after report accepted fits recorded =
+    let r = recorded.0 in
+    let k = recorded.4 in
+    let there_is : after ≡ k.0 = same_Some _ _ k.1 in (
+      r.output,
+      ap (λ (h : History). h.sent) there_is ∙ k.2.sent,
+      subst (λ (disk : List ℕ). Ends (reads disk) r.output (record report { squashes = 0 })) (sym (ap (λ (h : History). h.disk) there_is ∙ k.2.stands.disk)) (run_ends law guest options r accepted fits recorded.3 report recorded.2),
+    )

@@ -1,0 +1,336 @@
+-- A play so far, and how it goes on and stops.
+use Rattle.std.proofs.Common.{◌≡◌, inl, inr, ℕ, ◌+◌, ◌-◌, ◌*◌, ◌<◌, ◌≤◌, ◌^◌, Bool, true, false, cond, List, [], ◌∷◌, ◌++◌, length, take, drop, Option, Some, Result, Ok, Err, refl, sym, ap, subst, ◌∙◌, append_assoc, arith}
+use Rattle.std.specs.Prelude.{IsTrue}
+use Rattle.std.proofs.lemmas.List.{append-nil, length-append, take_all, take-append-drop}
+use Rattle.dp_base.specs.declared.answer.Answer.{Answer}
+use Rattle.dp_base.specs.declared.limits.TheConstants.{MAX_CALL_BYTES, MAX_EPOCH_STEPS, MAX_JOURNAL_BYTES}
+use Rattle.dp_base.specs.Journal.{Epoch, header_at, steps_of}
+use Rattle.disk_model.specs.History.{History}
+use Rattle.disk_model.specs.Known.{IfKnown}
+use Rattle.disk_model.proofs.Knowing.{known-map, known-same, known-then}
+use Rattle.disk_model.specs.declared.world.Stream.TheVariants.{Out, Note}
+use Rattle.device.specs.Sending.{Sent}
+use Rattle.guest_kernel.specs.declared.state.State.{State}
+use Rattle.guest_kernel.specs.Call.{After}
+use Rattle.guest_kernel.specs.Slices.{Stop, at, either, run}
+use Rattle.guest_state.specs.Checkpoint.{Checkpoint}
+use Rattle.checkpoint.specs.State.{IsEncodable, digest_of}
+use Rattle.dp_report.specs.declared.report.Report.{Report}
+use Rattle.dp_report.specs.Texts.{report_line}
+use Rattle.journal_text.specs.Reading.{Reading, Tail, first_bytes, reading_of, reads, tail_at}
+use Rattle.journal_text.specs.Records.{Next, Record, ended, bad, epoch, mark, list_from, next_at}
+use Rattle.epoch_replay.specs.declared.progress.Progress.{Progress}
+use Rattle.epoch_replay.specs.declared.replay_fault.ReplayFault.{ReplayFault}
+use Rattle.epoch_replay.specs.declared.replay_fault.ReplayFault.TheVariants as faults
+use Rattle.epoch_replay.specs.Play.{Played, Refusal, bad_epoch, bad_journal, bad_mark, behind, is_right, play_from, play_of, played, stopped}
+use Rattle.epoch_replay.specs.Playing.{GoesOn, IsAll, IsBounded, IsStart, SoFar, left_at}
+use Rattle.epoch_replay.specs.Replaying.{Ends, HasNotedSome, HasSent, HasSentSome, Refused, Replayed, epochs_of}
+
+-- ---- the definition, step by step
+
+epoch_step : (s : State) (number : ℕ) (e : Epoch) (others : List Record) (tail : Tail) (here : After) → run e.slices (at s [] e.answers) ≡ Ok here
+    → play_from s number (epoch e ∷ others) tail ≡ behind here.output (play_from here.state (number + 1) others tail)
+unfolding play_from
+epoch_step s number e others tail here ran =
+    ap (λ (r : Result After (Stop × After)). either r (λ stop. stopped (Err (bad_epoch number))) (λ there. behind there.output (play_from there.state (number + 1) others tail))) ran
+
+epoch_stops : (s : State) (number : ℕ) (e : Epoch) (others : List Record) (tail : Tail) (stop : Stop × After) → run e.slices (at s [] e.answers) ≡ Err stop
+    → play_from s number (epoch e ∷ others) tail ≡ stopped (Err (bad_epoch number))
+unfolding play_from
+epoch_stops s number e others tail stop ran =
+    ap (λ (r : Result After (Stop × After)). either r (λ stop. stopped (Err (bad_epoch number))) (λ there. behind there.output (play_from there.state (number + 1) others tail))) ran
+
+mark_step : (s : State) (number : ℕ) (c : Checkpoint) (others : List Record) (tail : Tail) → is_right c s ≡ true → play_from s number (mark c ∷ others) tail ≡ play_from s (number + 1) others tail
+unfolding play_from
+mark_step s number c others tail right = rw right refl
+
+mark_stops : (s : State) (number : ℕ) (c : Checkpoint) (others : List Record) (tail : Tail) → is_right c s ≡ false → play_from s number (mark c ∷ others) tail ≡ stopped (Err (bad_mark number))
+unfolding play_from
+mark_stops s number c others tail wrong = rw wrong refl
+
+all_played : (s : State) (number place count : ℕ) (next : Next) (tail : Tail) → tail ≡ tail_at next place count → next ≡ ended → play_from s number [] tail ≡ stopped (Ok s)
+unfolding play_from
+all_played s number place count next tail is no_more =
+    ap (λ (t : Tail). play_from s number [] t) (is ∙ ap (λ (n : Next). tail_at n place count) no_more)
+
+bad_here : (s : State) (number place count : ℕ) (next : Next) (tail : Tail) → tail ≡ tail_at next place count → next ≡ bad → play_from s number [] tail ≡ stopped (Err (bad_journal count))
+unfolding play_from
+bad_here s number place count next tail is malformed =
+    ap (λ (t : Tail). play_from s number [] t) (is ∙ ap (λ (n : Next). tail_at n place count) malformed)
+
+-- ---- what a play has behind an output
+
+abbrev made : Result State Refusal → List ℕ → Played
+made stop output = record { output = output; stop = stop }
+
+behind_stop : (output : List ℕ) (stop : Result State Refusal) → behind output (stopped stop) ≡ made stop output
+behind_stop output stop = ap (made stop) (append-nil output)
+
+behind_twice : (first second : List ℕ) (p : Played) → behind first (behind second p) ≡ behind (first ++ second) p
+behind_twice first second p = ap (made p.stop) (sym (append_assoc first second p.output))
+
+-- ---- what was sent
+
+sent_more : (output more : List ℕ) (first now later : Option History) → IfKnown (HasSent output []) first now → IfKnown (Sent Out more true) now later → IfKnown (HasSent (output ++ more) []) first later
+sent_more output more first now later so_far known = known-then _ _ _ _ _ _
+    (λ s t u r b.
+    record {
+      disk = b.1.disk ∙ r.disk;
+      pending = b.1.pending ∙ r.pending;
+      sent = b.1.grown ∙ ap (λ (l : List ℕ). l ++ take b.0 more) r.sent ∙ append_assoc s.sent output (take b.0 more) ∙ ap (λ (l : List ℕ). s.sent ++ (output ++ l)) (take_all b.0 more (b.2 refl));
+      noted = b.1.same ∙ r.noted;
+    })
+    so_far known
+
+-- a prefix of what is behind it was sent
+sent_some : (output more others all : List ℕ) (first now later : Option History) → all ≡ (output ++ more) ++ others → IfKnown (HasSent output []) first now → IfKnown (Sent Out more false) now later
+    → IfKnown (HasSentSome all) first later
+sent_some output more others all first now later is so_far known = known-then _ _ _ _ _ _
+    (λ s t u r b. (
+      output ++ take b.0 more,
+      (drop b.0 more ++ others, is ∙ split b.0),
+      record {
+        disk = b.1.disk ∙ r.disk;
+        pending = b.1.pending ∙ r.pending;
+        sent = b.1.grown ∙ ap (λ (l : List ℕ). l ++ take b.0 more) r.sent ∙ append_assoc s.sent output (take b.0 more);
+        noted = b.1.same ∙ r.noted;
+      },
+    ))
+    so_far known
+  where
+    split : (count : ℕ) → (output ++ more) ++ others ≡ (output ++ take count more) ++ (drop count more ++ others)
+    split count =
+        append_assoc output more others ∙ ap (λ (l : List ℕ). output ++ (l ++ others)) (sym (take-append-drop count more))
+        ∙ ap (λ (l : List ℕ). output ++ l) (append_assoc (take count more) (drop count more) others) ∙ sym (append_assoc output (take count more) (drop count more ++ others))
+
+noted_too : (output note : List ℕ) (first now later : Option History) → IfKnown (HasSent output []) first now → IfKnown (Sent Note note true) now later → IfKnown (HasSent output note) first later
+noted_too output note first now later so_far known = known-then _ _ _ _ _ _
+    (λ s t u r b.
+    record {
+      disk = b.1.disk ∙ r.disk;
+      pending = b.1.pending ∙ r.pending;
+      sent = b.1.same ∙ r.sent;
+      noted = b.1.grown ∙ ap (λ (l : List ℕ). l ++ take b.0 note) (r.noted ∙ append-nil s.noted) ∙ ap (λ (l : List ℕ). s.noted ++ l) (take_all b.0 note (b.2 refl));
+    })
+    so_far known
+
+noted_some : (output note : List ℕ) (first now later : Option History) → IfKnown (HasSent output []) first now → IfKnown (Sent Note note false) now later → IfKnown (HasNotedSome output note) first later
+noted_some output note first now later so_far known = known-then _ _ _ _ _ _
+    (λ s t u r b. (
+      b.0,
+      record {
+        disk = b.1.disk ∙ r.disk;
+        pending = b.1.pending ∙ r.pending;
+        sent = b.1.same ∙ r.sent;
+        noted = b.1.grown ∙ ap (λ (l : List ℕ). l ++ take b.0 note) (r.noted ∙ append-nil s.noted);
+      },
+    ))
+    so_far known
+
+-- ---- where a play is
+
+module _ (reading : Reading) (file : List ℕ) (first now : Option History) (p : Progress) (so_far : SoFar reading file first now p) where
+  -- what is left plays to this
+  plays_on : (q : Played) → play_from p.state p.number (left_at file p.at) reading.tail ≡ q → play_of reading ≡ behind so_far.output q
+  plays_on q is = so_far.plays ∙ ap (behind so_far.output) is
+
+  stops_here : (stop : Result State Refusal) → play_from p.state p.number (left_at file p.at) reading.tail ≡ stopped stop → play_of reading ≡ made stop so_far.output
+  stops_here stop is = plays_on (stopped stop) is ∙ behind_stop so_far.output stop
+
+  refused : (why : Refusal) → play_from p.state p.number (left_at file p.at) reading.tail ≡ stopped (Err why) → Refused (Some reading) why first now
+  refused why is = (so_far.output, inr (so_far.accepted, ap played (sym (stops_here (Err why) is))), so_far.history)
+
+  pub no_memory : Replayed (Some reading) first now (Err faults.OutOfMemory)
+  no_memory = inr (
+    play_of reading,
+    inr (so_far.accepted, refl),
+    known-map _ _ _ _
+        (λ s t r. (so_far.output, ((play_from p.state p.number (left_at file p.at) reading.tail).output, ap (λ (q : Played). q.output) so_far.plays), r))
+        so_far.history,
+  )
+
+  -- ---- no record is left
+
+  module _ (none : list_from (drop p.at file) ≡ ([], drop p.at file)) where
+    none_left : left_at file p.at ≡ []
+    none_left = ap (λ (l : List Record × List ℕ). l.0) none
+
+    tail_is : reading.tail ≡ tail_at (next_at (drop p.at file)) so_far.place p.number
+    tail_is = so_far.tail ∙ ap (λ (l : List Record × List ℕ). tail_at (next_at l.1) so_far.place (p.number + length l.0)) none ∙ ap (λ (n : ℕ). tail_at (next_at (drop p.at file)) so_far.place n) (omega arith)
+
+    pub all : next_at (drop p.at file) ≡ ended → IsAll reading first now p
+    all no_more = record {
+      accepted = so_far.accepted;
+      output = so_far.output;
+      plays = stops_here (Ok p.state)
+          (ap (λ (l : List Record). play_from p.state p.number l reading.tail) none_left ∙ all_played p.state p.number so_far.place p.number (next_at (drop p.at file)) reading.tail tail_is no_more);
+      epochs = omega (arith, so_far.epochs, ap (λ (l : List Record). length (epochs_of l)) none_left);
+      sent = so_far.sent;
+      history = so_far.history;
+    }
+
+    pub malformed : next_at (drop p.at file) ≡ bad → Replayed (Some reading) first now (Err (faults.BadJournal p.number))
+    malformed is = refused (bad_journal p.number)
+        (ap (λ (l : List Record). play_from p.state p.number l reading.tail) none_left ∙ bad_here p.state p.number so_far.place p.number (next_at (drop p.at file)) reading.tail tail_is is)
+
+  -- ---- a record is left, and the next one stands at this place
+
+  module _ (next : ℕ) (r : Record) (one : list_from (drop p.at file) ≡ (r ∷ (list_from (drop next file)).0, (list_from (drop next file)).1)) where
+    one_left : left_at file p.at ≡ r ∷ left_at file next
+    one_left = ap (λ (l : List Record × List ℕ). l.0) one
+
+    left_plays : (q : Played) → play_from p.state p.number (r ∷ left_at file next) reading.tail ≡ q → play_from p.state p.number (left_at file p.at) reading.tail ≡ q
+    left_plays q is = ap (λ (l : List Record). play_from p.state p.number l reading.tail) one_left ∙ is
+
+    tail_on : reading.tail ≡ tail_at (next_at (list_from (drop next file)).1) so_far.place ((p.number + 1) + length (left_at file next))
+    tail_on =
+        so_far.tail ∙ ap (λ (l : List Record × List ℕ). tail_at (next_at l.1) so_far.place (p.number + length l.0)) one
+        ∙ ap (λ (n : ℕ). tail_at (next_at (list_from (drop next file)).1) so_far.place n) (omega arith)
+
+  -- ---- an epoch is next
+
+  module _ (next : ℕ) (e : Epoch) (one : list_from (drop p.at file) ≡ (epoch e ∷ (list_from (drop next file)).0, (list_from (drop next file)).1)) where
+    pub epoch_refused : (stop : Stop × After) → run e.slices (at p.state [] e.answers) ≡ Err stop → Replayed (Some reading) first now (Err (faults.BadEpoch p.number))
+    epoch_refused stop ran =
+        refused (bad_epoch p.number) (left_plays next (epoch e) one (stopped (Err (bad_epoch p.number))) (epoch_stops p.state p.number e (left_at file next) reading.tail stop ran))
+
+    module _ (s : State) (output : List ℕ) (rest : List Answer) (ran : run e.slices (at p.state [] e.answers) ≡ Ok (at s output rest)) where
+      plays_behind : play_of reading ≡ behind (so_far.output ++ output) (play_from s (p.number + 1) (left_at file next) reading.tail)
+      plays_behind =
+          plays_on (behind output (play_from s (p.number + 1) (left_at file next) reading.tail))
+          (left_plays next (epoch e) one (behind output (play_from s (p.number + 1) (left_at file next) reading.tail)) (epoch_step p.state p.number e (left_at file next) reading.tail (at s output rest) ran))
+          ∙ behind_twice so_far.output output (play_from s (p.number + 1) (left_at file next) reading.tail)
+
+      pub epoch_sent : (later : Option History) (count : ℕ) → count ≡ length output → IfKnown (Sent Out output true) now later
+          → SoFar reading file first later (record { state = s; at = next; number = p.number + 1; epochs = p.epochs + 1; sent = p.sent + count })
+      epoch_sent later count counted known = record {
+        accepted = so_far.accepted;
+        output = so_far.output ++ output;
+        plays = plays_behind;
+        place = so_far.place;
+        tail = tail_on next (epoch e) one;
+        epochs = omega (arith, so_far.epochs, ap (λ (l : List Record). length (epochs_of l)) (one_left next (epoch e) one));
+        sent = omega (arith, so_far.sent, counted, length-append so_far.output output);
+        history = sent_more so_far.output output first now later so_far.history known;
+      }
+
+      pub epoch_not_sent : (later : Option History) → IfKnown (Sent Out output false) now later → Replayed (Some reading) first later (Err faults.OutputFault)
+      epoch_not_sent later known = inl (
+        play_of reading,
+        inr (so_far.accepted, refl),
+        sent_some so_far.output output (play_from s (p.number + 1) (left_at file next) reading.tail).output (play_of reading).output first now later
+            (ap (λ (q : Played). q.output) plays_behind) so_far.history known,
+      )
+
+  -- ---- a mark is next
+
+  module _ (next : ℕ) (c : Checkpoint) (one : list_from (drop p.at file) ≡ (mark c ∷ (list_from (drop next file)).0, (list_from (drop next file)).1)) where
+    pub mark_refused : is_right c p.state ≡ false → Replayed (Some reading) first now (Err (faults.BadMark p.number))
+    mark_refused wrong =
+        refused (bad_mark p.number) (left_plays next (mark c) one (stopped (Err (bad_mark p.number))) (mark_stops p.state p.number c (left_at file next) reading.tail wrong))
+
+    pub mark_taken : is_right c p.state ≡ true → SoFar reading file first now (record { state = p.state; at = next; number = p.number + 1; epochs = p.epochs; sent = p.sent })
+    mark_taken right = record {
+      accepted = so_far.accepted;
+      output = so_far.output;
+      plays = plays_on (play_from p.state (p.number + 1) (left_at file next) reading.tail)
+          (left_plays next (mark c) one (play_from p.state (p.number + 1) (left_at file next) reading.tail) (mark_step p.state p.number c (left_at file next) reading.tail right));
+      place = so_far.place;
+      tail = tail_on next (mark c) one;
+      epochs = omega (arith, so_far.epochs, ap (λ (l : List Record). length (epochs_of l)) (one_left next (mark c) one));
+      sent = so_far.sent;
+      history = so_far.history;
+    }
+
+-- ---- all records were played
+
+module _ (reading : Reading) (first now : Option History) (p : Progress) (is : IsAll reading first now p)
+    (report : Report) (made_of : report ≡ record { epochs = p.epochs; squashes = 0; steps = p.state.steps; sent = p.sent; end = p.state.end; state = digest_of p.state }) where
+  ends : Ends (Some reading) is.output report
+  ends = record {
+    journal = reading;
+    journal_is = refl;
+    state = p.state;
+    plays = inr (is.accepted, ap played (sym is.plays));
+    reported = (let epochs = is.epochs in let sent = is.sent in let report_is = made_of in cc);
+  }
+
+  pub told : (later : Option History) → IfKnown (Sent Note (report_line report) true) now later → Replayed (Some reading) first later (Ok report)
+  told later known = (is.output, ends, noted_too is.output (report_line report) first now later is.history known)
+
+  pub not_told : (later : Option History) → IfKnown (Sent Note (report_line report) false) now later → Replayed (Some reading) first later (Err faults.OutputFault)
+  not_told later known = inr (is.output, report, ends, noted_some is.output (report_line report) first now later is.history known)
+
+  pub no_line : Replayed (Some reading) first now (Err faults.OutOfMemory)
+  no_line = inr (
+    play_of reading,
+    inr (is.accepted, refl),
+    known-map _ _ _ _ (λ s t r. (is.output, ([], ap (λ (q : Played). q.output) is.plays ∙ sym (append-nil is.output)), r)) is.history,
+  )
+
+-- ---- its numbers
+
+pub epoch_bounded : (file : List ℕ) (p : Progress) (s : State) (sent next : ℕ) (e : Epoch) → length file ≤ MAX_JOURNAL_BYTES → IsBounded file p → p.at < next → next ≤ length file
+    → steps_of e.slices ≤ MAX_EPOCH_STEPS → s.steps ≡ p.state.steps + steps_of e.slices → s.input ≤ p.state.input + MAX_CALL_BYTES * steps_of e.slices → sent ≤ MAX_CALL_BYTES * steps_of e.slices
+    → (s.steps < 2 ^ 64 → IsEncodable s) → IsBounded file (record { state = s; at = next; number = p.number + 1; epochs = p.epochs + 1; sent = p.sent + sent })
+epoch_bounded file p s sent next e read is further within few counts reads writes encodable = record {
+  encodable = encodable (omega (arith, is.few_steps, is.few_epochs, is.few, is.within, read, counts, few));
+  few_steps = omega (arith, is.few_steps, counts, few);
+  little_input = omega (arith, is.little_input, reads, few);
+  little_sent = omega (arith, is.little_sent, writes, few);
+  few_epochs = omega (arith, is.few_epochs);
+  few = omega (arith, is.few, further);
+  within = within;
+}
+
+-- ---- the reading of a file
+
+pub at_reading : (o : Option Reading) (reading : Reading) (before after : Option History) (answer : Result Report ReplayFault) → o ≡ Some reading → Replayed (Some reading) before after answer → Replayed o before after answer
+at_reading o reading before after answer is replayed = subst (λ (q : Option Reading). Replayed q before after answer) (sym is) replayed
+
+-- less is left to play, or it was the last time
+pub smaller : (most before after : ℕ) (more : Bool) → before ≤ most → after ≤ most → before ≤ after → (IsTrue more → before < after) → most - after + cond more 1 0 < most - before + 1
+smaller most before after true below within kept grows = let grown = grows refl in omega (arith, below, within, grown)
+smaller most before after false below within kept grows = omega (arith, below, within, kept)
+
+-- ---- the start
+
+abbrev pub Header : Type 0
+Header = (bytes guest list : List ℕ) → header_at (first_bytes bytes) ≡ Some (guest, list) → reads bytes ≡ Some (reading_of guest (length (first_bytes bytes)) (list_from list))
+
+abbrev pub at_start : (first : ℕ) → State → Progress
+at_start first start = record { state = start; at = first; number = 1; epochs = 0; sent = 0 }
+
+-- a play of this file, whose list goes on or was played
+abbrev pub IsPlay : (file : List ℕ) → (first now : Option History) → Progress → (more : Bool) → Type 0
+IsPlay file first now p more = (reading : Reading) × (reads file ≡ Some reading) × GoesOn reading file first now p more
+
+module _ (file : List ℕ) (first : ℕ) (start : State) (is : IsStart file first start) where
+  pub begun : Header → (h : Option History) → IsPlay file h h (at_start first start) true
+  begun header h =
+      let list = list_from (drop first file) in
+      let reading = reading_of is.guest (length (first_bytes file)) list in (
+        reading,
+        header file is.guest is.list is.header ∙ ap (λ (l : List ℕ). Some (reading_of is.guest (length (first_bytes file)) (list_from l))) is.list_is,
+        record {
+          accepted = is.accepted;
+          output = [];
+          plays = ap (λ (s : State). play_from s 1 list.0 reading.tail) (sym is.start_is);
+          place = length (first_bytes file) - length list.1;
+          tail = ap (λ (n : ℕ). tail_at (next_at list.1) (length (first_bytes file) - length list.1) n) (omega arith);
+          epochs = omega arith;
+          sent = refl;
+          history = known-same _ _ _ refl (λ s. record { disk = refl; pending = refl; sent = sym (append-nil s.sent); noted = sym (append-nil s.noted) });
+        },
+      )
+
+  pub begun_bounded : IsBounded file (at_start first start)
+  begun_bounded = record {
+    encodable = is.encodable;
+    few_steps = omega (arith, ap (λ (s : State). s.steps) is.start_is);
+    little_input = omega (arith, ap (λ (s : State). s.input) is.start_is);
+    little_sent = omega arith;
+    few_epochs = omega arith;
+    few = omega (arith, is.behind_header);
+    within = is.within;
+  }

@@ -1,0 +1,6 @@
+mod Going
+mod Finding
+mod Marks
+mod Epochs
+mod Starting
+mod Plays

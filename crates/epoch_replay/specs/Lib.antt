@@ -1,0 +1,4 @@
+pub mod Play
+pub mod Faults
+pub mod Replaying
+pub mod Playing

@@ -1,0 +1,201 @@
+// A journal is read whole, and played record by record.
+ghost use Rattle.std.specs.Prelude.{◌≡◌, ◌<◌, ◌≤◌, ◌+◌, Err, IfOk, IsErrOf, IsTrue, length, Option, Some};
+ghost use Rattle.dp_base.specs.declared.limits.TheConstants.{MAX_JOURNAL_BYTES};
+ghost use Rattle.disk_model.specs.Counts.{Rose};
+ghost use Rattle.disk_model.specs.History.{History};
+ghost use Rattle.disk_model.specs.Known.{known_disk};
+ghost use Rattle.guest_kernel.specs.Image.{IsGuestFile};
+ghost use Rattle.guest_kernel.specs.Start.{start_state};
+ghost use Rattle.journal_text.specs.Reading.{Reading, reads};
+ghost use Rattle.epoch_replay.specs.declared.replay_fault.ReplayFault.TheVariants as faults;
+ghost use Rattle.epoch_replay.specs.Playing.{IsBounded, IsStart, PlayedOn, SoFar};
+ghost use Rattle.epoch_replay.specs.Replaying.{IsKnownToEnd, IsNoFault, OnDisk, Replayed};
+
+use crate::epoch::play_epoch;
+use crate::mark::is_right_mark;
+use crate::progress::Progress;
+use crate::replay_fault::ReplayFault;
+use checkpoint::digest;
+use device::send_all;
+use disk_model::{Stream, World};
+use dp_report::{Report, line};
+use epoch_journal::read_whole;
+use guest_kernel::{ImageFault, State, load, start};
+use journal_text::{Head, Rec, header, next_record};
+use std::alloc::Global;
+
+/// Replays the journal on the attached disk: sends the output of its epochs on Out, in order, and then the report's line on
+/// Note. The world comes back whatever happens. The disk is read once, from its start, and isn't written. The epochs are run
+/// one after another, for any number of workers.
+///
+/// # Errors
+///
+/// See [`ReplayFault`]. The file is judged first, then its guest, and then the records in their order.
+pub fn replay<R, W: World>(
+    _rt: &R,
+    alloc: Global,
+    mut world: W,
+    _workers: u32,
+) -> (W, Result<Report, ReplayFault>)
+    ensures replayed { OnDisk (known_disk (W.history world))
+        (λ bytes. Replayed (reads bytes) (W.history world) (W.history result.0) result.1) }
+    ensures disk_cause { result.1 ≡ Err faults.DiskFault → Rose (W.disk_faults world) (W.disk_faults result.0) }
+    ensures sink_cause { result.1 ≡ Err faults.OutputFault → Rose (W.sink_faults world) (W.sink_faults result.0) }
+    ensures disk_count { W.disk_faults world ≤ W.disk_faults result.0 }
+    ensures sink_count { W.sink_faults world ≤ W.sink_faults result.0 }
+    // A journal that plays to its end is replayed, if nothing fails.
+    ensures complete { IsKnownToEnd (known_disk (W.history world)) →
+        (Rose (W.disk_faults world) (W.disk_faults result.0) → ⊥) →
+        (Rose (W.sink_faults world) (W.sink_faults result.0) → ⊥) → IsNoFault result.1 }
+{
+    let answer = replay_disk(alloc, &mut world);
+    (world, answer)
+}
+
+fn replay_disk<W: World>(alloc: Global, world: &mut W) -> Result<Report, ReplayFault>
+    ensures replayed { OnDisk (known_disk (W.history world.old))
+        (λ bytes. Replayed (reads bytes) (W.history world.old) (W.history world.new) result) }
+    ensures disk_cause { IsErrOf result ReplayFault.DiskFault →
+        Rose (W.disk_faults world.old) (W.disk_faults world.new) }
+    ensures sink_cause { IsErrOf result ReplayFault.OutputFault →
+        Rose (W.sink_faults world.old) (W.sink_faults world.new) }
+    ensures disk_count { W.disk_faults world.old ≤ W.disk_faults world.new }
+    ensures sink_count { W.sink_faults world.old ≤ W.sink_faults world.new }
+{
+    let file = read_whole(alloc, world)?;
+    replay_file(alloc, world, &file)
+}
+
+// Replays a journal that was read.
+fn replay_file<W: World>(alloc: Global, world: &mut W, file: &[u8]) -> Result<Report, ReplayFault>
+    requires few { length file.now ≤ MAX_JOURNAL_BYTES }
+    ensures replayed { Replayed (reads file.now) (W.history world.old) (W.history world.new) result }
+    ensures no_disk_fault { IsErrOf result ReplayFault.DiskFault → ⊥ }
+    ensures sink_cause { IsErrOf result ReplayFault.OutputFault →
+        Rose (W.sink_faults world.old) (W.sink_faults world.new) }
+    ensures disk_count { W.disk_faults world.new ≡ W.disk_faults world.old }
+    ensures sink_count { W.sink_faults world.old ≤ W.sink_faults world.new }
+{
+    dp_base::laws::headers();
+    dp_base::laws::lengths();
+    journal_text::laws::a_header_stands_first();
+    journal_text::laws::a_journal_is_its_parts();
+    journal_text::laws::reading_goes_on();
+    checkpoint::laws::a_start_state_is_encodable();
+    let guest_len = match header(file) {
+        Head::Whole { guest_len } => guest_len,
+        Head::NoJournal => return Err(ReplayFault::NoJournal),
+    };
+    let first = 9 + guest_len as usize;
+    let state = start_of_file(alloc, &file[9..first])?;
+    play(alloc, world, file, first as u64, state)
+}
+
+// The state in which the guest of a file starts.
+fn start_of_file(alloc: Global, file: &[u8]) -> Result<State, ImageFault>
+    ensures state { IfOk result (λ state. state ≡ start_state file.now) }
+    ensures accepted { IfOk result (λ state. IsGuestFile file.now) }
+    ensures refused { IsErrOf result ImageFault.NotBuilt → IsGuestFile file.now → ⊥ }
+{
+    guest_kernel::laws::an_image_starts_as_its_file();
+    let image = load(alloc, file)?;
+    let state = start(alloc, &image)?;
+    Ok(state)
+}
+
+// Plays the records from the first one on, and reports.
+fn play<W: World>(
+    alloc: Global,
+    world: &mut W,
+    file: &[u8],
+    first: u64,
+    start: State,
+) -> Result<Report, ReplayFault>
+    requires few { length file.now ≤ MAX_JOURNAL_BYTES }
+    requires starts { IsStart file.now first start }
+    ensures replayed { Replayed (reads file.now) (W.history world.old) (W.history world.new) result }
+    ensures no_disk_fault { IsErrOf result ReplayFault.DiskFault → ⊥ }
+    ensures sink_cause { IsErrOf result ReplayFault.OutputFault →
+        Rose (W.sink_faults world.old) (W.sink_faults world.new) }
+    ensures disk_count { W.disk_faults world.new ≡ W.disk_faults world.old }
+    ensures sink_count { W.sink_faults world.old ≤ W.sink_faults world.new }
+{
+    journal_text::laws::reading_goes_on();
+    let mut progress = Progress {
+        state: start,
+        at: first,
+        number: 1,
+        epochs: 0,
+        sent: 0,
+    };
+    let mut more = true;
+    'records: while more {
+        more = play_record(alloc, world, file, &mut progress)?;
+    }
+    let report = Report {
+        epochs: progress.epochs,
+        squashes: 0,
+        steps: progress.state.steps,
+        sent: progress.sent,
+        end: progress.state.end,
+        state: digest(&progress.state),
+    };
+    let text = line(alloc, &report)?;
+    match send_all(world, Stream::Note, &text) {
+        Ok(()) => Ok(report),
+        Err(_) => Err(ReplayFault::OutputFault),
+    }
+}
+
+// Plays the record where the replay is. Returns whether there was one.
+fn play_record<W: World>(
+    alloc: Global,
+    world: &mut W,
+    file: &[u8],
+    progress: &mut Progress,
+) -> Result<bool, ReplayFault>
+    requires few { length file.now ≤ MAX_JOURNAL_BYTES }
+    requires bounded { IsBounded file.now progress.old }
+    ensures played { (reading : Reading) (first : Option History) →
+        SoFar reading file.now first (W.history world.old) progress.old →
+        PlayedOn reading file.now first (W.history world.new) progress.new result }
+    ensures bounded { IfOk result (λ more. IsBounded file.now progress.new) }
+    ensures goes_on { IfOk result (λ more. IsTrue more → progress.old.at < progress.new.at) }
+    ensures stays { IfOk result (λ more. progress.old.at ≤ progress.new.at) }
+    ensures no_disk_fault { IsErrOf result ReplayFault.DiskFault → ⊥ }
+    ensures sink_cause { IsErrOf result ReplayFault.OutputFault →
+        Rose (W.sink_faults world.old) (W.sink_faults world.new) }
+    ensures disk_count { W.disk_faults world.new ≡ W.disk_faults world.old }
+    ensures sink_count { W.sink_faults world.old ≤ W.sink_faults world.new }
+{
+    journal_text::laws::reading_goes_on();
+    journal_text::laws::a_record_stands_at_its_gate();
+    checkpoint::laws::a_run_keeps_a_state_encodable();
+    dp_base::laws::whole_values();
+    guest_kernel::laws::a_run_is_as_long_as_its_slices();
+    match next_record(file, progress.at) {
+        Rec::Epoch { body, next } => {
+            let Some(out) = play_epoch(alloc, &mut progress.state, body)? else {
+                return Err(ReplayFault::BadEpoch(progress.number));
+            };
+            if send_all(world, Stream::Out, &out).is_err() {
+                return Err(ReplayFault::OutputFault);
+            }
+            progress.at = next;
+            progress.number += 1;
+            progress.epochs += 1;
+            progress.sent += out.len() as u64;
+            Ok(true)
+        }
+        Rec::Mark { body, next } => {
+            if !is_right_mark(alloc, &progress.state, body)? {
+                return Err(ReplayFault::BadMark(progress.number));
+            }
+            progress.at = next;
+            progress.number += 1;
+            Ok(true)
+        }
+        Rec::End { .. } => Ok(false),
+        Rec::Bad => Err(ReplayFault::BadJournal(progress.number)),
+    }
+}
