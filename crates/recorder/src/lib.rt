@@ -3,10 +3,10 @@
 //!
 //! Promises (the contract of `record_`): if it answers `Ok`, `StepLimit` or `JournalFull`, the disk reads as the journal of this
 //! guest with a chain of epochs from its start state, and what was sent is exactly that chain's output; after each other
-//! answer it says what stands. A journal that has an epoch, or is said to stand, has at most its room. All memory for an
-//! epoch is taken before its first write to the disk: from there on only `Ok` or a device's fault comes. At `Ok` the report's
-//! line was sent on Note, and else nothing was but a prefix of it. Stands on `guest_kernel`, `checkpoint`, `epoch_record`,
-//! `epoch_journal`, `device` and `dp_report`.
+//! answer it says what stands. The journal is never longer than its room. All memory for an epoch is taken before its first
+//! write to the disk: from there on only `Ok` or a device's fault comes. At `Ok` the report's line was sent on Note, and else
+//! nothing was but a prefix of it. Stands on `guest_kernel`, `checkpoint`, `epoch_record`, `epoch_journal`, `device` and
+//! `dp_report`.
 //!
 //! ```text
 //! let image = load(alloc, file)?;
