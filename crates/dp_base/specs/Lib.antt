@@ -2,3 +2,4 @@ pub mod Field
 pub mod Journal
 pub mod Encoding
 pub mod View
+pub mod Memory

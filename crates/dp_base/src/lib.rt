@@ -1,5 +1,6 @@
-//! What every other crate of the recorder speaks of: thread numbers, slices and answers, the limits, the
-//! fields of the journal, and the definitions of the journal's bytes (`specs/Journal.antt`).
+//! What every other crate of the recorder speaks of: thread numbers, slices and answers, the limits, a guest's
+//! memory (`Mem`, `specs/Memory.antt`), the fields of the journal, and the definitions of the journal's bytes
+//! (`specs/Journal.antt`).
 //!
 //! Promises: what a field writer adds is what the reader of the same width takes, and no byte more; a journal
 //! value has one encoding, and no encoding is a prefix of another; `journal_reader` takes from bytes what the
@@ -16,6 +17,7 @@
 //! ```
 #![tactic(auto)]
 
+mod access;
 mod answer;
 mod answer_view;
 mod bytes;
@@ -24,14 +26,17 @@ pub mod journal;
 pub mod journal_reader;
 pub mod laws;
 pub mod limits;
+mod mem;
 mod out_of_memory;
 mod page;
 mod slice;
 mod tid;
 
+pub use access::{Access, AmoOp, Width};
 pub use answer::Answer;
 pub use answer_view::AnswerView;
 pub use bytes::Bytes;
+pub use mem::Mem;
 pub use out_of_memory::OutOfMemory;
 pub use page::Page;
 pub use slice::Slice;

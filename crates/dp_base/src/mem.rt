@@ -1,0 +1,59 @@
+// A guest's memory, as a hart sees it.
+ghost use Rattle.std.specs.Prelude.{◌≡◌, IfOk, IfSome, OnErr, OnOk, Some};
+ghost use Rattle.dp_base.specs.Memory.{after_amo, allowed, amo_word, answer_of, fetched, loaded, may_store, stored, stored_answer};
+
+use crate::{Access, AmoOp, OutOfMemory, Width};
+
+/// A memory that harts load from and store to. Where its pages are known, each access is exact and never busy.
+/// Where they aren't, nothing is said of it. An `Err` changes nothing.
+pub trait Mem {
+    ghost use Rattle.std.specs.Prelude.{List, Option};
+    ghost use Rattle.dp_base.specs.declared.page.Page.{Page};
+
+    ghost memory: { Self → Option (List Page) };
+
+    /// Fetches the word at an address. Each byte must be executable.
+    fn fetch(&mut self, address: u32) -> Access<u32>
+        ensures word { IfSome (memory self.old) (λ pages. result ≡ answer_of (fetched address pages)) }
+        ensures same { IfSome (memory self.old) (λ pages. memory self.new ≡ Some pages) };
+
+    /// Loads the bytes at an address, extended by zeros. Each byte must be readable.
+    fn load(&mut self, address: u32, width: Width) -> Access<u32>
+        ensures value { IfSome (memory self.old) (λ pages. result ≡ answer_of (loaded width address pages)) }
+        ensures same { IfSome (memory self.old) (λ pages. memory self.new ≡ Some pages) };
+
+    /// Stores the low bytes of a value at an address. Each byte must be writable.
+    fn store(&mut self, address: u32, width: Width, value: u32) -> Result<Access<()>, OutOfMemory>
+        ensures answer { IfSome (memory self.old) (λ pages. IfOk result (λ answer. answer
+            ≡ allowed (may_store width address pages))) }
+        ensures stored { IfSome (memory self.old) (λ pages. OnOk result (memory self.new
+            ≡ Some (stored width address value pages))) }
+        ensures err { IfSome (memory self.old) (λ pages. OnErr result (memory self.new ≡ Some pages)) };
+
+    /// Loads the word at an address, and stores what the operation makes of it and the value. Returns the
+    /// word that was loaded. Each byte must be readable and writable.
+    fn amo(&mut self, address: u32, op: AmoOp, value: u32) -> Result<Access<u32>, OutOfMemory>
+        ensures word { IfSome (memory self.old) (λ pages. IfOk result (λ answer. answer
+            ≡ answer_of (amo_word address pages))) }
+        ensures stored { IfSome (memory self.old) (λ pages. OnOk result (memory self.new
+            ≡ Some (after_amo op address value pages))) }
+        ensures err { IfSome (memory self.old) (λ pages. OnErr result (memory self.new ≡ Some pages)) };
+
+    /// Loads the word at an address, as LR does. Each byte must be readable.
+    fn load_reserved(&mut self, address: u32) -> Access<u32>
+        ensures word { IfSome (memory self.old) (λ pages. result ≡ answer_of (loaded Width.Four address pages)) }
+        ensures same { IfSome (memory self.old) (λ pages. memory self.new ≡ Some pages) };
+
+    /// Stores a word, as SC does where its reservation stands, and returns true. Each byte must be writable.
+    fn store_conditional(&mut self, address: u32, value: u32) -> Result<Access<bool>, OutOfMemory>
+        ensures answer { IfSome (memory self.old) (λ pages. IfOk result (λ answer. answer
+            ≡ stored_answer (may_store Width.Four address pages))) }
+        ensures stored { IfSome (memory self.old) (λ pages. OnOk result (memory self.new
+            ≡ Some (stored Width.Four address value pages))) }
+        ensures err { IfSome (memory self.old) (λ pages. OnErr result (memory self.new ≡ Some pages)) };
+
+    /// Looks whether a word may be stored at an address, and stores nothing.
+    fn can_store(&mut self, address: u32) -> Access<()>
+        ensures answer { IfSome (memory self.old) (λ pages. result ≡ allowed (may_store Width.Four address pages)) }
+        ensures same { IfSome (memory self.old) (λ pages. memory self.new ≡ Some pages) };
+}
