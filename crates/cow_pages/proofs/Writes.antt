@@ -1,0 +1,171 @@
+-- A page written where it stands.
+use Rattle.std.proofs.Common.{◌≡◌, ◌<◌, ◌≤◌, ◌+◌, ◌/◌, ◌%◌, ℕ, zero, suc, Bool, true, false, cond, Option, Some, None, List, [], ◌∷◌, length, arith, inl, inr, sym, ◌∙◌, ap, refl, subst}
+use Rattle.std.specs.Prelude.{Result, Ok, Err, OnOk, OnErr, not, is_some, slice_get, slice_set, nat_lt, ◌==◌, if◌then◌else◌}
+use Rattle.std.specs.List.{position_or_len, find}
+use Rattle.std.specs.List.Sorted.{IsStrictlyIncreasing}
+use Rattle.std.proofs.lemmas.Bool.{ltb-true}
+use Rattle.std.proofs.lemmas.List.{length-set}
+use Rattle.std.proofs.lemmas.List.Elements.{All-set, All-get_or}
+use Rattle.std.proofs.lemmas.Option.{slice_get_cases, slice_get_within, get_or_from_slice_get}
+use Rattle.std.proofs.Math.Seq.{map-set_same}
+use Rattle.byteorder.specs.Endian.{little_bytes}
+use Rattle.cow_pages.proofs.InPages.{writable_found}
+use Rattle.cow_pages.proofs.Places.{page_some, page_none}
+use Rattle.cow_pages.specs.InPage.{changed_at, is_writable, place_of, with_bytes, written}
+use Rattle.dp_base.specs.Memory.{ArePages, IsPage, Memory, bytes_with, change_page, has_flag, put_byte, put_bytes, stored, with_byte}
+use Rattle.dp_base.specs.declared.access.Width.TheVariants.{Four}
+use Rattle.dp_base.specs.declared.page.Page.{Page}
+
+pub ArePages-set : (memory : Memory) (i : ℕ) (p q : Page) → ArePages memory → slice_get memory i ≡ Some p → q.number ≡ p.number → q.flags ≡ p.flags → length q.bytes ≡ length p.bytes → ArePages (slice_set memory i q)
+ArePages-set memory i p q are at number flags bytes =
+    let within = slice_get_within memory i p at in
+    let here = get_or_from_slice_get memory i p p at in
+    let page : IsPage p = subst IsPage here (All-get_or IsPage memory i p within are.each) in
+    record {
+      each = All-set IsPage memory i q (record { number = omega (arith, number, page.number); flags = omega (arith, flags, page.flags); bytes = bytes ∙ page.bytes }) are.each;
+      rising = subst IsStrictlyIncreasing (sym (map-set_same (λ (x : Page). x.number) memory i q p (number ∙ ap (λ (x : Page). x.number) (sym here)))) are.rising;
+      few = omega (arith, length-set memory i q, are.few);
+    }
+
+twice_at : (number : ℕ) (f g : Page → Page) (p : Page) (ps : Memory) (b : Bool) → (p.number == number) ≡ b → (g p).number ≡ p.number → change_page number f (change_page number g ps) ≡ change_page number (λ p. f (g p)) ps
+    → change_page number f (if b then g p ∷ ps else p ∷ change_page number g ps) ≡ (if b then f (g p) ∷ ps else p ∷ change_page number (λ p. f (g p)) ps)
+unfolding change_page
+twice_at number f g p ps true e keeps ih =
+    let test : ((g p).number == number) ≡ true = ap (λ n. n == number) keeps ∙ e in
+    ap (λ (b : Bool). if b then f (g p) ∷ ps else g p ∷ change_page number f ps) test
+twice_at number f g p ps false e keeps ih =
+    ap (λ (b : Bool). if b then f p ∷ change_page number g ps else p ∷ change_page number f (change_page number g ps)) e ∙ ap (λ (m : Memory). p ∷ m) ih
+
+pub change_twice : (number : ℕ) (f g : Page → Page) (memory : Memory) → ((p : Page) → (g p).number ≡ p.number) → change_page number f (change_page number g memory) ≡ change_page number (λ p. f (g p)) memory
+unfolding change_page
+change_twice number f g [] keeps = refl
+change_twice number f g (p ∷ ps) keeps = twice_at number f g p ps (p.number == number) refl (keeps p) (change_twice number f g ps keeps)
+
+first_at : (number : ℕ) (f : Page → Page) (q : Page) (qs : Memory) (i : ℕ) (p : Page) (b : Bool) → cond (not b) (1 + position_or_len (λ (q : Page). q.number == number) qs) 0 ≡ i → slice_get (q ∷ qs) i ≡ Some p
+    → ((j : ℕ) → position_or_len (λ (q : Page). q.number == number) qs ≡ j → slice_get qs j ≡ Some p → change_page number f qs ≡ slice_set qs j (f p))
+    → (if b then f q ∷ qs else q ∷ change_page number f qs) ≡ slice_set (q ∷ qs) i (f p)
+first_at number f q qs zero p true first at ih = let same : q ≡ p = cc in ap (λ (x : Page). f x ∷ qs) same
+first_at number f q qs (suc i) p true first at ih = absurd (omega arith)
+first_at number f q qs zero p false first at ih = absurd (omega arith)
+first_at number f q qs (suc i) p false first at ih = ap (λ (m : Memory). q ∷ m) (ih i (omega arith) at)
+
+pub change_first : (number : ℕ) (f : Page → Page) (memory : Memory) (i : ℕ) (p : Page) → position_or_len (λ (q : Page). q.number == number) memory ≡ i → slice_get memory i ≡ Some p → change_page number f memory ≡ slice_set memory i (f p)
+unfolding change_page
+change_first number f [] i p first at = absurd cc
+change_first number f (q ∷ qs) i p first at = first_at number f q qs i p (q.number == number) first at (λ j. change_first number f qs j p)
+
+first_by : (m len i : ℕ) (b : Bool) → cond b (Some m) None ≡ Some i → m ≡ i
+first_by m len i true e = cc
+first_by m len i false e = absurd cc
+
+place_first : (memory : Memory) (number i : ℕ) → place_of memory number ≡ Some i → position_or_len (λ (q : Page). q.number == number) memory ≡ i
+place_first memory number i e = first_by _ 0 i (nat_lt (position_or_len (λ (q : Page). q.number == number) memory) (length memory)) e
+
+-- a byte put into a page
+put_byte_in : (a b n o : ℕ) (memory : Memory) → a / 4096 ≡ n → a % 4096 ≡ o → put_byte a b memory ≡ change_page n (with_byte o b) memory
+put_byte_in a b n o memory page offset = ap (λ m. change_page m (with_byte (a % 4096) b) memory) page ∙ ap (λ m. change_page n (with_byte m b) memory) offset
+
+-- bytes put into one page
+put_bytes_found : (b : ℕ) (bs : List ℕ) (a n o : ℕ) (memory : Memory) → a / 4096 ≡ n → a % 4096 ≡ o → o + suc (length bs) ≤ 4096 → put_bytes a (b ∷ bs) memory ≡ change_page n (with_bytes o (b ∷ bs)) memory
+unfolding put_bytes
+put_bytes_found b [] a n o memory page offset fits = put_byte_in a b n o memory page offset
+put_bytes_found b (c ∷ cs) a n o memory page offset fits =
+    ap (λ (m : Memory). put_bytes (a + 1) (c ∷ cs) m) (put_byte_in a b n o memory page offset)
+    ∙ put_bytes_found c cs (a + 1) n (o + 1) (change_page n (with_byte o b) memory) (omega (arith, page, offset)) (omega (arith, page, offset)) (omega arith)
+    ∙ change_twice n (with_bytes (o + 1) (c ∷ cs)) (with_byte o b) memory (λ p. refl)
+
+put_found : (b : ℕ) (bs : List ℕ) (a : ℕ) (memory : Memory) (i : ℕ) (p : Page) → place_of memory (a / 4096) ≡ Some i → slice_get memory i ≡ Some p → a % 4096 + suc (length bs) ≤ 4096
+    → put_bytes a (b ∷ bs) memory ≡ slice_set memory i (with_bytes (a % 4096) (b ∷ bs) p)
+put_found b bs a memory i p place at fits =
+    put_bytes_found b bs a (a / 4096) (a % 4096) memory refl refl fits
+    ∙ change_first (a / 4096) (with_bytes (a % 4096) (b ∷ bs)) memory i p (place_first memory (a / 4096) i place) at
+
+-- ---- by the place
+
+pub answer_some : (memory : Memory) (a i : ℕ) → Some i ≡ place_of memory (a / 4096) → a % 4096 ≤ 4092 → is_some (bytes_with 2 memory a 4) ≡ is_writable (slice_get memory i)
+answer_some memory a i place fits = writable_found memory a (slice_get memory i) (page_some memory (a / 4096) i place) fits
+
+pub answer_none : (memory : Memory) (a : ℕ) → None ≡ place_of memory (a / 4096) → a % 4096 ≤ 4092 → is_some (bytes_with 2 memory a 4) ≡ false
+answer_none memory a place fits = writable_found memory a None (page_none memory (a / 4096) place) fits
+
+slice_set_same : {X : Type 0} (xs : List X) (i : ℕ) (x : X) → slice_get xs i ≡ Some x → slice_set xs i x ≡ xs
+slice_set_same [] i x e = refl
+slice_set_same (y ∷ ys) zero x e = let h : y ≡ x = cc in ap (λ z. z ∷ ys) (sym h)
+slice_set_same (y ∷ ys) (suc i) x e = ap (λ zs. y ∷ zs) (slice_set_same ys i x e)
+
+stored_by : (a v : ℕ) (memory : Memory) (i : ℕ) (p : Page) (b : Bool) → put_bytes a (little_bytes 4 v) memory ≡ slice_set memory i (with_bytes (a % 4096) (little_bytes 4 v) p) → slice_get memory i ≡ Some p
+    → (if b then put_bytes a (little_bytes 4 v) memory else memory) ≡ slice_set memory i (if b then with_bytes (a % 4096) (little_bytes 4 v) p else p)
+stored_by a v memory i p true put at = put
+stored_by a v memory i p false put at = sym (slice_set_same memory i p at)
+
+stored_at : (a v : ℕ) (memory : Memory) (i : ℕ) (x : Option Page) → slice_get memory i ≡ x → Some i ≡ place_of memory (a / 4096) → a % 4096 ≤ 4092
+    → (if is_writable x then put_bytes a (little_bytes 4 v) memory else memory) ≡ changed_at memory i (written (a % 4096) (little_bytes 4 v)) x
+stored_at a v memory i None at place fits = refl
+stored_at a v memory i (Some p) at place fits = stored_by a v memory i p (has_flag 2 p) (put_found _ _ a memory i p (sym place) at (omega arith)) at
+
+pub stored_some : (a v : ℕ) (memory : Memory) (i : ℕ) → Some i ≡ place_of memory (a / 4096) → a % 4096 ≤ 4092 → stored Four a v memory ≡ changed_at memory i (written (a % 4096) (little_bytes 4 v)) (slice_get memory i)
+stored_some a v memory i place fits =
+    ap (λ (b : Bool). if b then put_bytes a (little_bytes 4 v) memory else memory) (answer_some memory a i place fits) ∙ stored_at a v memory i (slice_get memory i) refl place fits
+
+pub stored_none : (a v : ℕ) (memory : Memory) → None ≡ place_of memory (a / 4096) → a % 4096 ≤ 4092 → stored Four a v memory ≡ memory
+stored_none a v memory place fits = ap (λ (b : Bool). if b then put_bytes a (little_bytes 4 v) memory else memory) (answer_none memory a place fits)
+
+within_by : (m len i : ℕ) (b : Bool) → nat_lt m len ≡ b → cond b (Some m) None ≡ Some i → i < len
+within_by m len i true lt e = let same : m ≡ i = cc in omega (arith, ltb-true m len lt, same)
+within_by m len i false lt e = absurd cc
+
+put_at : (a v : ℕ) (memory : Memory) (i : ℕ) (x : Option Page) → slice_get memory i ≡ x → place_of memory (a / 4096) ≡ Some i → put_byte a v memory ≡ changed_at memory i (with_byte (a % 4096) v) x
+put_at a v memory i None at place =
+    let within : i < length memory = within_by _ (length memory) i (nat_lt (position_or_len (λ (q : Page). q.number == a / 4096) memory) (length memory)) refl place in
+    elim (slice_get_cases memory i).1 [ inl y ↦ (let some = y.2 in absurd cc) | inr past ↦ absurd (omega arith) ]
+put_at a v memory i (Some p) at place = change_first (a / 4096) (with_byte (a % 4096) v) memory i p (place_first memory (a / 4096) i place) at
+
+none_at : (number : ℕ) (f : Page → Page) (p : Page) (ps : Memory) (b : Bool) → cond b (Some p) (find (λ (q : Page). q.number == number) ps) ≡ None
+    → (find (λ (q : Page). q.number == number) ps ≡ None → change_page number f ps ≡ ps) → (if b then f p ∷ ps else p ∷ change_page number f ps) ≡ p ∷ ps
+none_at number f p ps true e ih = absurd cc
+none_at number f p ps false e ih = ap (λ (m : Memory). p ∷ m) (ih e)
+
+change_none : (number : ℕ) (f : Page → Page) (memory : Memory) → find (λ (q : Page). q.number == number) memory ≡ None → change_page number f memory ≡ memory
+unfolding change_page
+change_none number f [] e = refl
+change_none number f (p ∷ ps) e = none_at number f p ps (p.number == number) e (change_none number f ps)
+
+pub put_some : (a v : ℕ) (memory : Memory) (i : ℕ) → Some i ≡ place_of memory (a / 4096) → put_byte a v memory ≡ changed_at memory i (with_byte (a % 4096) v) (slice_get memory i)
+put_some a v memory i place = put_at a v memory i (slice_get memory i) refl (sym place)
+
+pub put_none : (a v : ℕ) (memory : Memory) → None ≡ place_of memory (a / 4096) → put_byte a v memory ≡ memory
+put_none a v memory place = change_none (a / 4096) (with_byte (a % 4096) v) memory (page_none memory (a / 4096) place)
+
+kept_by : (memory : Memory) (i : ℕ) (f : Page → Page) (x : Option Page) → slice_get memory i ≡ x → ArePages memory → ((p : Page) → (f p).number ≡ p.number) → ((p : Page) → (f p).flags ≡ p.flags) → ((p : Page) → length (f p).bytes ≡ length p.bytes) → ArePages (changed_at memory i f x)
+kept_by memory i f None at are number flags bytes = are
+kept_by memory i f (Some p) at are number flags bytes = ArePages-set memory i p (f p) are at (number p) (flags p) (bytes p)
+
+pub ArePages-changed : (memory : Memory) (i : ℕ) (f : Page → Page) → ArePages memory → ((p : Page) → (f p).number ≡ p.number) → ((p : Page) → (f p).flags ≡ p.flags) → ((p : Page) → length (f p).bytes ≡ length p.bytes) → ArePages (changed_at memory i f (slice_get memory i))
+ArePages-changed memory i f = kept_by memory i f (slice_get memory i) refl
+
+-- what written bytes keep of a page
+with_bytes_number : (o : ℕ) (bytes : List ℕ) (p : Page) → (with_bytes o bytes p).number ≡ p.number
+with_bytes_number o [] p = refl
+with_bytes_number o (b ∷ bs) p = with_bytes_number (o + 1) bs (with_byte o b p)
+
+with_bytes_flags : (o : ℕ) (bytes : List ℕ) (p : Page) → (with_bytes o bytes p).flags ≡ p.flags
+with_bytes_flags o [] p = refl
+with_bytes_flags o (b ∷ bs) p = with_bytes_flags (o + 1) bs (with_byte o b p)
+
+with_bytes_length : (o : ℕ) (bytes : List ℕ) (p : Page) → length (with_bytes o bytes p).bytes ≡ length p.bytes
+with_bytes_length o [] p = refl
+with_bytes_length o (b ∷ bs) p = with_bytes_length (o + 1) bs (with_byte o b p) ∙ length-set p.bytes o b
+
+pub written_number : (o : ℕ) (bytes : List ℕ) (p : Page) → (written o bytes p).number ≡ p.number
+written_number o bytes p = elim (has_flag 2 p) as (λ (b : Bool). (if b then with_bytes o bytes p else p).number ≡ p.number) [ true ↦ with_bytes_number o bytes p | false ↦ refl ]
+
+pub written_flags : (o : ℕ) (bytes : List ℕ) (p : Page) → (written o bytes p).flags ≡ p.flags
+written_flags o bytes p = elim (has_flag 2 p) as (λ (b : Bool). (if b then with_bytes o bytes p else p).flags ≡ p.flags) [ true ↦ with_bytes_flags o bytes p | false ↦ refl ]
+
+pub written_length : (o : ℕ) (bytes : List ℕ) (p : Page) → length (written o bytes p).bytes ≡ length p.bytes
+written_length o bytes p = elim (has_flag 2 p) as (λ (b : Bool). length (if b then with_bytes o bytes p else p).bytes ≡ length p.bytes) [ true ↦ with_bytes_length o bytes p | false ↦ refl ]
+
+-- a table stays one whichever way a call went
+pub ArePages-either : {X E : Type 0} (r : Result X E) (table mapped memory : Memory) → OnOk r (table ≡ mapped) → OnErr r (table ≡ memory) → ArePages mapped → ArePages memory → ArePages table
+ArePages-either (Ok x) table mapped memory ok err are were = subst ArePages (sym ok) are
+ArePages-either (Err e) table mapped memory ok err are were = subst ArePages (sym err) were

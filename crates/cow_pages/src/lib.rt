@@ -1,0 +1,26 @@
+//! The memory of a guest: a table of pages, seen as the list of its pages in rising order of number.
+//!
+//! Promises: each access of a hart (`Mem`) is exact, with a constant number of page look-ups, and one for a word
+//! inside a page; mapping and unmapping keep the order and change no other page; a shared table is an equal one,
+//! and neither sees what is stored to the other. Stands on `dp_base` for `Mem` and the definitions of memory
+//! (`specs/Memory.antt`), and on `byteorder` for numbers in bytes.
+//!
+//! A guest stores a word to a page that it has mapped:
+//!
+//! ```text
+//! let mut pages = Pages::new(alloc)?;
+//! pages.map_page(0x10, 6)?;
+//! let Access::Done(()) = pages.store(0x0001_0000, Width::Four, 1)? else { .. };
+//! ```
+#![tactic(auto)]
+
+mod frame;
+pub mod laws;
+mod memory;
+mod pages;
+mod table;
+
+pub use pages::Pages;
+
+#[cfg(test)]
+mod tests;

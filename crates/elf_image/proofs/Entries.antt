@@ -1,0 +1,89 @@
+-- What the checks of the entries say of the segments that they give.
+use Rattle.std.proofs.Common.{◌≡◌, ◌+◌, ◌≤◌, ℕ, Bool, true, false, nat_lt, cond, List, [], ◌∷◌, length, map, drop, All, refl, sym, ap, ◌∙◌, arith}
+use Rattle.std.specs.List.{AllByRecursion, filter, list_any}
+use Rattle.std.proofs.lemmas.Bool.{or_parts, ltb-false, ltb-true, eqb-false}
+use Rattle.std.proofs.lemmas.List.{length-take}
+use Rattle.std.proofs.lemmas.List.Elements.{All-from_recursion, All-map, All-weaker}
+use Rattle.dp_base.specs.declared.limits.TheConstants.{MAX_PAGES, STACK_PAGES}
+use Rattle.elf_image.specs.declared.image.Segment.{Segment}
+use Rattle.elf_image.specs.declared.program_header.ProgramHeader.{ProgramHeader}
+use Rattle.elf_image.specs.declared.span.Span.{Span}
+use Rattle.elf_image.specs.File.{is_loaded, loaded, program_headers}
+use Rattle.elf_image.specs.Faults.{has_bad_segment, has_too_many_pages, is_bad_entry}
+use Rattle.elf_image.specs.Image.{entry_span, has_bytes, segment_of, segments_of}
+use Rattle.elf_image.specs.Segment.{page_count, AreSegments, IsSegment, MEMORY_END, span_of, spans_of}
+
+pub map-entry_span : (file : List ℕ) (ps : List ProgramHeader) → map entry_span ps ≡ spans_of (map (segment_of file) ps)
+map-entry_span file [] = refl
+map-entry_span file (p ∷ ps) = ap (λ (spans : List Span). entry_span p ∷ spans) (map-entry_span file ps)
+
+-- ---- what was read of a file, where each list was looked at before the next was made of it
+
+pub loaded_are : (file : List ℕ) (headers seen entries : List ProgramHeader)
+    → headers ≡ program_headers file → seen ≡ headers → entries ≡ filter is_loaded seen → entries ≡ loaded file
+loaded_are file headers seen entries read same kept = kept ∙ ap (filter is_loaded) (same ∙ read)
+
+pub segments_are : (file : List ℕ) (entries seen : List ProgramHeader) (segments : List Segment)
+    → entries ≡ loaded file → seen ≡ entries → segments ≡ map (segment_of file) (filter has_bytes seen) → segments ≡ segments_of file
+segments_are file entries seen segments theirs same made =
+    made ∙ ap (λ (ps : List ProgramHeader). map (segment_of file) (filter has_bytes ps)) (same ∙ theirs)
+
+pub spans_are : (file : List ℕ) (entries seen : List ProgramHeader) (spans : List Span)
+    → entries ≡ loaded file → seen ≡ entries → spans ≡ map entry_span (filter has_bytes seen) → spans ≡ spans_of (segments_of file)
+spans_are file entries seen spans theirs same made =
+    made ∙ ap (λ (ps : List ProgramHeader). map entry_span (filter has_bytes ps)) (same ∙ theirs)
+    ∙ map-entry_span file (filter has_bytes (loaded file))
+
+pub pages_are : (file : List ℕ) (spans : List Span) (answer known : Bool)
+    → spans ≡ spans_of (segments_of file) → answer ≡ nat_lt MAX_PAGES (page_count spans + STACK_PAGES) → answer ≡ known → has_too_many_pages file ≡ known
+pages_are file spans answer known theirs counted is =
+    sym (counted ∙ ap (λ (s : List Span). nat_lt MAX_PAGES (page_count s + STACK_PAGES)) theirs) ∙ is
+
+-- ---- what is left once the checks have passed
+
+good_entry : (file : List ℕ) (p : ProgramHeader) → is_bad_entry file p ≡ false → has_bytes p ≡ true → IsSegment (segment_of file p)
+good_entry file p good has =
+    let stack = or_parts _ _ good in
+    let ends = or_parts _ _ stack.0 in
+    let inside = or_parts _ _ ends.0 in
+    let longer = ltb-false p.p_memsz p.p_filesz inside.0 in
+    let cut = length-take p.p_filesz (drop p.p_offset file) in
+    record {
+      not_empty = ltb-true 0 p.p_memsz has;
+      whole = omega arith;
+      ends = ltb-false MEMORY_END (p.p_vaddr + p.p_memsz) ends.1;
+      off_the_stack = stack.1;
+      flags = omega arith;
+    }
+
+pub good_entries : (file : List ℕ) (ps : List ProgramHeader) → list_any (is_bad_entry file) ps ≡ false → AllByRecursion IsSegment (map (segment_of file) (filter has_bytes ps))
+good_entries file [] good = tt
+good_entries file (p ∷ ps) good = kept (good_entries file ps parts.1) (has_bytes p) refl
+  where
+    parts : (is_bad_entry file p ≡ false) × (list_any (is_bad_entry file) ps ≡ false)
+    parts = or_parts (is_bad_entry file p) (list_any (is_bad_entry file) ps) good
+
+    kept : AllByRecursion IsSegment (map (segment_of file) (filter has_bytes ps)) → (b : Bool) → has_bytes p ≡ b
+        → AllByRecursion IsSegment (map (segment_of file) (cond b (p ∷ filter has_bytes ps) (filter has_bytes ps)))
+    kept others true has = (good_entry file p parts.0 has, others)
+    kept others false has = others
+
+abbrev pub EndsInMemory : Span → Type 0
+EndsInMemory s = s.addr + s.size ≤ MEMORY_END
+
+pub ends_in_memory : (file : List ℕ) → list_any (is_bad_entry file) (loaded file) ≡ false → All EndsInMemory (spans_of (segments_of file))
+ends_in_memory file good =
+    let each = All-from_recursion IsSegment (segments_of file) (good_entries file (loaded file) good) in
+    All-map EndsInMemory span_of (segments_of file) (All-weaker IsSegment (λ s. EndsInMemory (span_of s)) (λ s is. is.ends) (segments_of file) each)
+
+pub are_segments : (file : List ℕ) → has_bad_segment file ≡ false → has_too_many_pages file ≡ false → AreSegments (segments_of file)
+are_segments file good few =
+    let some = or_parts _ _ good in
+    let apart = or_parts _ _ some.0 in
+    let filled = eqb-false (length (segments_of file)) 0 some.1 in
+    record {
+      each = good_entries file (loaded file) apart.0;
+      some = omega (arith, filled);
+      apart = apart.1;
+      few_pages = ltb-false _ _ few;
+    }

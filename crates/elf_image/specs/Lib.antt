@@ -1,0 +1,4 @@
+pub mod File
+pub mod Segment
+pub mod Faults
+pub mod Image
