@@ -1,9 +1,11 @@
 //! The memory of a guest: a table of pages, seen as the list of its pages in rising order of number.
 //!
-//! Promises: each access of a hart (`Mem`) is exact, with a constant number of page look-ups, and one for a word
-//! inside a page; mapping and unmapping keep the order and change no other page; a shared table is an equal one,
-//! and neither sees what is stored to the other. Stands on `dp_base` for `Mem` and the definitions of memory
-//! (`specs/Memory.antt`), and on `byteorder` for numbers in bytes.
+//! Promises: each access of a hart (`Mem`) is exact; mapping and unmapping keep the order and change no other page; a
+//! shared table is an equal one. Stands on `dp_base` for `Mem` and the definitions of memory (`specs/Memory.antt`), and
+//! on `byteorder` for numbers in bytes.
+//!
+//! No contract says how an access finds its pages: by hints that are checked, with one look-up for a word inside a page,
+//! and by a search where a hint is wrong.
 //!
 //! A guest stores a word to a page that it has mapped:
 //!
