@@ -13,7 +13,7 @@ use Rattle.dp_base.specs.Journal.{many_at}
 use Rattle.dp_base.proofs.Fields.{bind_some}
 use Rattle.dp_base.proofs.Many.{many_none, many_more, none_further}
 use Rattle.guest_state.specs.Checkpoint.{page_from, rising, rising_from}
-use Rattle.guest_kernel.specs.Memory.{page_with}
+use Rattle.cow_pages.specs.Mapping.{page_with}
 use Rattle.checkpoint.specs.Reading.{if_rising, rising_pages_at}
 
 -- ---- so many, of which the first are known

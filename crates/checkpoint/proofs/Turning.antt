@@ -20,14 +20,15 @@ use Rattle.guest_state.specs.declared.thread.Thread.{Thread}
 use Rattle.guest_state.specs.declared.thread.Thread.TheVariants.{Runs, Waits, Gone}
 use Rattle.guest_state.specs.Checkpoint.{IsEnd, IsFreeHart, IsThread, IsWord, IsPageContent, traps_within}
 use Rattle.guest_state.proofs.Codes.{bounds_of}
-use Rattle.guest_state.specs.Pages.{Memory}
+use Rattle.byteorder.specs.Endian.{little_number}
+use Rattle.dp_base.specs.Field.{AreBytes, ◌>>=◌}
+use Rattle.dp_base.specs.Memory.{Memory, byte_in, byte_with, bytes_with, fetched, has_flag, page_at}
 use Rattle.guest_state.specs.Register.{register, with_register, next, wrapped}
 use Rattle.guest_kernel.specs.declared.state.State.{State}
 use Rattle.guest_kernel.specs.declared.step.Instr.{Instr}
 use Rattle.guest_kernel.specs.declared.step.Instr.TheVariants.{Lui, Addi, Ecall}
 use Rattle.guest_kernel.specs.Call.{After, Refusal, Written, a0, a1, a2, a7, answered, bytes_written, called, minus, moved, written, written_by, ENOSYS}
 use Rattle.guest_kernel.specs.Instruction.{Effect, goes, calls, traps, decoded, executed, immediate_u, immediate_i, is_lui, is_addi, is_ecall, rd, rs1}
-use Rattle.guest_kernel.specs.Memory.{code_byte, byte_at, fetch, flags_at, page_at, readable}
 use Rattle.guest_kernel.specs.State.{counted, dropping, has_ended, unreserved, with_thread, without_reservation}
 use Rattle.guest_kernel.specs.Step.{effect, of_instruction, of_word}
 use Rattle.guest_kernel.specs.Threads.{thread_at}
@@ -80,31 +81,35 @@ find_all P test (q ∷ pages) p all is =
       | inr w ↦ find_all P test pages p all.1 w.1
     ]
 
-mapped : {A B : Type 0} (f : A → B) (o : Option A) (y : B) → option_map f o ≡ Some y → (x : A) × (o ≡ Some x) × (f x ≡ y)
-mapped f None y is = absurd cc
-mapped f (Some x) y is = (x, refl, same_Some _ _ is)
-
-code_byte_is : (memory : Memory) (address b : ℕ) → AllByRecursion IsPageContent memory → code_byte memory address ≡ Some b → b < 256
-code_byte_is memory address b all is =
-    let a = bind_some (flags_at memory address) (λ flags. cond (flags % 2 == 1) (byte_at memory address) None) b is in
-    let g = only_if (a.0 % 2 == 1) (byte_at memory address) b a.2 in
-    let p = mapped (λ (q : Page). slice_index q.bytes (address % PAGE_BYTES)) (page_at memory (address / PAGE_BYTES)) b g.1 in
+byte_is : (flag : ℕ) (memory : Memory) (address b : ℕ) → AllByRecursion IsPageContent memory → byte_with flag memory address ≡ Some b → b < 256
+byte_is flag memory address b all is =
+    let p = bind_some (page_at memory (address / PAGE_BYTES)) (byte_in flag (address % PAGE_BYTES)) b is in
+    let g = only_if (has_flag flag p.0) (Some (slice_index p.0.bytes (address % PAGE_BYTES))) b p.2 in
     let content = find_all IsPageContent (λ q. q.number == address / PAGE_BYTES) memory p.0 all p.1 in
-    subst (λ (n : ℕ). n < 256) p.2 (content.bytes (address % PAGE_BYTES))
+    subst (λ (n : ℕ). n < 256) (same_Some _ _ g.1) (content.bytes (address % PAGE_BYTES))
 
-fetch_is : (memory : Memory) (address word : ℕ) → AllByRecursion IsPageContent memory → fetch memory address ≡ Some word → IsWord word
-unfolding fetch
-fetch_is memory address word all is =
-    let a = bind_some (code_byte memory address) _ word is in
-    let b = bind_some (code_byte memory (address + 1)) _ word a.2 in
-    let c = bind_some (code_byte memory (address + 2)) _ word b.2 in
-    let d = bind_some (code_byte memory (address + 3)) _ word c.2 in
-    let one = code_byte_is memory address a.0 all a.1 in
-    let two = code_byte_is memory (address + 1) b.0 all b.1 in
-    let three = code_byte_is memory (address + 2) c.0 all c.1 in
-    let four = code_byte_is memory (address + 3) d.0 all d.1 in
-    let value = same_Some _ _ d.2 in
-    omega (arith, one, two, three, four, value)
+bytes_are : (flag : ℕ) (memory : Memory) (address count : ℕ) (bytes : List ℕ) → AllByRecursion IsPageContent memory → bytes_with flag memory address count ≡ Some bytes → AreBytes bytes
+unfolding bytes_with
+bytes_are flag memory address zero bytes all is = subst AreBytes (same_Some _ _ is) (λ i. omega arith)
+bytes_are flag memory address (suc count) bytes all is =
+    let first = bind_some (byte_with flag memory address) (λ b. bytes_with flag memory (address + 1) count >>= λ others. Some (b ∷ others)) bytes is in
+    let others = bind_some (bytes_with flag memory (address + 1) count) (λ others. Some (first.0 ∷ others)) bytes first.2 in
+    subst AreBytes (same_Some _ _ others.2) (joined first.0 others.0 (byte_is flag memory address first.0 all first.1) (bytes_are flag memory (address + 1) count others.0 all others.1))
+  where
+    joined : (b : ℕ) (others : List ℕ) → b < 256 → AreBytes others → AreBytes (b ∷ others)
+    joined b others fits more zero = fits
+    joined b others fits more (suc i) = more i
+
+-- the word in four bytes
+pub little_word : (bytes : List ℕ) → AreBytes bytes → IsWord (little_number 4 bytes)
+little_word bytes fits = omega (arith, fits 0, fits 1, fits 2, fits 3)
+
+fetch_is : (memory : Memory) (address word : ℕ) → AllByRecursion IsPageContent memory → fetched address memory ≡ Some word → IsWord word
+fetch_is memory address word all is = by_bytes (bytes_with 1 memory address 4) (λ bytes there. bytes_are 1 memory address 4 bytes all there) is
+  where
+    by_bytes : (o : Option (List ℕ)) → ((bytes : List ℕ) → o ≡ Some bytes → AreBytes bytes) → option_map (little_number 4) o ≡ Some word → IsWord word
+    by_bytes None known e = absurd cc
+    by_bytes (Some bytes) known e = subst IsWord (same_Some _ _ e) (little_word bytes (known bytes refl))
 
 -- ---- effects
 
@@ -142,7 +147,7 @@ of_word_is_good hart (Some word) is fits = of_instruction_is_good hart word is (
 
 effect_is_good : (hart : Hart) (memory : Memory) → IsHart hart → AllByRecursion IsPageContent memory → IsGood (effect hart memory)
 effect_is_good hart memory is all =
-    cond_both (hart.pc % 4 == 0) _ _ IsGood (λ _. of_word_is_good hart (fetch memory hart.pc) is (λ word found. fetch_is memory hart.pc word all found)) (λ _. (omega arith, is.pc))
+    cond_both (hart.pc % 4 == 0) _ _ IsGood (λ _. of_word_is_good hart (fetched hart.pc memory) is (λ word found. fetch_is memory hart.pc word all found)) (λ _. (omega arith, is.pc))
 
 -- ---- turns
 
@@ -223,7 +228,7 @@ module _ (s : State) (tid : Tid) (hart : Hart) (clear : ℕ) (log : List Answer)
   written_word : (memory : Memory) (fd addr len : ℕ) → HasWord (written memory fd addr len)
   written_word memory fd addr len =
       cond_both (not (fd == 1)) _ _ HasWord (λ _. omega arith)
-      (λ _. cond_both (len == 0) _ _ HasWord (λ _. omega arith) (λ _. bytes_word (moved len) (readable memory addr (moved len)) (min-le_right len MAX_CALL_BYTES)))
+      (λ _. cond_both (len == 0) _ _ HasWord (λ _. omega arith) (λ _. bytes_word (moved len) (bytes_with 4 memory addr (moved len)) (min-le_right len MAX_CALL_BYTES)))
 
   called_keeps : Keeps tid (called s tid hart clear log)
   called_keeps =

@@ -119,7 +119,7 @@ fn read_pages(
     requires { count ≤ MAX_PAGES }
     ensures { IfOk result (λ found. option_map (λ x. (x.0, x.1.now)) found ≡ rising_pages_at count bytes.now) }
 {
-    let mut pages = Pages::new(alloc);
+    let mut pages = Pages::new(alloc)?;
     let mut least = 0;
     let mut rest = bytes;
     'pages: for _ in 0..count {

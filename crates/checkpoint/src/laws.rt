@@ -9,9 +9,8 @@ ghost use Rattle.dp_base.specs.Field.{AreBytes};
 ghost use Rattle.dp_base.specs.Journal.{Epoch};
 ghost use Rattle.guest_kernel.specs.declared.state.State.{State};
 ghost use Rattle.guest_kernel.specs.Call.{After};
-ghost use Rattle.guest_kernel.specs.Image.{IsGuestFile};
 ghost use Rattle.guest_kernel.specs.Slices.{at, run, chain};
-ghost use Rattle.guest_kernel.specs.Start.{start_state};
+ghost use Rattle.guest_kernel.specs.Start.{IsGuestFile, start_state};
 ghost use Rattle.guest_kernel.specs.State.{without_reservation};
 ghost use Rattle.guest_kernel.specs.Turn.{turn};
 ghost use Rattle.checkpoint.specs.State.{IsEncodable};
@@ -19,7 +18,11 @@ ghost use Rattle.checkpoint.specs.State.{IsEncodable};
 /// The state in which a guest starts has an encoding.
 pub fn a_start_state_is_encodable()
     ensures { (file : List ℕ) → IsGuestFile file → AreBytes file → IsEncodable (start_state file) }
-{}
+{
+    elf_image::laws::a_file_without_fault_has_segments();
+    elf_image::laws::a_heap_starts_in_memory();
+    guest_kernel::laws::a_guest_starts_with_pages();
+}
 
 /// Behind a turn a state has an encoding once the reservation of the thread whose turn it was is dropped, if it was so
 /// before. Step counts are below 2^64.

@@ -4,7 +4,7 @@ ghost use Rattle.checkpoint.specs.State.{IsEncodable};
 
 use super::*;
 use dp_base::{Slice, Tid};
-use guest_kernel::{SliceRun, State, load, start};
+use guest_kernel::{SliceRun, State, start_from_file};
 use std::alloc::Global;
 use std::test::Fail;
 
@@ -29,10 +29,8 @@ fn started(alloc: Global, file: &[u8]) -> Result<State, Fail>
     ensures steps { IfOk result (λ state. state.steps ≡ 0) }
     ensures input { IfOk result (λ state. state.input ≡ 0) }
 {
-    guest_kernel::laws::an_image_starts_as_its_file();
     laws::a_start_state_is_encodable();
-    let image = load(alloc, file)?;
-    Ok(start(alloc, &image)?)
+    Ok(start_from_file(alloc, file)?)
 }
 
 fn ended(alloc: Global) -> Result<State, Fail>

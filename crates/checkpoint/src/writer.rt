@@ -3,14 +3,14 @@ ghost use Rattle.std.specs.Prelude.{◌≡◌, ◌<◌, ◌^◌, ◌++◌, true,
 ghost use Rattle.byteorder.specs.Endian.{little_bytes};
 ghost use Rattle.std.specs.List.{flat_map};
 ghost use Rattle.guest_state.specs.Checkpoint.{word, end_bytes, hart_bytes, thread_bytes, page_bytes};
-ghost use Rattle.guest_state.specs.View.{page_of};
+ghost use Rattle.dp_base.specs.View.{page_of};
 ghost use Rattle.checkpoint.specs.Sink.{Adds};
 ghost use Rattle.checkpoint.specs.State.{state_bytes};
 
 use crate::sink::Sink;
-use dp_base::OutOfMemory;
+use dp_base::{OutOfMemory, PageView};
 use guest_kernel::State;
-use guest_state::{End, Hart, PageView, Thread};
+use guest_state::{End, Hart, Thread};
 
 /// Puts a state's bytes.
 pub fn write_state<S: Sink>(sink: &mut S, state: &State) -> Result<(), OutOfMemory>

@@ -10,7 +10,7 @@ use Rattle.dp_base.specs.Memory.{Memory, byte_in, byte_with, bytes_with, has_fla
 use Rattle.dp_base.specs.declared.page.Page.{Page}
 
 -- the first byte, and those behind it
-abbrev first_and : Option ℕ → Option (List ℕ) → Option (List ℕ)
+abbrev pub first_and : Option ℕ → Option (List ℕ) → Option (List ℕ)
 first_and first others = first >>= (λ b. others >>= (λ (bytes : List ℕ). Some (b ∷ bytes)))
 
 first_by : (b : Bool) (x : ℕ) (xs : List ℕ) → first_and (if b then Some x else None) (if b then Some xs else None) ≡ (if b then Some (x ∷ xs) else None)

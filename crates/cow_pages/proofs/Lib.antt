@@ -1,5 +1,6 @@
 pub mod InPages
 pub mod PageTable
 pub mod Places
+pub mod Ranges
 pub mod Stores
 pub mod Writes

@@ -7,6 +7,7 @@ use Rattle.std.proofs.lemmas.List.{append-nil, get_or-set_other, get_or-set_same
 use Rattle.std.proofs.Math.Nat.{div-one}
 use Rattle.byteorder.specs.Endian.{little_bytes, little_number}
 use Rattle.byteorder.specs.Numbers.{length-bytes_low_first, little_from-bytes}
+use Rattle.cow_pages.proofs.InPages.{first_and}
 use Rattle.cow_pages.proofs.Places.{IsPage_by_number}
 use Rattle.cow_pages.proofs.Writes.{ArePages-changed, change_twice, put_some, put_none}
 use Rattle.cow_pages.specs.InPage.{place_of}
@@ -152,10 +153,6 @@ pub flags_kept : (bytes : List ℕ) (a n : ℕ) (memory : Memory) → option_map
 unfolding put_bytes
 flags_kept [] a n memory = refl
 flags_kept (b ∷ bs) a n memory = flags_kept bs (a + 1) n (put_byte a b memory) ∙ flags_put a b n memory
-
--- the first byte, and those behind it
-abbrev first_and : Option ℕ → Option (List ℕ) → Option (List ℕ)
-first_and first others = first >>= (λ b. others >>= (λ (bytes : List ℕ). Some (b ∷ bytes)))
 
 bytes_above : (flag count a v c : ℕ) (memory : Memory) → a < c → bytes_with flag (put_byte a v memory) c count ≡ bytes_with flag memory c count
 unfolding bytes_with

@@ -1,8 +1,9 @@
 // A page of a table. Its value is its number, flags and bytes.
-ghost use Rattle.std.specs.Prelude.{◌≡◌, ◌<◌, ◌≤◌, slice_index};
+ghost use Rattle.std.specs.Prelude.{◌≡◌, ◌+◌, ◌<◌, ◌≤◌, slice_index};
+ghost use Rattle.std.specs.Option.{option_copied};
 ghost use Rattle.byteorder.specs.Endian.{little_bytes, little_number};
 ghost use Rattle.dp_base.specs.Memory.{has_flag, with_byte};
-ghost use Rattle.cow_pages.specs.InPage.{bytes_from, page_of, with_bytes, written};
+ghost use Rattle.cow_pages.specs.InPage.{bytes_from, bytes_in, page_of, with_bytes, written};
 
 use std::marker::Model;
 
@@ -69,6 +70,20 @@ impl Frame {
         ensures { result ≡ has_flag flag self.now }
     {
         self.flags / flag % 2 == 1
+    }
+
+    // So many bytes from an offset on, where the page has a flag.
+    #[tactic(auto, using(crate::proofs::Ranges::slice_is))]
+    pub fn part(&self, flag: u8, offset: usize, count: usize) -> Option<&[u8]>
+        requires flag { 0 < flag }
+        requires inside { offset + count ≤ 4096 }
+        ensures { option_copied result ≡ bytes_in flag offset count self.now }
+    {
+        if self.has(flag) {
+            Some(&self.bytes[offset..offset + count])
+        } else {
+            None
+        }
     }
 
     #[inline(always)]

@@ -1,15 +1,16 @@
 // Guest memory: a table of pages, seen as the list of its pages in rising order of number.
-ghost use Rattle.std.specs.Prelude.{◌≡◌, ◌^◌, ◌<◌, ◌≤◌, ◌++◌, ◌-◌, [], ◌∷◌, All, IfOk, IfSome, None, OnErr, OnOk, length, replicate};
+ghost use Rattle.std.specs.Prelude.{◌≡◌, ◌^◌, ◌<◌, ◌≤◌, ◌++◌, ◌-◌, [], ◌∷◌, All, IfOk, IfSome, None, OnErr, OnOk, length, replicate, slice_get};
 ghost use Rattle.std.specs.Option.{option_copied, option_map};
 ghost use Rattle.byteorder.specs.Endian.{little_number};
 ghost use Rattle.dp_base.specs.Memory.{ArePages, IsPage, byte_with, bytes_with, may_store, page_at, put_byte, stored};
+ghost use Rattle.dp_base.specs.View.{page_of};
 ghost use Rattle.cow_pages.specs.InPage.{place_of};
 ghost use Rattle.cow_pages.specs.Mapping.{page_with, with_page, without_page};
 
 use crate::frame::Frame;
 use crate::table;
 use dp_base::limits::{MAX_PAGES, PAGE_BYTES, PAGE_NUMBERS};
-use dp_base::{OutOfMemory, Width};
+use dp_base::{OutOfMemory, PageView, Width};
 use std::alloc::Global;
 use std::marker::Model;
 
@@ -76,6 +77,19 @@ impl Pages {
         ensures kept { ArePages self.now }
     {
         self.table.len() as u32
+    }
+
+    /// Returns the page at this place in rising order of number, or `None` if there are no more.
+    pub fn at(&self, place: usize) -> Option<PageView<'_>>
+        ensures page { option_map page_of result ≡ slice_get self.now place }
+        ensures kept { IfSome result (λ page. IsPage (page_of page)) }
+    {
+        let page = self.table.get(place)?;
+        Some(PageView {
+            number: page.number(),
+            flags: page.flags(),
+            bytes: page.bytes(),
+        })
     }
 
     /// Returns the flags of the page with this number, or `None` if none is mapped.
@@ -179,7 +193,7 @@ impl Pages {
     }
 
     #[tactic(auto, using(crate::proofs::Places::page_some, crate::proofs::Places::page_none, crate::proofs::Places::IsPage_found))]
-    fn page(&self, number: u32) -> Option<&Frame>
+    pub(crate) fn page(&self, number: u32) -> Option<&Frame>
         ensures found { option_copied result ≡ page_at self.now number }
         ensures kept { IfSome result (λ page. IsPage page.now) }
     {

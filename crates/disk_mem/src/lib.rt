@@ -1,4 +1,4 @@
-//! The outside of a recorder in memory: `MemWorld` is a disk and two output streams, `MemFiles` are files by name.
+//! The outside of a recorder and of a replayer in memory: `MemWorld` is a disk and two output streams, `MemFiles` are files by name.
 //!
 //! Promises: a call on a `MemWorld` fails only by its number, as the `Fails` of its kind says, or with `allocation_failed`
 //! true from then on. A fetch fails only by its number or at a name that no file has, or it answers `OutOfMemory`. What

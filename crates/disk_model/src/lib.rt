@@ -1,4 +1,4 @@
-//! The outside of a recorder, as traits: `World` is one disk and two output streams, `Files` are files by name.
+//! The outside of a recorder and of a replayer, as traits: `World` is one disk and two output streams, `Files` are files by name.
 //!
 //! Promises: a call fails only where its own count of faults rises, or is at its greatest value; where the history of a
 //! world is known, each call extends it by exactly one step of `specs/Steps.antt`, whatever the call answers. What a crash

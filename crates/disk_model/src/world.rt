@@ -1,4 +1,4 @@
-// The outside of a recorder: a disk and two output streams.
+// The outside of a recorder and of a replayer: a disk and two output streams.
 ghost use Rattle.std.specs.Prelude.{◌≡◌, ◌<◌, ◌≤◌, ℕ, Option, IsErr, IfOk, OnOk, is_ok, length};
 ghost use Rattle.disk_model.specs.Counts.{Rose};
 ghost use Rattle.disk_model.specs.History.{History};

@@ -12,7 +12,7 @@ pub enum Access<T> {
     Done(T),
     /// Some byte lies on no page, or on a page without the flag.
     Denied,
-    /// Another hart has the page for now.
+    /// Other harts were in the way of the access.
     Busy,
 }
 

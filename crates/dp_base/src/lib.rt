@@ -38,7 +38,7 @@ pub use answer_view::AnswerView;
 pub use bytes::Bytes;
 pub use mem::Mem;
 pub use out_of_memory::OutOfMemory;
-pub use page::Page;
+pub use page::{Page, PageView};
 pub use slice::Slice;
 pub use tid::Tid;
 

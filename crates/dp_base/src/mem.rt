@@ -4,8 +4,8 @@ ghost use Rattle.dp_base.specs.Memory.{after_amo, allowed, amo_word, answer_of, 
 
 use crate::{Access, AmoOp, OutOfMemory, Width};
 
-/// A memory that harts load from and store to. Where its pages are known, each access is exact and never busy.
-/// Where they aren't, nothing is said of it. An `Err` changes nothing.
+/// A memory that harts load from and store to. Where its pages are known, each access is exact and never busy, and an
+/// `Err` changes nothing. Where they aren't, nothing is said of it.
 pub trait Mem {
     ghost use Rattle.std.specs.Prelude.{List, Option};
     ghost use Rattle.dp_base.specs.declared.page.Page.{Page};

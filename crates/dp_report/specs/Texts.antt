@@ -24,14 +24,14 @@ report_line r =
 
 -- ---- the statuses
 
--- why a guest's file is refused, by the fault's number from 0 on
+-- why a guest's file is refused, by the fault's number from 1 on
 abbrev pub image_faults : List (List ℕ)
 image_faults =
-    codes "NotBuilt" ∷ codes "TooLong" ∷ codes "NotElf" ∷ codes "NotClass32" ∷ codes "NotLittle" ∷ codes "NotExec" ∷ codes "NotRiscv" ∷ codes "BadTable"
+    codes "TooLong" ∷ codes "NotElf" ∷ codes "NotClass32" ∷ codes "NotLittle" ∷ codes "NotExec" ∷ codes "NotRiscv" ∷ codes "BadTable"
     ∷ codes "Interp" ∷ codes "BadSegment" ∷ codes "TooManyPages" ∷ []
 
 abbrev pub image_fault : ℕ → List ℕ
-image_fault fault = get_or image_faults fault (codes "Unknown")
+image_fault fault = get_or (codes "Unknown" ∷ image_faults) fault (codes "Unknown")
 
 abbrev pub status_line : Status → List ℕ
 status_line statuses.Ok = []

@@ -115,7 +115,6 @@ fn image_fault_name(fault: u32) -> &'static [u8]
     ensures { result.now ≡ image_fault fault }
 {
     match fault {
-        0 => b"NotBuilt",
         1 => b"TooLong",
         2 => b"NotElf",
         3 => b"NotClass32",

@@ -93,11 +93,7 @@ fn statuses(rt: HostRuntime) -> Result<(), Fail> {
             3,
             b"dpcli: guest file could not be read\n",
         ),
-        (
-            Status::BadImage(0),
-            4,
-            b"dpcli: guest refused: 0 NotBuilt\n",
-        ),
+        (Status::BadImage(0), 4, b"dpcli: guest refused: 0 Unknown\n"),
         (Status::BadImage(1), 4, b"dpcli: guest refused: 1 TooLong\n"),
         (Status::BadImage(2), 4, b"dpcli: guest refused: 2 NotElf\n"),
         (

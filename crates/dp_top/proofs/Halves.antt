@@ -1,20 +1,19 @@
 -- What a recording leaves plays to what it was.
-use Rattle.std.proofs.Common.{◌≡◌, inr, ℕ, ◌+◌, ◌-◌, ◌≤◌, List, [], ◌∷◌, ◌++◌, length, Option, Some, Result, Ok, Err, refl, sym, ap, subst, ◌∙◌, arith}
+use Rattle.std.proofs.Common.{◌≡◌, ℕ, ◌+◌, ◌-◌, ◌≤◌, List, [], ◌∷◌, ◌++◌, length, Option, Some, Result, Ok, Err, refl, sym, ap, subst, ◌∙◌, arith}
 use Rattle.std.specs.List.{AllByRecursion}
 use Rattle.std.proofs.lemmas.Option.{same_Some}
 use Rattle.checkpoint.specs.State.{digest_of}
-use Rattle.dp_base.specs.declared.limits.TheConstants.{MAX_JOURNAL_BYTES}
+use Rattle.dp_base.specs.declared.limits.TheConstants.{MAX_GUEST_BYTES, MAX_JOURNAL_BYTES}
 use Rattle.dp_base.specs.Field.{AreBytes}
 use Rattle.dp_base.specs.Journal.{Epoch, IsGuest}
 use Rattle.disk_model.specs.History.{History}
 use Rattle.dp_report.specs.declared.report.Report.{Report}
-use Rattle.epoch_replay.specs.Play.{Played, Plays, Refusal, behind, play_from, play_of, played}
+use Rattle.epoch_replay.specs.Play.{Played, Refusal, behind, play_from, play_of, played, played_if, plays_to}
 use Rattle.epoch_replay.specs.Replaying.{Ends, epochs_of}
 use Rattle.guest_kernel.specs.declared.state.State.{State}
 use Rattle.guest_kernel.specs.Call.{After}
-use Rattle.guest_kernel.specs.Image.{IsGuestFile}
 use Rattle.guest_kernel.specs.Slices.{Stop, at, chain, either, onto, run}
-use Rattle.guest_kernel.specs.Start.{start_state}
+use Rattle.guest_kernel.specs.Start.{IsGuestFile, start_state}
 use Rattle.journal_text.specs.Reading.{Reading, Tail, end, ending, journal_of, reads}
 use Rattle.journal_text.specs.Records.{IsRecord, Record}
 use Rattle.recorder.specs.declared.options.Options.{Options}
@@ -61,18 +60,21 @@ abbrev AtRest : Type 0
 AtRest = (guest : List ℕ) (records : List Record) → IsGuest guest → AllByRecursion IsRecord records → length (journal_of guest records) ≤ MAX_JOURNAL_BYTES
     → reads (journal_of guest records) ≡ Some (ending guest records (length (journal_of guest records) - 1))
 
-module _ (law : AtRest) (guest : List ℕ) (options : Options) (r : Run options (start_state guest)) (accepted : IsGuestFile guest) (fits : AreBytes guest) (room : HasRoom guest options r.epochs) where
+abbrev Short : Type 0
+Short = (file : List ℕ) → IsGuestFile file → length file ≤ MAX_GUEST_BYTES
+
+module _ (law : AtRest) (size : Short) (guest : List ℕ) (options : Options) (r : Run options (start_state guest)) (accepted : IsGuestFile guest) (fits : AreBytes guest) (room : HasRoom guest options r.epochs) where
   abbrev place : ℕ
   place = length (journal_of guest (records_of r.epochs)) - 1
 
   reads_as : reads (journal_of guest (records_of r.epochs)) ≡ Some (ending guest (records_of r.epochs) place)
-  reads_as = law guest (records_of r.epochs) (omega (arith, accepted.not_long), fits) (are_records options (start_state guest) r.epochs r.each) (omega (arith, room, options.room_range))
+  reads_as = law guest (records_of r.epochs) (omega (arith, size guest accepted), fits) (are_records options (start_state guest) r.epochs r.each) (omega (arith, room, options.room_range))
 
-  plays_to : play_of (ending guest (records_of r.epochs) place) ≡ made (Ok r.end) r.output
-  plays_to = subst (λ (c : Result (State × List ℕ) ℕ). ended_as c (play_of (ending guest (records_of r.epochs) place))) r.chained (chain_plays r.epochs 1 place (start_state guest))
+  plays : play_of (ending guest (records_of r.epochs) place) ≡ made (Ok r.end) r.output
+  plays = subst (λ (c : Result (State × List ℕ) ℕ). ended_as c (play_of (ending guest (records_of r.epochs) place))) r.chained (chain_plays r.epochs 1 place (start_state guest))
 
-  pub run_plays : Plays (reads (journal_of guest (records_of r.epochs))) (played (made (Ok r.end) r.output))
-  run_plays = subst (λ (q : Option Reading). Plays q (played (made (Ok r.end) r.output))) (sym reads_as) (inr (accepted, ap played (sym plays_to)))
+  pub run_plays : plays_to (reads (journal_of guest (records_of r.epochs))) ≡ played (made (Ok r.end) r.output)
+  run_plays = ap plays_to reads_as ∙ ap (λ (fault : Option ℕ). played_if fault (ending guest (records_of r.epochs) place)) accepted ∙ ap played plays
 
   pub run_ends : (report : Report) → report ≡ record { epochs = length r.epochs; squashes = 0; steps = r.end.steps; sent = length r.output; end = r.end.end; state = digest_of r.end }
       → Ends (reads (journal_of guest (records_of r.epochs))) r.output (record report { squashes = 0 })
@@ -84,13 +86,13 @@ module _ (law : AtRest) (guest : List ℕ) (options : Options) (r : Run options 
     reported = (let count = ap (λ (l : List Epoch). length l) (epochs_are r.epochs) in let report_is = is in cc);
   }
 
-pub recording_plays : AtRest → (guest : List ℕ) (options : Options) (before after : History) (report : Report) → IsGuestFile guest → AreBytes guest
+pub recording_plays : AtRest → Short → (guest : List ℕ) (options : Options) (before after : History) (report : Report) → IsGuestFile guest → AreBytes guest
     → Recorded guest (start_state guest) options (Some before) (Some after) (Ok report) → (output : List ℕ) × (after.sent ≡ before.sent ++ output) × Ends (reads after.disk) output (record report { squashes = 0 })
-recording_plays law guest options before after report accepted fits recorded =
+recording_plays law size guest options before after report accepted fits recorded =
     let r = recorded.0 in
     let k = recorded.4 in
     let there_is : after ≡ k.0 = same_Some _ _ k.1 in (
       r.output,
       ap (λ (h : History). h.sent) there_is ∙ k.2.sent,
-      subst (λ (disk : List ℕ). Ends (reads disk) r.output (record report { squashes = 0 })) (sym (ap (λ (h : History). h.disk) there_is ∙ k.2.stands.disk)) (run_ends law guest options r accepted fits recorded.3 report recorded.2),
+      subst (λ (disk : List ℕ). Ends (reads disk) r.output (record report { squashes = 0 })) (sym (ap (λ (h : History). h.disk) there_is ∙ k.2.stands.disk)) (run_ends law size guest options r accepted fits recorded.3 report recorded.2),
     )

@@ -12,8 +12,7 @@ use Rattle.disk_model.specs.History.{History}
 use Rattle.disk_model.specs.Known.{IfKnown}
 use Rattle.disk_model.proofs.Knowing.{known-same}
 use Rattle.guest_kernel.specs.declared.state.State.{State}
-use Rattle.guest_kernel.specs.Image.{IsGuestFile}
-use Rattle.guest_kernel.specs.Start.{start_state}
+use Rattle.guest_kernel.specs.Start.{IsGuestFile, start_state}
 use Rattle.recorder.specs.declared.options.Options.{Options}
 use Rattle.dp_report.specs.declared.report.Report.{Report}
 use Rattle.recorder.specs.declared.record_fault.RecordFault.{RecordFault}
@@ -96,7 +95,7 @@ pub complete_by : (name : List ℕ) (options : Options) (files : Option (List Fi
 complete_by name options files before there statuses.Ok came names empty file disk sink = tt
 complete_by name options files before there statuses.Usage came names empty file disk sink = came
 complete_by name options files before there statuses.GuestFault came names empty file disk sink = file refl
-complete_by name options files before there (statuses.BadImage fault) came names empty file disk sink = came.2 (same_guest files name came.0 names came.1)
+complete_by name options files before there (statuses.BadImage fault) came names empty file disk sink = (let none = same_guest files name came.0 names came.1 in let some = came.2 in cc)
 complete_by name options files before there statuses.InputFault came names empty file disk sink = came
 complete_by name options files before there statuses.DiskFault came names empty file disk sink = disk refl
 complete_by name options files before there statuses.OutputFault came names empty file disk sink = sink refl

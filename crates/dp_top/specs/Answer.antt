@@ -1,5 +1,5 @@
 -- The status of an answer, a row for each. This project's own.
-use Rattle.std.specs.Prelude.{Result, Ok, Err}
+use Rattle.std.specs.Prelude.{ℕ, Option, Some, None, Result, Ok, Err}
 use Rattle.dp_report.specs.declared.report.Report.{Report}
 use Rattle.recorder.specs.declared.record_fault.RecordFault.{RecordFault}
 use Rattle.recorder.specs.declared.record_fault.RecordFault.TheVariants as faults
@@ -17,6 +17,11 @@ status_of (Err (faults.JournalInUse len)) = statuses.JournalInUse len
 status_of (Err (faults.StepLimit steps)) = statuses.StepLimit steps
 status_of (Err (faults.JournalFull end need)) = statuses.JournalFull end need
 status_of (Err faults.OutOfMemory) = statuses.OutOfMemory
+
+-- of a guest whose file is refused, by the fault's number, which memory's want doesn't have
+abbrev pub status_of_image : Option ℕ → Status
+status_of_image (Some fault) = statuses.BadImage fault
+status_of_image None = statuses.OutOfMemory
 
 -- of a replay
 abbrev pub status_of_replay : Result Report ReplayFault → Status

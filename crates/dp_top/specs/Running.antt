@@ -10,8 +10,8 @@ use Rattle.dp_report.specs.declared.report.Report.{Report}
 use Rattle.dp_report.specs.declared.status.Status.{Status}
 use Rattle.dp_report.specs.declared.status.Status.TheVariants as statuses
 use Rattle.dp_report.specs.Texts.{status_line}
-use Rattle.guest_kernel.specs.Image.{IsGuestFile}
-use Rattle.guest_kernel.specs.Start.{start_state}
+use Rattle.elf_image.specs.Faults.{image_fault}
+use Rattle.guest_kernel.specs.Start.{IsGuestFile, start_state}
 use Rattle.recorder.specs.declared.options.Options.{Options}
 use Rattle.recorder.specs.declared.record_fault.RecordFault.{RecordFault}
 use Rattle.recorder.specs.declared.record_fault.RecordFault.TheVariants as faults
@@ -35,7 +35,7 @@ abbrev pub CameTo : (name : List ℕ) → Options → Option (List File) → Opt
 CameTo name options files before after statuses.Ok = (report : Report) × RecordedAs name options files before after (Ok report)
 CameTo name options files before after statuses.GuestFault = after ≡ before
 CameTo name options files before after (statuses.BadImage fault) =
-    (bytes : List ℕ) × IsFetched files name bytes × (IsGuestFile bytes → ⊥) × (fault ≡ 0) × (after ≡ before)
+    (bytes : List ℕ) × IsFetched files name bytes × (image_fault bytes ≡ Some fault) × (after ≡ before)
 CameTo name options files before after statuses.DiskFault = RecordedAs name options files before after (Err faults.DiskFault)
 CameTo name options files before after statuses.OutputFault = RecordedAs name options files before after (Err faults.OutputFault)
 CameTo name options files before after (statuses.JournalInUse len) = RecordedAs name options files before after (Err (faults.JournalInUse len))
@@ -66,6 +66,10 @@ Did words files before after status =
 -- report's has been sent by then.
 abbrev pub Ran : List (String Global) → Option (List File) → Option History → Option History → Status → (told : Bool) → Type 0
 Ran words files before after status told = (done : Option History) × Did words files before done status × IfKnown (Sent Note (status_line status) told) done after
+
+-- the guest's file is refused
+abbrev pub IsBadImage : Status → Type 0
+IsBadImage status = (fault : ℕ) × (status ≡ statuses.BadImage fault)
 
 -- ---- completeness
 

@@ -5,21 +5,21 @@ ghost use Rattle.std.specs.Prelude.{◌≡◌, ◌++◌, ℕ, List, Some, Ok};
 ghost use Rattle.dp_base.specs.Field.{AreBytes};
 ghost use Rattle.disk_model.specs.History.{History};
 ghost use Rattle.dp_report.specs.declared.report.Report.{Report};
-ghost use Rattle.epoch_replay.specs.Play.{Plays, played};
+ghost use Rattle.epoch_replay.specs.Play.{played, plays_to};
 ghost use Rattle.epoch_replay.specs.Replaying.{Ends};
-ghost use Rattle.guest_kernel.specs.Image.{IsGuestFile};
-ghost use Rattle.guest_kernel.specs.Start.{start_state};
+ghost use Rattle.guest_kernel.specs.Start.{IsGuestFile, start_state};
 ghost use Rattle.journal_text.specs.Reading.{journal_of, reads};
 ghost use Rattle.recorder.specs.declared.options.Options.{Options};
 ghost use Rattle.recorder.specs.Recording.{HasRoom, Recorded, Run, records_of};
 
-/// The journal of a run, however far it came, plays to its end: to the run's whole output, and to the state in which the run
+/// The journal of a run, however far it came, plays to its end if it has room: to the run's whole output, and to the state in which the run
 /// ends.
 pub fn a_run_plays_to_its_end()
     ensures { (guest : List ℕ) (options : Options) (r : Run options (start_state guest)) → IsGuestFile guest → AreBytes guest →
         HasRoom guest options r.epochs →
-        Plays (reads (journal_of guest (records_of r.epochs))) (played (record { output = r.output; stop = Ok r.end })) }
+        plays_to (reads (journal_of guest (records_of r.epochs))) ≡ played (record { output = r.output; stop = Ok r.end }) }
 {
+    elf_image::laws::a_file_without_fault_has_segments();
     journal_text::laws::a_journal_at_rest_reads_as_itself();
 }
 
@@ -31,5 +31,6 @@ pub fn a_recording_plays_as_it_was()
         (output : List ℕ) × (after.sent ≡ before.sent ++ output)
         × Ends (reads after.disk) output (record report { squashes = 0 }) }
 {
+    elf_image::laws::a_file_without_fault_has_segments();
     journal_text::laws::a_journal_at_rest_reads_as_itself();
 }

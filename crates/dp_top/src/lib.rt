@@ -26,6 +26,8 @@ pub use top::run;
 #[cfg(test)]
 mod guests;
 #[cfg(test)]
+mod image_tests;
+#[cfg(test)]
 mod journal_tests;
 #[cfg(test)]
 mod lower_tests;

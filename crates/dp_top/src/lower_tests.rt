@@ -6,7 +6,7 @@ use crate::guests::EXITS;
 use checkpoint::{decode, encode};
 use disk_mem::CallNumbers;
 use dp_base::Bytes;
-use guest_kernel::{State, load, start};
+use guest_kernel::{State, start_from_file};
 use state_compare::equal;
 use std::alloc::Global;
 use std::test::Fail;
@@ -20,13 +20,11 @@ fn lists_given_back(rt: HostRuntime) -> Result<(), Fail> {
     Ok(())
 }
 
-pub fn started(alloc: Global, file: &[u8]) -> Result<State, Fail>
+pub(crate) fn started(alloc: Global, file: &[u8]) -> Result<State, Fail>
     ensures { IfOk result IsEncodable }
 {
-    guest_kernel::laws::an_image_starts_as_its_file();
     checkpoint::laws::a_start_state_is_encodable();
-    let image = load(alloc, file)?;
-    Ok(start(alloc, &image)?)
+    Ok(start_from_file(alloc, file)?)
 }
 
 // A start state has 69,879 bytes: 8 + 8 + 4 + 4 + 1 + 2, a thread's 133, and 2 + 17 pages of 4,101. What they decode to

@@ -25,7 +25,7 @@ fn seen(file: &[u8], at: u64) -> (Kind, u64, usize) {
 }
 
 // How many bytes there are, as a journal has it.
-pub fn length_of(bytes: &[u8]) -> [u8; 4] {
+pub(crate) fn length_of(bytes: &[u8]) -> [u8; 4] {
     let count = bytes.len().min(u32::MAX as usize) as u32;
     u32::to_le_bytes(count)
 }
@@ -41,7 +41,7 @@ fn recorded(alloc: Global, body: &[u8]) -> Result<Vec<u8>, Fail> {
 }
 
 /// The bytes with so many of them, from a place on, replaced.
-pub fn replaced(
+pub(crate) fn replaced(
     alloc: Global,
     bytes: &[u8],
     at: usize,
@@ -75,7 +75,7 @@ fn is_mark(alloc: Global, body: &[u8], at: usize, count: usize, by: &[u8]) -> Re
 }
 
 /// The state in which a guest starts, as a mark's body of 69,880 bytes.
-pub fn body_of_a_start(alloc: Global, guest: &[u8]) -> Result<Vec<u8>, Fail> {
+pub(crate) fn body_of_a_start(alloc: Global, guest: &[u8]) -> Result<Vec<u8>, Fail> {
     let state = started(alloc, guest)?;
     let encoding = encode(alloc, &state)?;
     let body = replaced(alloc, &encoding, 0, 0, b"\x01")?;

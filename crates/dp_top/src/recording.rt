@@ -2,8 +2,7 @@
 ghost use Rattle.std.specs.Prelude.{◌≡◌, ◌≤◌, Result};
 ghost use Rattle.disk_model.specs.Counts.{Rose};
 ghost use Rattle.dp_report.specs.declared.report.Report.{Report};
-ghost use Rattle.guest_kernel.specs.Image.{IsGuestFile};
-ghost use Rattle.guest_kernel.specs.Start.{start_state};
+ghost use Rattle.guest_kernel.specs.Start.{IsGuestFile, start_state};
 ghost use Rattle.recorder.specs.declared.record_fault.RecordFault.{RecordFault};
 ghost use Rattle.recorder.specs.Recording.{Recorded};
 ghost use Rattle.dp_top.specs.Answer.{status_of};

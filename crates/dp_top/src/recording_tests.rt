@@ -5,7 +5,7 @@ use crate::guests::{EXITS, EXITS_ENDED, WRITES, WRITES_ENDED};
 use disk_mem::{Call, CallNumbers, Fails, MemWorld};
 use disk_model::Stream;
 use dp_report::Report;
-use guest_kernel::{End, laws, load, start};
+use guest_kernel::{End, start_from_file};
 use recorder::{Options, RecordFault, record_};
 use std::alloc::Global;
 use std::test::Fail;
@@ -56,9 +56,7 @@ fn recorded(
     requires { 0 < piece }
 {
     let alloc = rt.alloc();
-    laws::an_image_starts_as_its_file();
-    let image = load(alloc, guest)?;
-    let state = start(alloc, &image)?;
+    let state = start_from_file(alloc, guest)?;
     let world = MemWorld::new(alloc, disk, sink, piece)?;
     let (world, answer) = record_(rt, alloc, world, guest, state, options);
     look_at(alloc, &world, answer)
@@ -95,7 +93,7 @@ fn letters(alloc: Global, calls: &[Call]) -> Result<String, Fail> {
 }
 
 /// The call with this number fails.
-pub fn at(alloc: Global, number: u64) -> Result<Fails, Fail> {
+pub(crate) fn at(alloc: Global, number: u64) -> Result<Fails, Fail> {
     Ok(Fails::At(CallNumbers::from_vec([number].to_vec(alloc)?)))
 }
 

@@ -11,7 +11,7 @@ use dp_report::Status;
 use std::alloc::Global;
 use std::test::Fail;
 
-const REPLAY: &[&str] = &["dpcli", "replay", "j"];
+pub(crate) const REPLAY: &[&str] = &["dpcli", "replay", "j"];
 
 // Of nine epochs of one step, and of one epoch of nine.
 const NINE_OF_WRITES: &[u8] =
@@ -31,12 +31,12 @@ const NINE_STEPS: &[u8] = b"\x00\x01\0\0\0\x01\0\x09\0\0\0\0\0\0\0";
 
 // What a run came to, and what it left.
 #[derive(Drop)]
-struct Seen {
-    status: Status,
-    sent: Vec<u8>,
-    noted: Vec<u8>,
-    disk: Vec<u8>,
-    disk_calls: u64,
+pub(crate) struct Seen {
+    pub status: Status,
+    pub sent: Vec<u8>,
+    pub noted: Vec<u8>,
+    pub disk: Vec<u8>,
+    pub disk_calls: u64,
     // Whether no call was a write, a cut or a sync.
     only_read: bool,
 }
@@ -82,7 +82,7 @@ fn replayed(
 }
 
 // A recording, by these words, on an empty disk.
-fn recorded(rt: &HostRuntime, words: &[&str], guest: &[u8]) -> Result<Seen, Fail> {
+pub(crate) fn recorded(rt: &HostRuntime, words: &[&str], guest: &[u8]) -> Result<Seen, Fail> {
     let alloc = rt.alloc();
     let world = MemWorld::new(alloc, Fails::Never, Fails::Never, 4096)?;
     let (after, status) = ran(rt, words, guest, Fails::Never, world)?;
@@ -108,7 +108,7 @@ fn answer_of(seen: &Seen, journal: &[u8], sent: &[u8], noted: &[u8]) -> Result<(
 }
 
 // The same of a replay, by these words, that meets no fault.
-fn plays_as(
+pub(crate) fn plays_as(
     rt: &HostRuntime,
     words: &[&str],
     journal: &[u8],
@@ -120,7 +120,7 @@ fn plays_as(
 }
 
 // A journal of a guest whose records have these bodies.
-fn journal_of(alloc: Global, guest: &[u8], bodies: &[&[u8]]) -> Result<Vec<u8>, Fail> {
+pub(crate) fn journal_of(alloc: Global, guest: &[u8], bodies: &[&[u8]]) -> Result<Vec<u8>, Fail> {
     let mut journal = b"\x01DPJ1".to_vec(alloc)?;
     journal.extend_from_slice(&length_of(guest))?;
     journal.extend_from_slice(guest)?;
@@ -262,15 +262,15 @@ fn records_refused(rt: HostRuntime) -> Result<(), Fail> {
 
 #[test]
 fn guests_and_lists_of_a_journal(rt: HostRuntime) -> Result<(), Fail> {
-    let no_guest: &[u8] = b"dpcli: guest refused: 0 NotBuilt\n";
+    let no_guest: &[u8] = b"dpcli: guest refused: 2 NotElf\n";
     let cases: [(usize, usize, &[u8], (Status, u8), &[u8]); 6] = [
         // another guest's first byte; a guest of no byte, before a record of a third kind
-        (9, 1, b"\x7e", (Status::BadImage(0), 4), no_guest),
+        (9, 1, b"\x7e", (Status::BadImage(2), 4), no_guest),
         (
             0,
             111,
             b"\x01DPJ1\0\0\0\0\x01\x0f\0\0\0\x02",
-            (Status::BadImage(0), 4),
+            (Status::BadImage(2), 4),
             no_guest,
         ),
         // an epoch of two steps, and one of one
@@ -306,14 +306,8 @@ fn a_bad_guest_before_a_bad_record(rt: HostRuntime) -> Result<(), Fail> {
     let journal = journal_of_exits(alloc)?;
     let bad_record = replaced(alloc, &journal, 110, 1, b"\x02")?;
     let both = replaced(alloc, &bad_record, 9, 1, b"\x7e")?;
-    let came = plays_as(
-        &rt,
-        REPLAY,
-        &both,
-        b"",
-        b"dpcli: guest refused: 0 NotBuilt\n",
-    )?;
-    assert_eq!(rt; came, (Status::BadImage(0), 4));
+    let came = plays_as(&rt, REPLAY, &both, b"", b"dpcli: guest refused: 2 NotElf\n")?;
+    assert_eq!(rt; came, (Status::BadImage(2), 4));
     Ok(())
 }
 

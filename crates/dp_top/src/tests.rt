@@ -15,7 +15,7 @@ const BEHIND_GUEST: [u8; 21] = [
     0x00, 0x00, 0x00, 0x00, 0x00,
 ];
 
-const RECORD: [&str; 4] = ["dpcli", "record", "g", "j"];
+pub(crate) const RECORD: [&str; 4] = ["dpcli", "record", "g", "j"];
 
 /// The report's line of the guest of three steps, which is run as one epoch.
 pub const NOTE_OF_EXITS: &[u8] =
@@ -25,7 +25,7 @@ const USAGE: &[u8] =
     b"usage: dpcli record GUEST JOURNAL [options], replay JOURNAL [--workers N], inspect JOURNAL, selftest N\n";
 
 /// What a run with these words comes to, where `g` is this guest and the world has this disk.
-pub fn ran(
+pub(crate) fn ran(
     rt: &HostRuntime,
     words: &[&str],
     guest: &[u8],
@@ -47,7 +47,7 @@ pub fn ran(
 }
 
 /// The journal of `EXITS` that has one epoch, of 126 bytes.
-pub fn journal_of_exits(alloc: Global) -> Result<Vec<u8>, Fail> {
+pub(crate) fn journal_of_exits(alloc: Global) -> Result<Vec<u8>, Fail> {
     let mut journal = BEFORE_GUEST.to_vec(alloc)?;
     journal.extend_from_slice(&EXITS)?;
     journal.extend_from_slice(&BEHIND_GUEST)?;
@@ -141,8 +141,8 @@ fn refusals_before_the_disk(rt: HostRuntime) -> Result<(), Fail> {
         (
             &RECORD,
             2,
-            (Status::BadImage(0), 4),
-            b"dpcli: guest refused: 0 NotBuilt\n",
+            (Status::BadImage(2), 4),
+            b"dpcli: guest refused: 2 NotElf\n",
         ),
     ];
     for (words, fetch, refused, line) in cases {

@@ -1,13 +1,13 @@
 // The top call.
-ghost use Rattle.std.specs.Prelude.{◌≡◌, ◌≤◌, ◌⊎◌, ℕ, Bool, IfOk, IsErrOf, false};
+ghost use Rattle.std.specs.Prelude.{◌≡◌, ◌≤◌, ◌⊎◌, ℕ, Bool, false};
 ghost use Rattle.disk_model.specs.Counts.{Rose};
 ghost use Rattle.disk_model.specs.Known.{known_disk};
 ghost use Rattle.epoch_replay.specs.Replaying.{IsKnownToEnd};
 ghost use Rattle.dp_words.specs.Commands.{are_taken};
-ghost use Rattle.guest_kernel.specs.Image.{IsGuestFile};
-ghost use Rattle.guest_kernel.specs.Start.{start_state};
+ghost use Rattle.elf_image.specs.Faults.{number_of};
+ghost use Rattle.dp_top.specs.Answer.{status_of_image};
 ghost use Rattle.dp_top.specs.Asking.{Asked, AskedReplay};
-ghost use Rattle.dp_top.specs.Running.{CameTo, Did, IsKnownEmpty, IsNoFault, NamesGuest, Ran};
+ghost use Rattle.dp_top.specs.Running.{CameTo, Did, IsBadImage, IsKnownEmpty, IsNoFault, NamesGuest, Ran};
 
 use crate::recording::record_guest;
 use crate::replaying::replay_journal;
@@ -15,7 +15,7 @@ use disk_model::{FetchFault, Files, World};
 use dp_base::limits::MAX_JOURNAL_BYTES;
 use dp_report::{Status, emit_fault};
 use dp_words::{Command, WordsFault, parse};
-use guest_kernel::{ImageFault, State, laws, load, start};
+use guest_kernel::{ImageFault, start_from_file};
 use recorder::Options;
 use std::alloc::Global;
 
@@ -49,7 +49,7 @@ pub fn run<R, F: Files, W: World>(
     ensures disk_fault { result.1 ≡ Status.DiskFault → Rose (W.disk_faults world) (W.disk_faults result.0) }
     ensures output_fault { result.1 ≡ Status.OutputFault → Rose (W.sink_faults world) (W.sink_faults result.0) }
     ensures no_disk_call { (result.1 ≡ Status.Usage) ⊎ (result.1 ≡ Status.GuestFault)
-        ⊎ (Asked words.now × (result.1 ≡ Status.BadImage 0)) →
+        ⊎ (Asked words.now × IsBadImage result.1) →
         W.disk_faults result.0 ≡ W.disk_faults world }
 
     ensures file_count { F.file_faults files.old ≤ F.file_faults files.new }
@@ -87,7 +87,7 @@ fn do_command<R, F: Files, W: World>(
     ensures disk_fault { result.1 ≡ Status.DiskFault → Rose (W.disk_faults world) (W.disk_faults result.0) }
     ensures output_fault { result.1 ≡ Status.OutputFault → Rose (W.sink_faults world) (W.sink_faults result.0) }
     ensures no_call { (result.1 ≡ Status.Usage) ⊎ (result.1 ≡ Status.GuestFault)
-        ⊎ (Asked words.now × (result.1 ≡ Status.BadImage 0)) → result.0 ≡ world }
+        ⊎ (Asked words.now × IsBadImage result.1) → result.0 ≡ world }
     ensures complete_replay { AskedReplay words.now → IsKnownToEnd (known_disk (W.history world)) →
         (Rose (W.disk_faults world) (W.disk_faults result.0) → ⊥) →
         (Rose (W.sink_faults world) (W.sink_faults result.0) → ⊥) →
@@ -150,7 +150,7 @@ fn record_named<R, F: Files, W: World>(
     ensures guest_fault { result.1 ≡ Status.GuestFault → Rose (F.file_faults files.old) (F.file_faults files.new) }
     ensures disk_fault { result.1 ≡ Status.DiskFault → Rose (W.disk_faults world) (W.disk_faults result.0) }
     ensures output_fault { result.1 ≡ Status.OutputFault → Rose (W.sink_faults world) (W.sink_faults result.0) }
-    ensures no_call { (result.1 ≡ Status.GuestFault) ⊎ (result.1 ≡ Status.BadImage 0) → result.0 ≡ world }
+    ensures no_call { (result.1 ≡ Status.GuestFault) ⊎ IsBadImage result.1 → result.0 ≡ world }
     ensures file_count { F.file_faults files.old ≤ F.file_faults files.new }
     ensures disk_count { W.disk_faults world ≤ W.disk_faults result.0 }
     ensures sink_count { W.sink_faults world ≤ W.sink_faults result.0 }
@@ -160,22 +160,19 @@ fn record_named<R, F: Files, W: World>(
         Err(FetchFault::Failed) => return (world, Status::GuestFault),
         Err(FetchFault::OutOfMemory) => return (world, Status::OutOfMemory),
     };
-    let start = match start_of_file(alloc, &guest) {
+    let start = match start_from_file(alloc, &guest) {
         Ok(state) => state,
-        Err(ImageFault::NotBuilt) => return (world, Status::BadImage(0)),
-        Err(ImageFault::OutOfMemory) => return (world, Status::OutOfMemory),
+        Err(fault) => return (world, status_of_fault(fault)),
     };
     record_guest(rt, alloc, world, journal, &guest, start, options)
 }
 
-// The state in which the guest of a file starts.
-fn start_of_file(alloc: Global, file: &[u8]) -> Result<State, ImageFault>
-    ensures state { IfOk result (λ state. state ≡ start_state file.now) }
-    ensures accepted { IfOk result (λ state. IsGuestFile file.now) }
-    ensures refused { IsErrOf result ImageFault.NotBuilt → IsGuestFile file.now → ⊥ }
+// The status of a guest whose file is refused.
+fn status_of_fault(fault: ImageFault) -> Status
+    ensures { result ≡ status_of_image (number_of fault) }
 {
-    laws::an_image_starts_as_its_file();
-    let image = load(alloc, file)?;
-    let state = start(alloc, &image)?;
-    Ok(state)
+    match fault.number() {
+        Some(number) => Status::BadImage(number),
+        None => Status::OutOfMemory,
+    }
 }

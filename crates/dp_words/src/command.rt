@@ -10,7 +10,7 @@ pub enum Command {
         guest: Text,
         /// The name of the journal's file.
         journal: Text,
-        /// Workers that run epochs side by side, 1 to 64.
+        /// How many workers, 1 to 64.
         workers: u32,
         /// Steps of an epoch at most, 1 to 1,000,000.
         epoch: u32,
@@ -27,7 +27,7 @@ pub enum Command {
     Replay {
         /// The name of the journal's file.
         journal: Text,
-        /// Workers that run epochs side by side, 1 to 64.
+        /// How many workers, 1 to 64.
         workers: u32,
     },
 }

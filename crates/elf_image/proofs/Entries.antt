@@ -1,17 +1,17 @@
 -- What the checks of the entries say of the segments that they give.
-use Rattle.std.proofs.Common.{◌≡◌, ◌+◌, ◌≤◌, ℕ, Bool, true, false, nat_lt, cond, List, [], ◌∷◌, length, map, drop, All, refl, sym, ap, ◌∙◌, arith}
+use Rattle.std.proofs.Common.{◌≡◌, ◌+◌, ◌≤◌, ℕ, Bool, true, false, nat_lt, cond, List, [], ◌∷◌, length, map, drop, All, Option, Some, None, refl, sym, ap, ◌∙◌, arith}
 use Rattle.std.specs.List.{AllByRecursion, filter, list_any}
 use Rattle.std.proofs.lemmas.Bool.{or_parts, ltb-false, ltb-true, eqb-false}
 use Rattle.std.proofs.lemmas.List.{length-take}
 use Rattle.std.proofs.lemmas.List.Elements.{All-from_recursion, All-map, All-weaker}
-use Rattle.dp_base.specs.declared.limits.TheConstants.{MAX_PAGES, STACK_PAGES}
+use Rattle.dp_base.specs.declared.limits.TheConstants.{MAX_GUEST_BYTES, MAX_PAGES}
 use Rattle.elf_image.specs.declared.image.Segment.{Segment}
 use Rattle.elf_image.specs.declared.program_header.ProgramHeader.{ProgramHeader}
 use Rattle.elf_image.specs.declared.span.Span.{Span}
 use Rattle.elf_image.specs.File.{is_loaded, loaded, program_headers}
-use Rattle.elf_image.specs.Faults.{has_bad_segment, has_too_many_pages, is_bad_entry}
+use Rattle.elf_image.specs.Faults.{has_bad_segment, has_too_many_pages, image_fault, is_bad_entry}
 use Rattle.elf_image.specs.Image.{entry_span, has_bytes, segment_of, segments_of}
-use Rattle.elf_image.specs.Segment.{page_count, AreSegments, IsSegment, MEMORY_END, span_of, spans_of}
+use Rattle.elf_image.specs.Segment.{AreSegments, IsSegment, MEMORY_END, span_of, spans_of, start_pages}
 
 pub map-entry_span : (file : List ℕ) (ps : List ProgramHeader) → map entry_span ps ≡ spans_of (map (segment_of file) ps)
 map-entry_span file [] = refl
@@ -35,9 +35,9 @@ spans_are file entries seen spans theirs same made =
     ∙ map-entry_span file (filter has_bytes (loaded file))
 
 pub pages_are : (file : List ℕ) (spans : List Span) (answer known : Bool)
-    → spans ≡ spans_of (segments_of file) → answer ≡ nat_lt MAX_PAGES (page_count spans + STACK_PAGES) → answer ≡ known → has_too_many_pages file ≡ known
+    → spans ≡ spans_of (segments_of file) → answer ≡ nat_lt MAX_PAGES (length (start_pages spans)) → answer ≡ known → has_too_many_pages file ≡ known
 pages_are file spans answer known theirs counted is =
-    sym (counted ∙ ap (λ (s : List Span). nat_lt MAX_PAGES (page_count s + STACK_PAGES)) theirs) ∙ is
+    sym (counted ∙ ap (λ (s : List Span). nat_lt MAX_PAGES (length (start_pages s))) theirs) ∙ is
 
 -- ---- what is left once the checks have passed
 
@@ -71,10 +71,13 @@ good_entries file (p ∷ ps) good = kept (good_entries file ps parts.1) (has_byt
 abbrev pub EndsInMemory : Span → Type 0
 EndsInMemory s = s.addr + s.size ≤ MEMORY_END
 
+pub spans_in_memory : (segments : List Segment) → AllByRecursion IsSegment segments → All EndsInMemory (spans_of segments)
+spans_in_memory segments are =
+    let each = All-from_recursion IsSegment segments are in
+    All-map EndsInMemory span_of segments (All-weaker IsSegment (λ s. EndsInMemory (span_of s)) (λ s is. is.ends) segments each)
+
 pub ends_in_memory : (file : List ℕ) → list_any (is_bad_entry file) (loaded file) ≡ false → All EndsInMemory (spans_of (segments_of file))
-ends_in_memory file good =
-    let each = All-from_recursion IsSegment (segments_of file) (good_entries file (loaded file) good) in
-    All-map EndsInMemory span_of (segments_of file) (All-weaker IsSegment (λ s. EndsInMemory (span_of s)) (λ s is. is.ends) (segments_of file) each)
+ends_in_memory file good = spans_in_memory (segments_of file) (good_entries file (loaded file) good)
 
 pub are_segments : (file : List ℕ) → has_bad_segment file ≡ false → has_too_many_pages file ≡ false → AreSegments (segments_of file)
 are_segments file good few =
@@ -87,3 +90,27 @@ are_segments file good few =
       apart = apart.1;
       few_pages = ltb-false _ _ few;
     }
+
+-- a row of the table that doesn't apply
+row_passed : (applies : Bool) (number : ℕ) (others : Option ℕ) → cond applies (Some number) others ≡ None → (applies ≡ false) × (others ≡ None)
+row_passed true number others e = absurd cc
+row_passed false number others e = (refl, e)
+
+pub no_fault_size : (file : List ℕ) → image_fault file ≡ None → length file ≤ MAX_GUEST_BYTES
+unfolding image_fault
+no_fault_size file e = ltb-false _ _ (row_passed _ 1 _ e).0
+
+pub no_fault_segments : (file : List ℕ) → image_fault file ≡ None → AreSegments (segments_of file)
+unfolding image_fault
+no_fault_segments file e =
+    let long = row_passed _ 1 _ e in
+    let elf = row_passed _ 2 _ long.1 in
+    let class = row_passed _ 3 _ elf.1 in
+    let little = row_passed _ 4 _ class.1 in
+    let exec = row_passed _ 5 _ little.1 in
+    let riscv = row_passed _ 6 _ exec.1 in
+    let table = row_passed _ 7 _ riscv.1 in
+    let interp = row_passed _ 8 _ table.1 in
+    let segment = row_passed _ 9 _ interp.1 in
+    let pages = row_passed _ 10 _ segment.1 in
+    are_segments file segment.0 pages.0

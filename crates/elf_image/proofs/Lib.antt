@@ -1,2 +1,4 @@
 pub mod Entries
-pub mod Tables
+pub mod NextPages
+pub mod PageBytes
+pub mod StartPages

@@ -3,12 +3,12 @@
 use Rattle.std.specs.Prelude.{◌+◌, ◌*◌, ℕ, Bool, List, length, take, Option, Some, None, not, ◌==◌, ◌&&◌, ◌||◌, nat_lt, nat_eq, if◌then◌else◌}
 use Rattle.std.specs.List.{list_any}
 use Rattle.std.specs.Cmp.Lexicographic.{pointwise}
-use Rattle.dp_base.specs.declared.limits.TheConstants.{MAX_GUEST_BYTES, MAX_PAGES, STACK_PAGES}
+use Rattle.dp_base.specs.declared.limits.TheConstants.{MAX_GUEST_BYTES, MAX_PAGES}
 use Rattle.elf_image.specs.declared.image_fault.ImageFault.{ImageFault}
 use Rattle.elf_image.specs.declared.image_fault.ImageFault.TheVariants as faults
 use Rattle.elf_image.specs.declared.program_header.ProgramHeader.{ProgramHeader}
 use Rattle.elf_image.specs.File.{e_machine, e_phentsize, e_phnum, e_phoff, e_type, e_version, ei_class, ei_data, ei_version, is_interpreter, loaded, magic, program_headers}
-use Rattle.elf_image.specs.Segment.{MEMORY_END, on_the_stack, overlap, page_count, spans_of}
+use Rattle.elf_image.specs.Segment.{MEMORY_END, on_the_stack, overlap, spans_of, start_pages}
 use Rattle.elf_image.specs.Image.{segments_of}
 
 abbrev pub is_too_long : List ℕ → Bool
@@ -49,7 +49,7 @@ abbrev pub has_bad_segment : List ℕ → Bool
 has_bad_segment file = list_any (is_bad_entry file) (loaded file) || overlap (spans_of (segments_of file)) || length (segments_of file) == 0
 
 abbrev pub has_too_many_pages : List ℕ → Bool
-has_too_many_pages file = nat_lt MAX_PAGES (page_count (spans_of (segments_of file)) + STACK_PAGES)
+has_too_many_pages file = nat_lt MAX_PAGES (length (start_pages (spans_of (segments_of file))))
 
 -- the number of the first fault that applies
 unfoldable pub image_fault : List ℕ → Option ℕ

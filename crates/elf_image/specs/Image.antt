@@ -1,7 +1,8 @@
 -- The image of a file: what is in memory when the guest starts (System V ABI, edition 4.1, chapter 5 "Program Loading").
-use Rattle.std.specs.Prelude.{◌≡◌, ◌+◌, ◌-◌, ◌%◌, ℕ, Bool, List, take, drop, map, slice_index_or, bit_or, fold, Option, ◌&&◌, nat_lt, nat_le}
-use Rattle.std.specs.List.{filter, find}
-use Rattle.std.specs.Option.{option_map}
+use Rattle.std.specs.Prelude.{◌≡◌, ◌+◌, ◌-◌, ◌*◌, ◌%◌, ℕ, Bool, List, take, drop, map, slice_index_or, bit_or, fold, Option, ◌&&◌, nat_lt, nat_le}
+use Rattle.std.specs.List.{filter, find, range_with_len}
+use Rattle.std.specs.Option.{option_map, unwrap_or}
+use Rattle.dp_base.specs.declared.limits.TheConstants.{PAGE_BYTES}
 use Rattle.elf_image.specs.declared.image.Image.{Image}
 use Rattle.elf_image.specs.declared.image.Segment.{Segment}
 use Rattle.elf_image.specs.declared.program_header.ProgramHeader.{ProgramHeader}
@@ -37,6 +38,10 @@ has_byte s address = nat_le s.addr address && nat_lt address (s.addr + s.size)
 -- the byte at an address of a segment, which is 0 behind those of the file; none where no segment has it
 abbrev pub byte_at : List Segment → (address : ℕ) → Option ℕ
 byte_at segments address = option_map (λ s. slice_index_or s.bytes (address - s.addr) 0) (find (λ s. has_byte s address) segments)
+
+-- the bytes of a page, which are 0 where no segment has them
+unfoldable pub page_bytes : List Segment → (number : ℕ) → List ℕ
+page_bytes segments number = map (λ address. unwrap_or (byte_at segments address) 0) (range_with_len (PAGE_BYTES * number) PAGE_BYTES)
 
 -- the flags of a page: those of all segments that have a byte on it
 abbrev pub page_flags : List Segment → (number : ℕ) → ℕ

@@ -1,7 +1,8 @@
 -- The parts of memory that a file gives (System V ABI, edition 4.1, chapter 5 "Program Header": p_vaddr, p_filesz, p_memsz,
 -- p_flags), and what is asked of them together.
-use Rattle.std.specs.Prelude.{◌≡◌, ◌<◌, ◌≤◌, ◌+◌, ◌-◌, ◌*◌, ◌/◌, ℕ, Bool, false, List, [], ◌∷◌, length, map, count_by, fold, max, ◌&&◌, ◌||◌, nat_lt}
-use Rattle.std.specs.List.{AllByRecursion, list_any, range_with_len}
+use Rattle.std.specs.Prelude.{All, ◌≡◌, ◌<◌, ◌≤◌, ◌+◌, ◌-◌, ◌*◌, ◌/◌, ℕ, Bool, false, List, [], ◌∷◌, ◌++◌, length, map, fold, max, ◌&&◌, ◌||◌, nat_lt}
+use Rattle.std.specs.List.{AllByRecursion, filter, list_any, range_with_len}
+use Rattle.std.specs.List.Sorted.{IsStrictlyIncreasing}
 use Rattle.dp_base.specs.declared.limits.TheConstants.{PAGE_BYTES, PAGE_NUMBERS, MAX_PAGES, FIRST_STACK_PAGE, STACK_PAGES}
 use Rattle.elf_image.specs.declared.image.Segment.{Segment}
 use Rattle.elf_image.specs.declared.span.Span.{Span}
@@ -14,20 +15,24 @@ meet at count other many = (nat_lt 0 count && nat_lt 0 many) && (nat_lt at (othe
 abbrev pub MEMORY_END : ℕ
 MEMORY_END = 0xfffff000
 
+-- the stack of thread 1
+abbrev pub stack : Span
+stack = record { addr = PAGE_BYTES * FIRST_STACK_PAGE; size = PAGE_BYTES * STACK_PAGES }
+
 abbrev pub on_the_stack : (at count : ℕ) → Bool
-on_the_stack at count = meet at count (PAGE_BYTES * FIRST_STACK_PAGE) (PAGE_BYTES * STACK_PAGES)
+on_the_stack at count = meet at count stack.addr stack.size
 
 -- a page has a byte of a span
 abbrev pub has_page : Span → (number : ℕ) → Bool
 has_page s number = meet s.addr s.size (PAGE_BYTES * number) PAGE_BYTES
 
--- how many of the first pages have a byte of a span
-unfoldable pub pages_below : ℕ → List Span → ℕ
-pages_below numbers spans = count_by (λ number. list_any (λ s. has_page s number) spans) (range_with_len 0 numbers)
+-- those of the first pages that have a byte of a span, by number
+unfoldable pub pages_below : ℕ → List Span → List ℕ
+pages_below numbers spans = filter (λ number. list_any (λ s. has_page s number) spans) (range_with_len 0 numbers)
 
--- how many pages have a byte of a span
-unfoldable pub page_count : List Span → ℕ
-page_count spans = pages_below PAGE_NUMBERS spans
+-- the pages that a guest starts with, by number: those that have a byte of a span, and the stack's
+unfoldable pub start_pages : List Span → List ℕ
+start_pages spans = pages_below PAGE_NUMBERS (spans ++ stack ∷ [])
 
 -- two of them have a byte in common
 abbrev pub overlap : List Span → Bool
@@ -61,4 +66,10 @@ pub record AreSegments (segments : List Segment) : Type 0 where
   pub each : AllByRecursion IsSegment segments
   pub some : 0 < length segments
   pub apart : overlap (spans_of segments) ≡ false
-  pub few_pages : page_count (spans_of segments) + STACK_PAGES ≤ MAX_PAGES
+  pub few_pages : length (start_pages (spans_of segments)) ≤ MAX_PAGES
+
+-- what the pages that a guest starts with always are
+pub record ArePageNumbers (numbers : List ℕ) : Type 0 where
+  pub below : All (λ n. n < PAGE_NUMBERS) numbers
+  pub rising : IsStrictlyIncreasing numbers
+  pub few : length numbers ≤ MAX_PAGES

@@ -1,7 +1,8 @@
 // What a guest's file maps.
 ghost use Rattle.std.specs.Prelude.{◌≡◌};
-ghost use Rattle.elf_image.specs.Segment.{AreSegments, heap_start, spans_of};
+ghost use Rattle.elf_image.specs.Segment.{AreSegments, heap_start, span_of, spans_of};
 
+use crate::span::Span;
 use dp_base::Bytes;
 use std::marker::Model;
 
@@ -16,6 +17,18 @@ pub struct Segment {
     pub size: u32,
     /// Execute 1, write 2, read 4.
     pub flags: u8,
+}
+
+impl Segment {
+    /// Returns where it lies.
+    pub fn span(&self) -> Span
+        ensures { result ≡ span_of self.now }
+    {
+        Span {
+            addr: self.addr,
+            size: self.size,
+        }
+    }
 }
 
 /// The segments of an image.

@@ -1,11 +1,12 @@
 // What is asked of the segments of a file together.
-ghost use Rattle.std.specs.Prelude.{◌≡◌, ◌+◌, ◌*◌, ◌≤◌, ◌<◌, ◌||◌, ℕ, false, All, IfOk, count_by, length, slice_index_or};
+ghost use Rattle.std.specs.Prelude.{◌≡◌, ◌+◌, ◌≤◌, ◌++◌, ◌||◌, ℕ, Bool, [], ◌∷◌, All, IfOk, take};
 ghost use Rattle.std.specs.List.{list_any};
-ghost use Rattle.elf_image.specs.Segment.{MEMORY_END, has_page, heap_start, meet, overlap, page_count, pages_below};
+ghost use Rattle.elf_image.specs.Next.{IsNext};
+ghost use Rattle.elf_image.specs.Segment.{MEMORY_END, has_page, heap_start, meet, overlap, stack, start_pages};
 
-use crate::span::Span;
+use crate::span::{STACK, Span};
 use dp_base::OutOfMemory;
-use dp_base::limits::{PAGE_BYTES, PAGE_NUMBERS};
+use dp_base::limits::{MAX_PAGES, PAGE_BYTES};
 use std::alloc::Global;
 
 /// Returns whether two of the spans have a byte in common.
@@ -28,52 +29,43 @@ fn meets_one(span: Span, others: &[Span]) -> bool
     others.iter().any(|other| span.meets(*other))
 }
 
-/// Returns how many pages have a byte of one of the spans.
-#[tactic(auto, unfolding(crate::specs::Segment::page_count))]
-pub fn page_count(alloc: Global, spans: &[Span]) -> Result<usize, OutOfMemory>
+/// Returns the first pages that a guest starts with, by number, rising: those that have a byte of one of the spans, and those of
+/// the stack. There is one more of them than a guest may have, where there are so many.
+pub fn first_pages(alloc: Global, spans: &[Span]) -> Result<Vec<u32>, OutOfMemory>
     requires { All (λ s. s.addr + s.size ≤ MEMORY_END) spans.now }
-    ensures { IfOk result (λ count. count ≡ page_count spans.now) }
+    ensures { IfOk result (λ numbers. numbers.items ≡ take (MAX_PAGES + 1) (start_pages spans.now)) }
 {
-    pages_below(alloc, spans, PAGE_NUMBERS)
+    let mut numbers = Vec::new(alloc);
+    let mut least = 0;
+    while numbers.len() <= MAX_PAGES as usize {
+        let Some(number) = next_page(spans, least) else {
+            return Ok(numbers);
+        };
+        numbers.push(number)?;
+        least = number + 1;
+    }
+    Ok(numbers)
 }
 
-// How many of the pages below a number have a byte of one of the spans.
-fn pages_below(alloc: Global, spans: &[Span], numbers: u32) -> Result<usize, OutOfMemory>
-    requires { All (λ s. s.addr + s.size ≤ PAGE_BYTES * numbers) spans.now }
-    ensures { IfOk result (λ count. count ≡ pages_below numbers spans.now) }
+// The least number from one on of a page that has a byte of one of the spans or of the stack.
+fn next_page(spans: &[Span], least: u32) -> Option<u32>
+    ensures { IsNext (λ number. list_any (λ s. has_page s number) (spans.now ++ stack ∷ [])) least result }
 {
-    let mut marks = vec![in alloc; false; numbers as usize]?;
+    let mut next = None;
     for span in spans {
-        mark_pages(&mut marks, *span);
+        next = lesser(next, span.next_page(least));
     }
-    Ok(count_marks(&marks))
+    lesser(next, STACK.next_page(least))
 }
 
-fn count_marks(marks: &[bool]) -> usize
-    ensures { result ≡ count_by (λ mark. mark) marks.now }
+// The lesser of two numbers, or the one that there is.
+fn lesser(a: Option<u32>, b: Option<u32>) -> Option<u32>
+    ensures { (p q : ℕ → Bool) (least : ℕ) → IsNext p least a → IsNext q least b → IsNext (λ k. p k || q k) least result }
 {
-    let mut count = 0;
-    for mark in marks {
-        if *mark {
-            count += 1;
-        }
-    }
-    count
-}
-
-// Marks the pages that have a byte of a span.
-fn mark_pages(marks: &mut [bool], span: Span)
-    requires { span.addr + span.size ≤ PAGE_BYTES * length marks.old }
-    ensures { (number : ℕ) → number < length marks.old
-        → slice_index_or marks.new number false ≡ (slice_index_or marks.old number false || has_page span number) }
-{
-    if span.size == 0 {
-        return;
-    }
-    let first = span.addr / PAGE_BYTES;
-    let last = ((span.end() - 1) / u64::from(PAGE_BYTES)) as u32;
-    for number in first..last + 1 {
-        marks[number as usize] = true;
+    match (a, b) {
+        (Some(a), Some(b)) => Some(a.min(b)),
+        (Some(a), None) => Some(a),
+        (None, b) => b,
     }
 }
 

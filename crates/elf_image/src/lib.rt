@@ -1,7 +1,8 @@
 //! The reader of ELF files: which files are guests, and what of them is in memory when a guest starts.
 //!
 //! Promises: `load` accepts exactly the files that no row of the table of faults applies to (`specs/Faults.antt`), answers the
-//! first row that applies else, and gives the image of the file (`specs/Image.antt`). Stands on `dp_base` and on `byteorder`.
+//! first row that applies else, and gives the image of the file (`specs/Image.antt`), whose segments tell the pages that they
+//! give. `laws` says what follows from the definitions alone. Stands on `dp_base` and on `byteorder`.
 //!
 //! ```text
 //! match load(alloc, file) {
@@ -18,8 +19,10 @@ mod elf_header;
 mod field;
 mod image;
 mod image_fault;
+pub mod laws;
 mod layout;
 mod loading;
+mod page;
 mod program_header;
 mod span;
 

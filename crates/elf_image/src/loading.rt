@@ -1,21 +1,21 @@
 // From a file to its image.
-ghost use Rattle.std.specs.Prelude.{◌≡◌, ◌⊎◌, ◌+◌, ◌≤◌, false, nat_lt, map, All, None, IfOk, IfErr};
+ghost use Rattle.std.specs.Prelude.{◌≡◌, ◌⊎◌, ◌+◌, ◌≤◌, false, nat_lt, length, map, All, None, IfOk, IfErr};
 ghost use Rattle.std.specs.List.{filter, list_any};
 ghost use Rattle.elf_image.specs.Faults.{has_bad_segment, image_fault, is_bad_entry, number_of};
 ghost use Rattle.elf_image.specs.File.{loaded};
 ghost use Rattle.elf_image.specs.Image.{IsImageOf, has_bytes, segment_of, segments_of};
-ghost use Rattle.elf_image.specs.Segment.{MEMORY_END, page_count, spans_of};
+ghost use Rattle.elf_image.specs.Segment.{MEMORY_END, spans_of, start_pages};
 
 use crate::elf_header::{E_ENTRY, E_MACHINE, E_TYPE, EI_CLASS, EI_DATA, has_bad_table, is_not_elf};
 use crate::field::{byte_at, half_at, word_at};
 use crate::image::{Image, Segment, Segments};
 use crate::image_fault::ImageFault;
-use crate::layout::{heap_start, overlap, page_count};
+use crate::layout::{first_pages, heap_start, overlap};
 use crate::program_header::{
     ProgramHeader, has_bad_entry, has_interpreter, loaded, program_headers, spans,
 };
 use crate::span::Span;
-use dp_base::limits::{MAX_GUEST_BYTES, MAX_PAGES, STACK_PAGES};
+use dp_base::limits::{MAX_GUEST_BYTES, MAX_PAGES};
 use dp_base::{Bytes, OutOfMemory};
 use std::alloc::Global;
 
@@ -87,9 +87,9 @@ fn has_bad_segment(file: &[u8], entries: &[ProgramHeader], spans: &[Span]) -> bo
 
 fn has_too_many_pages(alloc: Global, spans: &[Span]) -> Result<bool, OutOfMemory>
     requires { All (λ s. s.addr + s.size ≤ MEMORY_END) spans.now }
-    ensures { IfOk result (λ answer. answer ≡ nat_lt MAX_PAGES (page_count spans.now + STACK_PAGES)) }
+    ensures { IfOk result (λ answer. answer ≡ nat_lt MAX_PAGES (length (start_pages spans.now))) }
 {
-    Ok(page_count(alloc, spans)? > (MAX_PAGES - STACK_PAGES) as usize)
+    Ok(first_pages(alloc, spans)?.len() > MAX_PAGES as usize)
 }
 
 // The segments of the entries that have bytes in memory.

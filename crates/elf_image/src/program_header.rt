@@ -7,9 +7,9 @@ ghost use Rattle.elf_image.specs.Image.{entry_span, has_bytes};
 
 use crate::elf_header::{E_PHNUM, E_PHOFF};
 use crate::field::{half_at, word_at};
-use crate::span::Span;
+use crate::span::{STACK, Span};
 use dp_base::OutOfMemory;
-use dp_base::limits::{FIRST_STACK_PAGE, PAGE_BYTES, PAGE_NUMBERS, STACK_PAGES};
+use dp_base::limits::{PAGE_BYTES, PAGE_NUMBERS};
 use std::alloc::Global;
 
 const PT_LOAD: u32 = 1;
@@ -90,10 +90,6 @@ pub fn has_bad_entry(file: &[u8], loaded: &[ProgramHeader]) -> bool
 fn is_bad_entry(file: &[u8], p: ProgramHeader) -> bool
     ensures { result ≡ is_bad_entry file.now p }
 {
-    let stack = Span {
-        addr: FIRST_STACK_PAGE * PAGE_BYTES,
-        size: STACK_PAGES * PAGE_BYTES,
-    };
     let span = Span {
         addr: p.p_vaddr,
         size: p.p_memsz,
@@ -101,7 +97,7 @@ fn is_bad_entry(file: &[u8], p: ProgramHeader) -> bool
     p.p_memsz < p.p_filesz
         || (file.len() as u64) < u64::from(p.p_offset) + u64::from(p.p_filesz)
         || MEMORY_END < span.end()
-        || span.meets(stack)
+        || span.meets(STACK)
 }
 
 /// Returns where the segments of these entries lie: of each entry that has bytes in memory.

@@ -13,6 +13,7 @@ use Rattle.device.specs.Sending.{Sent}
 use Rattle.guest_kernel.specs.declared.state.State.{State}
 use Rattle.guest_kernel.specs.Call.{After}
 use Rattle.guest_kernel.specs.Slices.{Stop, at, either, run}
+use Rattle.guest_kernel.specs.Start.{IsGuestFile}
 use Rattle.guest_state.specs.Checkpoint.{Checkpoint}
 use Rattle.checkpoint.specs.State.{IsEncodable, digest_of}
 use Rattle.dp_report.specs.declared.report.Report.{Report}
@@ -22,7 +23,7 @@ use Rattle.journal_text.specs.Records.{Next, Record, ended, bad, epoch, mark, li
 use Rattle.epoch_replay.specs.declared.progress.Progress.{Progress}
 use Rattle.epoch_replay.specs.declared.replay_fault.ReplayFault.{ReplayFault}
 use Rattle.epoch_replay.specs.declared.replay_fault.ReplayFault.TheVariants as faults
-use Rattle.epoch_replay.specs.Play.{Played, Refusal, bad_epoch, bad_journal, bad_mark, behind, is_right, play_from, play_of, played, stopped}
+use Rattle.epoch_replay.specs.Play.{Played, Refusal, bad_epoch, bad_journal, bad_mark, behind, is_right, play_from, play_of, played, played_if, plays_to, stopped}
 use Rattle.epoch_replay.specs.Playing.{GoesOn, IsAll, IsBounded, IsStart, SoFar, left_at}
 use Rattle.epoch_replay.specs.Replaying.{Ends, HasNotedSome, HasSent, HasSentSome, Refused, Replayed, epochs_of}
 
@@ -129,6 +130,10 @@ noted_some output note first now later so_far known = known-then _ _ _ _ _ _
 
 -- ---- where a play is
 
+-- a journal whose guest is accepted is played
+pub accepted_plays : (reading : Reading) → IsGuestFile reading.guest → plays_to (Some reading) ≡ played (play_of reading)
+accepted_plays reading accepted = ap (λ (fault : Option ℕ). played_if fault reading) accepted
+
 module _ (reading : Reading) (file : List ℕ) (first now : Option History) (p : Progress) (so_far : SoFar reading file first now p) where
   -- what is left plays to this
   plays_on : (q : Played) → play_from p.state p.number (left_at file p.at) reading.tail ≡ q → play_of reading ≡ behind so_far.output q
@@ -138,12 +143,12 @@ module _ (reading : Reading) (file : List ℕ) (first now : Option History) (p :
   stops_here stop is = plays_on (stopped stop) is ∙ behind_stop so_far.output stop
 
   refused : (why : Refusal) → play_from p.state p.number (left_at file p.at) reading.tail ≡ stopped (Err why) → Refused (Some reading) why first now
-  refused why is = (so_far.output, inr (so_far.accepted, ap played (sym (stops_here (Err why) is))), so_far.history)
+  refused why is = (so_far.output, accepted_plays reading so_far.accepted ∙ ap played (stops_here (Err why) is), so_far.history)
 
   pub no_memory : Replayed (Some reading) first now (Err faults.OutOfMemory)
   no_memory = inr (
     play_of reading,
-    inr (so_far.accepted, refl),
+    accepted_plays reading so_far.accepted,
     known-map _ _ _ _
         (λ s t r. (so_far.output, ((play_from p.state p.number (left_at file p.at) reading.tail).output, ap (λ (q : Played). q.output) so_far.plays), r))
         so_far.history,
@@ -217,7 +222,7 @@ module _ (reading : Reading) (file : List ℕ) (first now : Option History) (p :
       pub epoch_not_sent : (later : Option History) → IfKnown (Sent Out output false) now later → Replayed (Some reading) first later (Err faults.OutputFault)
       epoch_not_sent later known = inl (
         play_of reading,
-        inr (so_far.accepted, refl),
+        accepted_plays reading so_far.accepted,
         sent_some so_far.output output (play_from s (p.number + 1) (left_at file next) reading.tail).output (play_of reading).output first now later
             (ap (λ (q : Played). q.output) plays_behind) so_far.history known,
       )
@@ -251,7 +256,7 @@ module _ (reading : Reading) (first now : Option History) (p : Progress) (is : I
     journal = reading;
     journal_is = refl;
     state = p.state;
-    plays = inr (is.accepted, ap played (sym is.plays));
+    plays = accepted_plays reading is.accepted ∙ ap played is.plays;
     reported = (let epochs = is.epochs in let sent = is.sent in let report_is = made_of in cc);
   }
 
@@ -264,7 +269,7 @@ module _ (reading : Reading) (first now : Option History) (p : Progress) (is : I
   pub no_line : Replayed (Some reading) first now (Err faults.OutOfMemory)
   no_line = inr (
     play_of reading,
-    inr (is.accepted, refl),
+    accepted_plays reading is.accepted,
     known-map _ _ _ _ (λ s t r. (is.output, ([], ap (λ (q : Played). q.output) is.plays ∙ sym (append-nil is.output)), r)) is.history,
   )
 

@@ -1,4 +1,4 @@
--- A file plays to one thing, and a journal that plays to its end isn't refused.
+-- A journal that plays to its end isn't refused.
 use Rattle.std.proofs.Common.{◌≡◌, inl, inr, ℕ, Bool, true, false, List, Option, Some, None, Result, Ok, Err, refl, sym, ap, ◌∙◌}
 use Rattle.std.specs.Prelude.{is_ok}
 use Rattle.disk_model.specs.History.{History}
@@ -6,15 +6,8 @@ use Rattle.dp_report.specs.declared.report.Report.{Report}
 use Rattle.journal_text.specs.Reading.{Reading, reads}
 use Rattle.epoch_replay.specs.declared.replay_fault.ReplayFault.{ReplayFault}
 use Rattle.epoch_replay.specs.declared.replay_fault.ReplayFault.TheVariants as faults
-use Rattle.epoch_replay.specs.Play.{Play, Plays, bad_image, no_journal, played}
+use Rattle.epoch_replay.specs.Play.{Play, bad_image, no_journal, played, plays_to}
 use Rattle.epoch_replay.specs.Replaying.{IsKnownToEnd, IsNoFault, OnDisk, PlaysToItsEnd, Replayed}
-
-pub one_play : (reading : Option Reading) (p q : Play) → Plays reading p → Plays reading q → p ≡ q
-one_play None p q a b = a ∙ sym b
-one_play (Some r) p q (inl a) (inl b) = a.1 ∙ sym b.1
-one_play (Some r) p q (inl a) (inr b) = absurd (a.0 b.0)
-one_play (Some r) p q (inr a) (inl b) = absurd (b.0 a.0)
-one_play (Some r) p q (inr a) (inr b) = a.1 ∙ sym b.1
 
 -- whether a play comes to its end
 abbrev ends : Play → Bool
@@ -22,8 +15,8 @@ ends no_journal = false
 ends (bad_image fault) = false
 ends (played p) = is_ok p.stop
 
-no_other : (reading : Option Reading) (p : Play) → PlaysToItsEnd reading → Plays reading p → ends p ≡ false → ⊥
-no_other reading p to_end plays other = let same : ends p ≡ true = ap ends (one_play reading p _ plays to_end.2) in cc
+no_other : (reading : Option Reading) (p : Play) → PlaysToItsEnd reading → plays_to reading ≡ p → ends p ≡ false → ⊥
+no_other reading p to_end plays other = let same : ends p ≡ true = ap ends (sym plays ∙ to_end.2) in cc
 
 complete_by : (reading : Option Reading) (before after : Option History) (answer : Result Report ReplayFault) → PlaysToItsEnd reading → Replayed reading before after answer
     → (answer ≡ Err faults.DiskFault → ⊥) → (answer ≡ Err faults.OutputFault → ⊥) → IsNoFault answer

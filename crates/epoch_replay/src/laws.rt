@@ -1,12 +1,11 @@
 //! What follows from the definition of a play alone. A call of such a function costs nothing, and hands the law to the
 //! caller's proof.
 
-ghost use Rattle.std.specs.Prelude.{◌≡◌, ◌↔◌, true, Option};
+ghost use Rattle.std.specs.Prelude.{◌≡◌, ◌↔◌, true};
 ghost use Rattle.guest_kernel.specs.declared.state.State.{State};
 ghost use Rattle.guest_state.specs.Checkpoint.{Checkpoint, IsCheckpoint};
 ghost use Rattle.checkpoint.specs.State.{IsEncodable, checkpoint_of};
-ghost use Rattle.journal_text.specs.Reading.{Reading};
-ghost use Rattle.epoch_replay.specs.Play.{Play, Plays, is_right};
+ghost use Rattle.epoch_replay.specs.Play.{is_right};
 
 /// A mark is right exactly where it is all that the guest is there.
 pub fn a_right_mark_is_the_state()
@@ -14,8 +13,3 @@ pub fn a_right_mark_is_the_state()
 {
     guest_state::laws::whole_checkpoints();
 }
-
-/// A file plays to one thing.
-pub fn a_file_plays_to_one_thing()
-    ensures { (reading : Option Reading) (p q : Play) → Plays reading p → Plays reading q → p ≡ q }
-{}

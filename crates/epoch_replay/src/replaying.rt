@@ -4,8 +4,6 @@ ghost use Rattle.dp_base.specs.declared.limits.TheConstants.{MAX_JOURNAL_BYTES};
 ghost use Rattle.disk_model.specs.Counts.{Rose};
 ghost use Rattle.disk_model.specs.History.{History};
 ghost use Rattle.disk_model.specs.Known.{known_disk};
-ghost use Rattle.guest_kernel.specs.Image.{IsGuestFile};
-ghost use Rattle.guest_kernel.specs.Start.{start_state};
 ghost use Rattle.journal_text.specs.Reading.{Reading, reads};
 ghost use Rattle.epoch_replay.specs.declared.replay_fault.ReplayFault.TheVariants as faults;
 ghost use Rattle.epoch_replay.specs.Playing.{IsBounded, IsStart, PlayedOn, SoFar};
@@ -20,7 +18,7 @@ use device::send_all;
 use disk_model::{Stream, World};
 use dp_report::{Report, line};
 use epoch_journal::read_whole;
-use guest_kernel::{ImageFault, State, load, start};
+use guest_kernel::{State, start_from_file};
 use journal_text::{Head, Rec, header, next_record};
 use std::alloc::Global;
 
@@ -87,20 +85,8 @@ fn replay_file<W: World>(alloc: Global, world: &mut W, file: &[u8]) -> Result<Re
         Head::NoJournal => return Err(ReplayFault::NoJournal),
     };
     let first = 9 + guest_len as usize;
-    let state = start_of_file(alloc, &file[9..first])?;
+    let state = start_from_file(alloc, &file[9..first])?;
     play(alloc, world, file, first as u64, state)
-}
-
-// The state in which the guest of a file starts.
-fn start_of_file(alloc: Global, file: &[u8]) -> Result<State, ImageFault>
-    ensures state { IfOk result (λ state. state ≡ start_state file.now) }
-    ensures accepted { IfOk result (λ state. IsGuestFile file.now) }
-    ensures refused { IsErrOf result ImageFault.NotBuilt → IsGuestFile file.now → ⊥ }
-{
-    guest_kernel::laws::an_image_starts_as_its_file();
-    let image = load(alloc, file)?;
-    let state = start(alloc, &image)?;
-    Ok(state)
 }
 
 // Plays the records from the first one on, and reports.

@@ -1,5 +1,5 @@
-mod PageTable
-mod Readable
+mod Range
+mod StartPages
 mod Turns
 mod SliceRuns
 mod TurnTaken

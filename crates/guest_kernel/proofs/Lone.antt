@@ -12,15 +12,14 @@ use Rattle.guest_state.specs.declared.thread.Thread.TheVariants.{Runs}
 use Rattle.guest_kernel.specs.Call.{After, Refusal, Written, not_runnable, a7, a0, a1, a2, bytes_written, moved, written, written_by, minus, ENOSYS}
 use Rattle.guest_kernel.specs.Instruction.{Effect, goes, calls, traps}
 use Rattle.guest_kernel.specs.Lone.{RunsAlone}
-use Rattle.guest_kernel.specs.Memory.{readable}
-use Rattle.guest_state.specs.Pages.{Memory}
+use Rattle.dp_base.specs.Memory.{Memory, bytes_with}
 use Rattle.guest_state.specs.Register.{with_register, next}
 use Rattle.guest_kernel.specs.Start.{first_thread}
 use Rattle.guest_kernel.specs.State.{has_ended, dropping, unreserved, without_reservation}
 use Rattle.guest_kernel.specs.Step.{effect}
 use Rattle.guest_kernel.specs.Threads.{thread_at}
 use Rattle.guest_kernel.specs.Turn.{turn, by_thread, by_effect}
-use Rattle.guest_kernel.proofs.Readable.{readable-length}
+use Rattle.guest_kernel.proofs.Range.{bytes_with-length}
 
 -- ---- a write's bytes are as many as a call moves at most
 
@@ -35,7 +34,7 @@ pub written_is_short : (memory : Memory) (fd addr len : ℕ) → IsShort (writte
 written_is_short memory fd addr len =
     cond_both (not (fd == 1)) _ _ IsShort (λ _. omega arith)
     (λ _. cond_both (len == 0) _ _ IsShort (λ _. omega arith)
-    (λ _. bytes_are_short (moved len) (readable memory addr (moved len)) (min-le_right len MAX_CALL_BYTES) (λ bytes is. readable-length memory addr (moved len) bytes is)))
+    (λ _. bytes_are_short (moved len) (bytes_with 4 memory addr (moved len)) (min-le_right len MAX_CALL_BYTES) (λ bytes is. bytes_with-length 4 memory addr (moved len) bytes is)))
 
 -- ---- one turn more
 

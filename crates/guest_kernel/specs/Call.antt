@@ -9,8 +9,7 @@ use Rattle.guest_state.specs.declared.hart.Hart.{Hart}
 use Rattle.guest_state.specs.declared.thread.Thread.TheVariants.{Runs}
 use Rattle.guest_kernel.specs.declared.state.State.{State}
 use Rattle.guest_state.specs.declared.end.End.TheVariants as ends
-use Rattle.guest_kernel.specs.Memory.{readable}
-use Rattle.guest_state.specs.Pages.{Memory}
+use Rattle.dp_base.specs.Memory.{Memory, bytes_with}
 use Rattle.guest_state.specs.Register.{register, with_register, next}
 use Rattle.guest_kernel.specs.State.{with_thread, counted}
 
@@ -95,7 +94,7 @@ abbrev pub written : Memory → (fd addr len : ℕ) → Written
 written memory fd addr len =
     if not (fd == 1) then nothing_written (minus EBADF)
     else if len == 0 then nothing_written 0
-    else bytes_written (moved len) (readable memory addr (moved len))
+    else bytes_written (moved len) (bytes_with 4 memory addr (moved len))
 
 abbrev pub written_by : Memory → Hart → Written
 written_by memory hart = written memory (a0 hart) (a1 hart) (a2 hart)

@@ -1,4 +1,3 @@
-pub mod Memory
 pub mod Instruction
 pub mod Operands
 pub mod Step
@@ -6,8 +5,6 @@ pub mod Threads
 pub mod State
 pub mod Call
 pub mod Turn
-pub mod Segment
-pub mod Image
 pub mod Start
 pub mod Slices
 pub mod Stops

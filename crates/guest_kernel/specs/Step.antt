@@ -5,8 +5,7 @@ use Rattle.guest_kernel.specs.declared.step.Instr.{Instr}
 use Rattle.guest_kernel.specs.declared.step.Stepped.{Stepped}
 use Rattle.guest_kernel.specs.declared.step.Stepped.TheVariants as answers
 use Rattle.guest_state.specs.declared.hart.Hart.{Hart}
-use Rattle.guest_kernel.specs.Memory.{fetch}
-use Rattle.guest_state.specs.Pages.{Memory}
+use Rattle.dp_base.specs.Memory.{Memory, fetched}
 use Rattle.guest_kernel.specs.Instruction.{Effect, goes, calls, traps, decoded, executed}
 
 abbrev pub misaligned : ℕ
@@ -27,7 +26,7 @@ of_word hart None = traps fetch_denied hart.pc
 of_word hart (Some word) = of_instruction hart word (decoded word)
 
 abbrev pub effect : Hart → Memory → Effect
-effect hart memory = if hart.pc % 4 == 0 then of_word hart (fetch memory hart.pc) else traps misaligned hart.pc
+effect hart memory = if hart.pc % 4 == 0 then of_word hart (fetched hart.pc memory) else traps misaligned hart.pc
 
 -- the answer of `exec` for an effect, and where it leaves the hart
 abbrev pub answer_for : Effect → Stepped

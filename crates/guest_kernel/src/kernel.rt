@@ -6,9 +6,9 @@ ghost use Rattle.guest_kernel.specs.declared.kernel.Turn.TheVariants as answers;
 ghost use Rattle.guest_kernel.specs.State.{counted};
 ghost use Rattle.guest_kernel.specs.Turn.{turn, log_of, turn_answer, state_after, output_after};
 
-use crate::pages::Pages;
 use crate::state::State;
 use crate::step::{Stepped, exec};
+use cow_pages::Pages;
 use dp_base::field::write_bytes;
 use dp_base::limits::MAX_CALL_BYTES;
 use dp_base::{Answer, OutOfMemory, Tid};
@@ -78,7 +78,7 @@ impl State {
             return Ok(Turn::NotRunnable);
         };
         let steps = self.steps + 1;
-        match exec(&mut hart, &self.pages) {
+        match exec(&mut hart, &mut self.pages) {
             Stepped::Went => self.threads.set(tid, Thread::Runs { hart, clear }),
             Stepped::Ecall => self.call(alloc, tid, hart, clear, out)?,
             Stepped::Trap { cause, value } => self.end = End::Trap { tid, cause, value },
@@ -135,7 +135,7 @@ fn write(alloc: Global, pages: &Pages, hart: &Hart, out: &mut Vec<u8>) -> Result
         return Ok(0);
     }
     let count = hart.register(A2).min(MAX_CALL_BYTES);
-    match pages.readable(alloc, hart.register(A1), count)? {
+    match pages.read_range(alloc, hart.register(A1), count)? {
         Some(bytes) => {
             write_bytes(out, &bytes)?;
             Ok(count)
@@ -148,7 +148,20 @@ fn write(alloc: Global, pages: &Pages, hart: &Hart, out: &mut Vec<u8>) -> Result
 mod tests {
     use super::*;
     use crate::threads::Threads;
+    use dp_base::limits::{MAX_PAGES, PAGE_NUMBERS};
     use std::test::Fail;
+
+    // Maps a page of zeros, where that can be.
+    fn map(pages: &mut Pages, number: u32, flags: u8) -> Result<(), OutOfMemory> {
+        if pages.flags(number).is_none()
+            && number < PAGE_NUMBERS
+            && flags < 8
+            && pages.pages() < MAX_PAGES
+        {
+            pages.map_page(number, flags)?;
+        }
+        Ok(())
+    }
 
     // A guest that stands at an ecall, with these arguments and x17 2. Its page 10 (hexadecimal) may only be executed,
     // page 13 be executed and written; the others may be read.
@@ -156,13 +169,13 @@ mod tests {
         let mut page = [0; 4096];
         page[4094] = b'a';
         page[4095] = b'b';
-        let mut pages = Pages::new(alloc);
-        pages.map_above(0, 4, &[])?;
+        let mut pages = Pages::new(alloc)?;
         pages.map_above(0x10, 1, &[0x73])?;
         pages.map_above(0x11, 4, &page)?;
         pages.map_above(0x12, 7, b"cd")?;
-        pages.map_above(0x13, 3, &[])?;
-        pages.map_above(0xffffe, 4, &[])?;
+        map(&mut pages, 0x13, 3)?;
+        map(&mut pages, 0, 4)?;
+        map(&mut pages, 0xffffe, 4)?;
         let mut hart = Hart {
             pc: 0x10000,
             x: [7; 31],

@@ -1,21 +1,23 @@
 //! What follows from the definitions alone. Each function's contract is a law over all guests, states, slices and
 //! logs; a call of it costs nothing and hands the law to the caller's proof.
 
-ghost use Rattle.std.specs.Prelude.{◌≡◌, ◌+◌, ◌*◌, ◌≤◌, ◌++◌, ℕ, List, [], ◌∷◌, length, true, false, Ok, Err};
+ghost use Rattle.std.specs.Prelude.{All, ◌≡◌, ◌+◌, ◌*◌, ◌≤◌, ◌++◌, ℕ, List, [], ◌∷◌, length, true, false, Ok, Err};
 ghost use Rattle.dp_base.specs.declared.answer.Answer.{Answer};
 ghost use Rattle.dp_base.specs.declared.limits.TheConstants.{MAX_CALL_BYTES};
 ghost use Rattle.dp_base.specs.declared.slice.Slice.{Slice};
 ghost use Rattle.dp_base.specs.declared.tid.Tid.{Tid};
+ghost use Rattle.dp_base.specs.Field.{AreBytes};
 ghost use Rattle.dp_base.specs.Journal.{Epoch, steps_of};
+ghost use Rattle.dp_base.specs.Memory.{ArePages};
+ghost use Rattle.elf_image.specs.declared.image.Image.{Image};
+ghost use Rattle.elf_image.specs.Image.{IsImageOf};
 ghost use Rattle.guest_state.specs.declared.hart.Hart.{Hart};
-ghost use Rattle.guest_kernel.specs.declared.image.Image.{Image};
 ghost use Rattle.guest_kernel.specs.declared.state.State.{State};
 ghost use Rattle.guest_kernel.specs.Call.{After, Refusal, not_runnable};
-ghost use Rattle.guest_kernel.specs.Image.{IsImageOf};
 ghost use Rattle.guest_kernel.specs.Lone.{RunsAlone};
 ghost use Rattle.guest_state.specs.Register.{register, with_register};
 ghost use Rattle.guest_kernel.specs.Slices.{at, either, joined, turns, run, chain, chained, one_slice, slice_ended};
-ghost use Rattle.guest_kernel.specs.Start.{start_of, start_state, first_thread};
+ghost use Rattle.guest_kernel.specs.Start.{IsGuestFile, start_of, start_state, first_thread};
 ghost use Rattle.guest_kernel.specs.State.{has_ended, without_reservation};
 ghost use Rattle.guest_kernel.specs.Turn.{turn, state_after};
 
@@ -76,6 +78,17 @@ pub fn chains_join()
 pub fn an_image_starts_as_its_file()
     ensures { (file : List ℕ) (image : Image) → IsImageOf file image → start_of image ≡ start_state file }
 {}
+
+/// The memory with which the guest of a file starts is a table of pages, and what stands there is bytes.
+pub fn a_guest_starts_with_pages()
+    ensures pages { (file : List ℕ) → IsGuestFile file → ArePages (start_state file).pages }
+    ensures bytes { (file : List ℕ) → AreBytes file → All (λ p. AreBytes p.bytes) (start_state file).pages }
+{
+    elf_image::laws::a_file_without_fault_has_segments();
+    elf_image::laws::start_pages_are_page_numbers();
+    elf_image::laws::page_flags_are_three_bits();
+    elf_image::laws::a_page_of_a_file_is_bytes();
+}
 
 /// A guest whose one thread runs: it has a turn until it ends, which takes no answer and writes at most 4,096 bytes, and
 /// its thread still runs behind the turn and behind the end of a slice.

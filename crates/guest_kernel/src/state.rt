@@ -2,8 +2,8 @@
 ghost use Rattle.std.specs.Prelude.{◌≡◌};
 ghost use Rattle.guest_kernel.specs.State.{has_ended, without_reservation};
 
-use crate::pages::Pages;
 use crate::threads::Threads;
+use cow_pages::Pages;
 use dp_base::Tid;
 use guest_state::{End, Thread};
 
@@ -66,7 +66,7 @@ mod tests {
 
     fn state_of(alloc: Global, thread: Thread) -> Result<State, Fail> {
         Ok(State {
-            pages: Pages::new(alloc),
+            pages: Pages::new(alloc)?,
             heap: 0,
             brk: 0,
             threads: Threads::one(alloc, thread)?,

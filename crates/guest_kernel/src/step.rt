@@ -3,7 +3,8 @@ ghost use Rattle.guest_kernel.specs.Instruction.{decoded, immediate_i, immediate
 ghost use Rattle.guest_kernel.specs.Step.{effect, answer_for, hart_after};
 ghost use Rattle.guest_kernel.specs.Operands.{AreOperands};
 
-use crate::pages::Pages;
+use cow_pages::Pages;
+use dp_base::{Access, Mem};
 use guest_state::Hart;
 
 /// An instruction, its registers by number and its immediate in 32 bits.
@@ -71,9 +72,10 @@ pub fn decode(word: u32) -> Option<Instr>
 }
 
 /// Takes one step of a hart. After `Ecall` and `Trap` the hart is unchanged.
-pub fn exec(hart: &mut Hart, pages: &Pages) -> Stepped
-    ensures answer { result ≡ answer_for (effect hart.old pages.now) }
-    ensures hart { hart.new ≡ hart_after (effect hart.old pages.now) hart.old }
+pub fn exec(hart: &mut Hart, pages: &mut Pages) -> Stepped
+    ensures answer { result ≡ answer_for (effect hart.old pages.old) }
+    ensures hart { hart.new ≡ hart_after (effect hart.old pages.old) hart.old }
+    ensures memory { pages.new ≡ pages.old }
 {
     if hart.pc % 4 != 0 {
         return Stepped::Trap {
@@ -81,7 +83,7 @@ pub fn exec(hart: &mut Hart, pages: &Pages) -> Stepped
             value: hart.pc,
         };
     }
-    let Some(word) = pages.fetch(hart.pc) else {
+    let Access::Done(word) = pages.fetch(hart.pc) else {
         return Stepped::Trap {
             cause: 1,
             value: hart.pc,
@@ -145,7 +147,7 @@ mod tests {
 
     #[test]
     fn steps(rt: HostRuntime) -> Result<(), Fail> {
-        let mut pages = Pages::new(rt.alloc());
+        let mut pages = Pages::new(rt.alloc())?;
         // page 10 may only be executed: ecall; addi x31, x1, -1; a word that is no instruction. Page 11 may be read
         // and written.
         pages.map_above(
@@ -178,10 +180,14 @@ mod tests {
                 left.set_register(31, 8);
                 left.pc = 0x10008;
             }
-            assert_eq!(rt; exec(&mut hart, &pages), stepped, "at {pc:x}");
+            assert_eq!(rt; exec(&mut hart, &mut pages), stepped, "at {pc:x}");
             assert_eq!(rt; hart, left, "at {pc:x}");
         }
-        assert_eq!(rt; pages.fetch(0x10ffe), None, "half of it on page 11");
+        assert_eq!(rt;
+            pages.fetch(0x10ffe),
+            Access::Denied,
+            "half of it on page 11"
+        );
         Ok(())
     }
 }

@@ -2,7 +2,7 @@ ghost use Rattle.std.specs.Prelude.{◌≡◌, ◌<◌, ◌^◌, IfOk};
 ghost use Rattle.dp_base.specs.Journal.{steps_of};
 
 use super::*;
-use dp_base::{Answer, Bytes, Slice, Tid};
+use dp_base::{Answer, Slice, Tid};
 use std::alloc::{AllocError, Global};
 use std::test::Fail;
 
@@ -19,12 +19,17 @@ const HEADERS_START: [u8; 68] = [
 const HEADERS_END: [u8; 8] = [0x05, 0x00, 0x00, 0x00, 0x00, 0x10, 0x00, 0x00];
 
 // addi x10, x0, 7; addi x17, x0, 1; ecall: exit_all(7)
-const EXIT_SEVEN: [u32; 3] = [0x0070_0513, 0x0010_0893, 0x0000_0073];
+pub(crate) const EXIT_SEVEN: [u32; 3] = [0x0070_0513, 0x0010_0893, 0x0000_0073];
 
 const ADDI_TO_X0: u32 = 0x0000_0013;
 
 // A file of these sizes in its headers and these words of code.
-fn guest_of(alloc: Global, filesz: u32, memsz: u32, words: &[u32]) -> Result<Vec<u8>, AllocError> {
+pub(crate) fn guest_of(
+    alloc: Global,
+    filesz: u32,
+    memsz: u32,
+    words: &[u32],
+) -> Result<Vec<u8>, AllocError> {
     let mut file = HEADERS_START.to_vec(alloc)?;
     file.extend_from_slice(&filesz.to_le_bytes())?;
     file.extend_from_slice(&memsz.to_le_bytes())?;
@@ -35,17 +40,16 @@ fn guest_of(alloc: Global, filesz: u32, memsz: u32, words: &[u32]) -> Result<Vec
     Ok(file)
 }
 
-fn guest(alloc: Global, words: &[u32]) -> Result<Vec<u8>, AllocError> {
+pub(crate) fn guest(alloc: Global, words: &[u32]) -> Result<Vec<u8>, AllocError> {
     let size = words.len().min(1000) as u32 * 4 + 84;
     guest_of(alloc, size, size, words)
 }
 
-fn started(alloc: Global, words: &[u32]) -> Result<State, Fail>
+pub(crate) fn started(alloc: Global, words: &[u32]) -> Result<State, Fail>
     ensures steps { IfOk result (λ state. state.steps ≡ 0) }
     ensures input { IfOk result (λ state. state.input ≡ 0) }
 {
-    let image = load(alloc, &guest(alloc, words)?)?;
-    Ok(start(alloc, &image)?)
+    Ok(start_from_file(alloc, &guest(alloc, words)?)?)
 }
 
 // A guest after a run of one slice of thread 1, and what the run came to.
@@ -60,7 +64,7 @@ fn stops(slice: usize, step: u32) -> SliceRun {
     SliceRun::Stops { slice, step }
 }
 
-fn trap(cause: u8, value: u32) -> End {
+pub(crate) fn trap(cause: u8, value: u32) -> End {
     End::Trap {
         tid: Tid(1),
         cause,
@@ -68,120 +72,11 @@ fn trap(cause: u8, value: u32) -> End {
     }
 }
 
-fn hart_of(state: &State) -> Option<&Hart> {
+pub(crate) fn hart_of(state: &State) -> Option<&Hart> {
     match state.threads.get(Tid(1)) {
         Some(Thread::Runs { hart, .. }) => Some(hart),
         _ => None,
     }
-}
-
-#[test]
-fn files(rt: HostRuntime) -> Result<(), Fail> {
-    let alloc = rt.alloc();
-    // p_filesz, p_memsz, the file's length, and whether it is a guest
-    let cases = [
-        (84, 84, 84, true),
-        (96, 96, 96, true),
-        (4000, 4000, 4000, true),
-        (0, 0, 0, false),
-        (84, 84, 83, false),
-        (83, 83, 83, false),
-        (4000, 4000, 4001, false),
-        (4001, 4001, 4001, false),
-        (97, 96, 96, false),
-        (96, 95, 96, false),
-    ];
-    for (filesz, memsz, len, is_guest) in cases {
-        let mut file = guest_of(alloc, filesz, memsz, &[])?;
-        file.resize(len, 0)?;
-        let fault = load(alloc, &file).err();
-        let refused = Some(ImageFault::NotBuilt);
-        assert_eq!(rt; fault, if is_guest { None } else { refused }, "{len} bytes");
-    }
-    Ok(())
-}
-
-#[test]
-fn starts(rt: HostRuntime) -> Result<(), Fail> {
-    let state = started(rt.alloc(), &EXIT_SEVEN)?;
-    let hart = hart_of(&state).ok_or("thread 1 runs")?;
-    assert_eq!(rt; hart.pc, 0x10054);
-    for number in 0..32 {
-        let value = if number == 2 { 0x7fff_ffe0 } else { 0 };
-        assert_eq!(rt; hart.register(number), value);
-    }
-    assert_eq!(rt; (state.heap, state.brk), (0x11000, 0x11000));
-    assert_eq!(rt; (state.input, state.steps), (0, 0));
-    assert_eq!(rt; (state.threads.len(), state.end), (1, End::None));
-    Ok(())
-}
-
-// Each byte of the headers counts.
-#[test]
-fn other_headers(rt: HostRuntime) -> Result<(), Fail> {
-    let alloc = rt.alloc();
-    for place in 0..84 {
-        let mut file = guest(alloc, &EXIT_SEVEN)?;
-        if let Some(byte) = file.get_mut(place) {
-            *byte ^= 1;
-        }
-        let fault = load(alloc, &file).err();
-        assert_eq!(rt; fault, Some(ImageFault::NotBuilt), "byte {place}");
-    }
-    Ok(())
-}
-
-// Whether it is a page with these bytes first and zeros behind them.
-fn is_page(page: Option<&[u8]>, prefix: &[u8]) -> bool {
-    let Some(page) = page else {
-        return false;
-    };
-    let zeros = page.iter().skip(prefix.len()).all(|byte| *byte == 0);
-    page.len() == 4096 && page.starts_with(prefix) && zeros
-}
-
-#[test]
-fn start_pages(rt: HostRuntime) -> Result<(), Fail> {
-    let file = guest(rt.alloc(), &EXIT_SEVEN)?;
-    let pages = started(rt.alloc(), &EXIT_SEVEN)?.pages;
-    assert_eq!(rt; pages.pages(), 17);
-    assert_eq!(rt; pages.flags(0x10), Some(5));
-    assert!(rt; is_page(pages.page_bytes(0x10), &file));
-    for number in 0x7fff0..0x80000 {
-        assert_eq!(rt; pages.flags(number), Some(6));
-        assert!(rt; is_page(pages.page_bytes(number), &[]));
-    }
-    for number in [0, 0xf, 0x11, 0x7ffef, 0x80000] {
-        assert_eq!(rt; pages.flags(number), None);
-    }
-    Ok(())
-}
-
-#[test]
-fn a_segment_that_fills_its_page(rt: HostRuntime) -> Result<(), Fail> {
-    let alloc = rt.alloc();
-    let bytes = Bytes::from_vec(Vec::from_slice(alloc, &[1, 2, 3])?);
-    let segment = Segment {
-        addr: 0x20000,
-        bytes,
-        size: 4096,
-        flags: 7,
-    };
-    let segments = Segments::one(alloc, segment)?;
-    let mut state = start(
-        alloc,
-        &Image {
-            entry: 0x20001,
-            segments,
-            heap: 0x21000,
-        },
-    )?;
-    assert_eq!(rt; state.pages.flags(0x20), Some(7));
-    let mut out = Vec::new(alloc);
-    let answer = state.turn(alloc, Tid(1), None, &mut out)?;
-    assert_eq!(rt; (answer, state.steps), (Turn::Stepped { used: false }, 1));
-    assert_eq!(rt; state.end, trap(0, 0x20001));
-    Ok(())
 }
 
 #[test]

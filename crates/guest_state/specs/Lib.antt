@@ -1,4 +1,3 @@
 pub mod Register
-pub mod Pages
 pub mod Checkpoint
 pub mod View

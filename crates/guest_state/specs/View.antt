@@ -1,13 +1,8 @@
--- What is lent by a reader, as a value. This project's own.
+-- What is counted of a checkpoint that is skipped. This project's own.
 use Rattle.std.specs.Prelude.{ℕ, Bool, List, ◌&&◌, nat_lt, nat_le}
 use Rattle.dp_base.specs.declared.limits.TheConstants.{MAX_LIVE_THREADS, MAX_PAGES, MAX_THREADS}
-use Rattle.dp_base.specs.declared.page.Page.{Page}
 use Rattle.guest_state.specs.Checkpoint.{is_heap, traps_within}
 use Rattle.guest_state.specs.declared.scan.Bounds.{Bounds}
-use Rattle.guest_state.specs.declared.reader.PageView.{PageView}
-
-abbrev pub page_of : PageView → Page
-page_of v = record { number = v.number; flags = v.flags; bytes = v.bytes.now }
 
 -- how many were skipped, what is known of them, and the bytes behind them
 pub record Skipped (A : Type 0) : Type 0 where

@@ -2,16 +2,16 @@
 ghost use Rattle.std.specs.Prelude.{◌≡◌, IfSome, option_map};
 ghost use Rattle.dp_base.specs.Field.{number_at};
 ghost use Rattle.dp_base.specs.Journal.{many_at};
+ghost use Rattle.dp_base.specs.Memory.{IsPage};
+ghost use Rattle.dp_base.specs.View.{page_of};
 ghost use Rattle.guest_state.specs.Checkpoint.{end_from, exit_from, trap_from, hart_from, thread_from, runs_from, waits_from, gone_from, page_from};
-ghost use Rattle.guest_state.specs.Pages.{IsPage};
-ghost use Rattle.guest_state.specs.View.{page_of};
 
 use crate::end::End;
 use crate::hart::Hart;
 use crate::thread::Thread;
-use dp_base::Tid;
 use dp_base::field::{read_u8, read_u16, read_u32};
 use dp_base::limits::{PAGE_BYTES, PAGE_NUMBERS};
+use dp_base::{PageView, Tid};
 
 // The kinds of an end.
 const NO_END: u8 = 0;
@@ -132,17 +132,6 @@ fn read_registers(bytes: &[u8]) -> Option<([u32; 31], &[u8])>
         rest = behind;
     }
     Some((x, rest))
-}
-
-/// One page, with its bytes lent.
-#[derive(Clone, Copy, Debug)]
-pub struct PageView<'a> {
-    /// Its address divided by 4,096.
-    pub number: u32,
-    /// Execute 1, write 2, read 4.
-    pub flags: u8,
-    /// Its 4,096 bytes.
-    pub bytes: &'a [u8],
 }
 
 /// A page, and the bytes behind it. Returns `None` exactly if the bytes don't start with one.

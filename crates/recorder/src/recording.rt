@@ -3,8 +3,7 @@ ghost use Rattle.std.specs.Prelude.{◌≡◌, ◌<◌, ◌≤◌, ◌-◌, ◌^
 ghost use Rattle.dp_base.specs.Journal.{IsBody, IsEpoch, epoch_body, frame};
 ghost use Rattle.disk_model.specs.Counts.{Rose};
 ghost use Rattle.epoch_record.specs.Epoch.{epoch_of};
-ghost use Rattle.guest_kernel.specs.Image.{IsGuestFile};
-ghost use Rattle.guest_kernel.specs.Start.{start_state};
+ghost use Rattle.guest_kernel.specs.Start.{IsGuestFile, start_state};
 ghost use Rattle.recorder.specs.Recording.{Recorded};
 ghost use Rattle.recorder.specs.declared.record_fault.RecordFault.TheVariants as faults;
 
@@ -69,6 +68,7 @@ fn record_epochs<W: World>(
     ensures disk_count { W.disk_faults world.old ≤ W.disk_faults world.new }
     ensures sink_count { W.sink_faults world.old ≤ W.sink_faults world.new }
 {
+    elf_image::laws::a_file_without_fault_has_segments();
     laws::a_lone_thread_goes_on();
     laws::an_epoch_more();
     dp_base::laws::lengths();

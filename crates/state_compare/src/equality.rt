@@ -1,10 +1,11 @@
 // Equality of states, part by part.
 ghost use Rattle.std.specs.Prelude.{◌≡◌, ◌↔◌, IsTrue};
-ghost use Rattle.guest_state.specs.View.{page_of};
+ghost use Rattle.dp_base.specs.View.{page_of};
 ghost use Rattle.state_compare.specs.Numbers.{HasSameNumbers};
 
+use dp_base::PageView;
 use guest_kernel::{Pages, State};
-use guest_state::{PageView, Thread};
+use guest_state::Thread;
 
 /// Returns whether two states are the same. Takes no memory.
 pub fn equal(left: &State, right: &State) -> bool

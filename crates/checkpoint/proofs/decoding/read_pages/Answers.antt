@@ -1,15 +1,15 @@
 use Rattle.std.proofs.Common.{List, [], ◌∷◌, ◌++◌, length, arith, sym, subst, ◌∙◌, ap, ◌≡◌, ◌+◌}
-use Rattle.guest_kernel.specs.Memory.{page_with}
-use Rattle.guest_state.specs.Pages.{IsPage}
+use Rattle.cow_pages.specs.Mapping.{page_with}
+use Rattle.dp_base.specs.Memory.{IsPage}
 use Rattle.dp_base.specs.declared.limits.TheConstants.{PAGE_BYTES}
 use Rattle.dp_base.specs.declared.page.Page.{Page}
-use Rattle.guest_state.specs.View.{page_of}
+use Rattle.dp_base.specs.View.{page_of}
 use Rattle.guest_state.proofs.Many.{given, not_given}
 use Rattle.checkpoint.proofs.Mapping.{PagesSoFar, no_page, page_more, page_none, page_low, pages_below, whole_page}
 use Rattle.checkpoint.proofs.decoding.read_pages.Goals as goal
 
 pub pages-init : goal.pages-init
-pages-init c = subst (λ (xs : List Page). PagesSoFar 0 c.args.bytes.now xs 0 c.args.bytes.now) (sym c.new-pages.ensures) (no_page c.args.bytes.now)
+pages-init c = subst (λ (xs : List Page). PagesSoFar 0 c.args.bytes.now xs 0 c.args.bytes.now) (sym c.in_ok-pages.ensures) (no_page c.args.bytes.now)
 
 pub returns-in_default : goal.returns-in_default
 returns-in_default c =

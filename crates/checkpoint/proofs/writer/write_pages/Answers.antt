@@ -2,7 +2,7 @@ use Rattle.std.proofs.Common.{List, ℕ, Ok, take, sym, subst, ◌∙◌, ap}
 use Rattle.std.specs.List.{flat_map}
 use Rattle.std.specs.Option.{option_map}
 use Rattle.guest_state.specs.Checkpoint.{page_bytes}
-use Rattle.guest_state.specs.View.{page_of}
+use Rattle.dp_base.specs.View.{page_of}
 use Rattle.checkpoint.specs.Sink.{Adds}
 use Rattle.checkpoint.proofs.Adding.{adds_then, flat_map-take}
 use Rattle.checkpoint.proofs.writer.write_pages.Goals as goal

@@ -5,8 +5,8 @@ use Rattle.journal_text.specs.Reading.{first_bytes, reads}
 use Rattle.epoch_replay.proofs.Starting.{no_journal_at, not_loaded, starts, within}
 use Rattle.epoch_replay.proofs.replaying.replay_file.Goals as goal
 
-pub slice_bounds-start_of_file-end : goal.slice_bounds-start_of_file-end
-slice_bounds-start_of_file-end g c =
+pub slice_bounds-start_from_file-end : goal.slice_bounds-start_from_file-end
+slice_bounds-start_from_file-end g c =
     let fits = within c.args.file.now c.requires.few (λ i. omega (arith, c.type_inv.file i)) c.header.result c.in-Whole.guest_len c.in-Whole.is c.header.ensures c.headers.ensures c.lengths.ensures.header in
     omega (arith, fits)
 
@@ -14,7 +14,7 @@ pub returns-in_err-state-clause-replayed : goal.returns-in_err-state-clause-repl
 returns-in_err-state-clause-replayed g c =
     let p = err_from_is_err_and c.from_residual.result c.from_residual.ensures.1 in
     rw (p.1 ∙ ap (λ e. Err e) p.2) (not_loaded c.args.file.now c.requires.few (λ i. omega (arith, c.type_inv.file i)) c.header.result c.in-Whole.guest_len c.in-Whole.is c.header.ensures c.headers.ensures c.lengths.ensures.header
-    c.a_header_stands_first.ensures.guest c.a_header_stands_first.ensures.behind c.reading_goes_on.ensures.header _ c.in_err-state.field-0.0 c.start_of_file.result c.in_err-state.was c.start_of_file.ensures.refused)
+    c.a_header_stands_first.ensures.guest c.a_header_stands_first.ensures.behind c.reading_goes_on.ensures.header _ c.in_err-state.field-0.0 c.in_err-state.ensures.refused)
 
 pub play-requires-clause-starts : goal.play-requires-clause-starts
 play-requires-clause-starts g c =

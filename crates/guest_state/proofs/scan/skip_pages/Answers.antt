@@ -1,7 +1,7 @@
 use Rattle.std.proofs.Common.{arith, refl, ◌∙◌, sym}
 use Rattle.guest_state.proofs.Many.{given, not_given}
 use Rattle.guest_state.proofs.Scanning.{page_more, page_none, pages_all}
-use Rattle.guest_state.specs.View.{page_of}
+use Rattle.dp_base.specs.View.{page_of}
 use Rattle.guest_state.proofs.scan.skip_pages.Goals as goal
 
 pub returns-in_default : goal.returns-in_default

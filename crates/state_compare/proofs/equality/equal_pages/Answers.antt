@@ -1,6 +1,6 @@
 use Rattle.std.proofs.Common.{sym, ap, ◌∙◌, refl}
 use Rattle.std.specs.Option.{option_map}
-use Rattle.guest_state.specs.View.{page_of}
+use Rattle.dp_base.specs.View.{page_of}
 use Rattle.state_compare.proofs.Taken.{take-more}
 use Rattle.state_compare.proofs.equality.equal_pages.Goals as goal
 
