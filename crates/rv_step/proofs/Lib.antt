@@ -1,0 +1,7 @@
+mod Fetched
+mod Forms
+mod Encodings
+mod Decodings
+mod Frames
+mod Memories
+mod Kept

@@ -1,0 +1,10 @@
+pub mod Field
+pub mod Decoding
+pub mod Operands
+pub mod Effect
+pub mod Extension
+pub mod Execution
+pub mod Step
+pub mod Encoding
+pub mod Frame
+pub mod Words

@@ -1,0 +1,42 @@
+// What the integer instructions compute (RISC-V Unprivileged ISA 20191213, 2.4).
+ghost use Rattle.std.specs.Prelude.{◌≡◌, ◌<◌};
+ghost use Rattle.dp_base.specs.Memory.{is_below_signed};
+ghost use Rattle.rv_step.specs.Effect.{one_if, shifted_left, shifted_right, shifted_right_arithmetic};
+
+#[inline(always)]
+pub fn is_below_signed(a: u32, b: u32) -> bool
+    ensures { result ≡ is_below_signed a b }
+{
+    a.cast_signed() < b.cast_signed()
+}
+
+#[inline(always)]
+pub fn one_if(holds: bool) -> u32
+    ensures { result ≡ one_if holds }
+{
+    if holds { 1 } else { 0 }
+}
+
+#[inline(always)]
+pub fn shifted_left(value: u32, count: u32) -> u32
+    requires { count < 32 }
+    ensures { result ≡ shifted_left value count }
+{
+    value << count
+}
+
+#[inline(always)]
+pub fn shifted_right(value: u32, count: u32) -> u32
+    requires { count < 32 }
+    ensures { result ≡ shifted_right value count }
+{
+    value >> count
+}
+
+#[inline(always)]
+pub fn shifted_right_arithmetic(value: u32, count: u32) -> u32
+    requires { count < 32 }
+    ensures { result ≡ shifted_right_arithmetic value count }
+{
+    (value.cast_signed() >> count).cast_unsigned()
+}

@@ -1,0 +1,39 @@
+//! The instructions of RV32I and of the A extension (RISC-V Unprivileged ISA 20191213), one step of a hart at a time.
+//!
+//! Promises: `decode` gives the instruction that a word encodes, and `None` exactly where it is illegal (`specs/Decoding.antt`);
+//! over a memory whose pages are known `exec` does what the instruction at pc does, or answers the first trap that applies
+//! (`specs/Execution.antt`, `specs/Step.antt`). After `Ecall`, `Trap`, `Busy` and want of memory nothing has changed. `laws` says
+//! what follows from the definitions alone. Stands on `dp_base` for `Mem`, on `guest_state` for `Hart`, and in its proofs on
+//! `byteorder`.
+//!
+//! ```text
+//! match exec(&mut hart, &mut memory)? {
+//!     Stepped::Went => ..,
+//!     Stepped::Ecall => ..,
+//!     Stepped::Trap { cause, value } => ..,
+//!     Stepped::Busy => ..,
+//! }
+//! ```
+#![tactic(auto)]
+
+mod atomic;
+mod control;
+mod decoding;
+mod execution;
+mod immediate;
+mod instr;
+mod integer;
+pub mod laws;
+mod load_store;
+mod step;
+mod stepped;
+
+pub use decoding::decode;
+pub use instr::Instr;
+pub use step::exec;
+pub use stepped::Stepped;
+
+#[cfg(test)]
+mod small_memory;
+#[cfg(test)]
+mod tests;

@@ -1,0 +1,135 @@
+// A memory for the tests.
+ghost use Rattle.std.specs.Prelude.{None};
+
+use dp_base::{Access, AmoOp, Mem, OutOfMemory, Width};
+
+/// Where the memory begins.
+pub const BASE: u32 = 0x0001_0000;
+
+/// A memory of 64 bytes, with an answer of its own for each kind of access. Its pages aren't known to any proof.
+#[derive(Clone, Copy, Debug, PartialEq, Eq)]
+pub struct SmallMemory {
+    pub bytes: [u8; 64],
+    pub fetches: Access<()>,
+    pub reads: Access<()>,
+    pub writes: Access<()>,
+    /// Whether an SC stores.
+    pub keeps_reservations: bool,
+}
+
+impl SmallMemory {
+    /// Makes a memory of zeros where each access may be.
+    pub fn new() -> Self {
+        SmallMemory {
+            bytes: [0; 64],
+            fetches: Access::Done(()),
+            reads: Access::Done(()),
+            writes: Access::Done(()),
+            keeps_reservations: true,
+        }
+    }
+
+    fn byte(&self, address: u32) -> u8 {
+        let offset = address.wrapping_sub(BASE) as usize;
+        if offset < 64 { self.bytes[offset] } else { 0 }
+    }
+
+    fn put_byte(&mut self, address: u32, byte: u8) {
+        let offset = address.wrapping_sub(BASE) as usize;
+        if offset < 64 {
+            self.bytes[offset] = byte;
+        }
+    }
+
+    /// Returns the four bytes at an address.
+    pub fn word(&self, address: u32) -> u32 {
+        u32::from_le_bytes([
+            self.byte(address),
+            self.byte(address.wrapping_add(1)),
+            self.byte(address.wrapping_add(2)),
+            self.byte(address.wrapping_add(3)),
+        ])
+    }
+
+    /// Writes so many of a value's four bytes at an address.
+    pub fn put(&mut self, address: u32, count: u32, value: u32) {
+        let [a, b, c, d] = value.to_le_bytes();
+        for (place, byte) in [(0, a), (1, b), (2, c), (3, d)] {
+            if place < count {
+                self.put_byte(address.wrapping_add(place), byte);
+            }
+        }
+    }
+}
+
+fn answer_with<T: Copy>(answer: Access<()>, value: T) -> Access<T> {
+    match answer {
+        Access::Done(()) => Access::Done(value),
+        Access::Denied => Access::Denied,
+        Access::Busy => Access::Busy,
+    }
+}
+
+fn bytes_of(width: Width) -> u32 {
+    match width {
+        Width::One => 1,
+        Width::Two => 2,
+        Width::Four => 4,
+    }
+}
+
+impl Mem for SmallMemory {
+    ghost memory = { λ _. None };
+
+    fn fetch(&mut self, address: u32) -> Access<u32> {
+        answer_with(self.fetches, self.word(address))
+    }
+
+    fn load(&mut self, address: u32, width: Width) -> Access<u32> {
+        let word = self.word(address);
+        let value = match width {
+            Width::One => word & 0xff,
+            Width::Two => word & 0xffff,
+            Width::Four => word,
+        };
+        answer_with(self.reads, value)
+    }
+
+    fn store(&mut self, address: u32, width: Width, value: u32) -> Result<Access<()>, OutOfMemory> {
+        if self.writes == Access::Done(()) {
+            self.put(address, bytes_of(width), value);
+        }
+        Ok(self.writes)
+    }
+
+    // Only what the tests ask for: the two maxima.
+    fn amo(&mut self, address: u32, op: AmoOp, value: u32) -> Result<Access<u32>, OutOfMemory> {
+        let old = self.word(address);
+        let greatest = match op {
+            AmoOp::Max => old.cast_signed().max(value.cast_signed()).cast_unsigned(),
+            _ => old.max(value),
+        };
+        if self.reads != Access::Done(()) {
+            return Ok(answer_with(self.reads, old));
+        }
+        if self.writes == Access::Done(()) {
+            self.put(address, 4, greatest);
+        }
+        Ok(answer_with(self.writes, old))
+    }
+
+    fn load_reserved(&mut self, address: u32) -> Access<u32> {
+        answer_with(self.reads, self.word(address))
+    }
+
+    fn store_conditional(&mut self, address: u32, value: u32) -> Result<Access<bool>, OutOfMemory> {
+        if self.writes == Access::Done(()) && self.keeps_reservations {
+            self.put(address, 4, value);
+        }
+        Ok(answer_with(self.writes, self.keeps_reservations))
+    }
+
+    fn can_store(&mut self, _address: u32) -> Access<()> {
+        self.writes
+    }
+}

@@ -1,0 +1,12 @@
+/// The outcome of a step of a hart. After all but `Went` hart and memory are unchanged.
+#[derive(Clone, Copy, Debug, PartialEq, Eq)]
+pub enum Stepped {
+    /// The instruction is done.
+    Went,
+    /// The hart stands at an environment call, which is the kernel's to do.
+    Ecall,
+    /// The hart stands at a trap.
+    Trap { cause: u8, value: u32 },
+    /// Other harts were in the way of an access.
+    Busy,
+}
