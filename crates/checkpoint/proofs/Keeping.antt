@@ -1,17 +1,23 @@
--- A state that has an encoding, with one thread changed, with another end, and one step later.
-use Rattle.std.proofs.Common.{◌≡◌, ℕ, zero, suc, ◌+◌, ◌^◌, ◌<◌, Bool, true, cond, List, [], ◌∷◌, length, slice_get, Some, refl, sym, ap, subst, ◌∙◌, arith}
-use Rattle.std.specs.Prelude.{slice_set}
+-- A state that has an encoding, with one thread changed, with another end, with other bytes on its pages, and one step later.
+use Rattle.std.proofs.Common.{◌≡◌, ℕ, zero, suc, ◌+◌, ◌^◌, ◌<◌, Bool, true, cond, List, [], ◌∷◌, length, map, nat_le, slice_get, Some, refl, sym, ap, subst, ◌∙◌, arith}
+use Rattle.std.specs.Prelude.{slice_set, ◌&&◌}
 use Rattle.std.specs.List.{AllByRecursion}
 use Rattle.std.proofs.lemmas.Bool.{and_from, lt-ltb, le-leb}
-use Rattle.std.proofs.lemmas.List.{length-set}
+use Rattle.std.proofs.lemmas.List.{length-map, length-set}
+use Rattle.std.proofs.lemmas.List.Elements.{All-cons, All-head, All-nil, All-tail}
 use Rattle.std.proofs.lemmas.List.Sums.{sum_by-cons}
 use Rattle.std.proofs.lemmas.Option.{same_Some}
+use Rattle.dp_base.specs.declared.limits.TheConstants.{PAGE_NUMBERS}
+use Rattle.dp_base.specs.declared.page.Page.{Page}
+use Rattle.dp_base.specs.Field.{AreBytes}
+use Rattle.dp_base.specs.Memory.{Memory}
 use Rattle.guest_state.specs.declared.end.End.{End}
 use Rattle.guest_state.specs.declared.thread.Thread.{Thread}
-use Rattle.guest_state.specs.Checkpoint.{Checkpoint, IsEnd, IsThread, is_alive, is_bounded, live, traps_within}
+use Rattle.guest_state.specs.Checkpoint.{Checkpoint, IsEnd, IsPageContent, IsThread, is_alive, is_bounded, live, rising_from, traps_within}
 use Rattle.guest_state.proofs.Codes.{Bounds, bounds_of}
 use Rattle.guest_kernel.specs.declared.state.State.{State}
 use Rattle.guest_kernel.specs.State.{counted}
+use Rattle.rv_step.specs.Words.{HasBytes, HasSameShape, shape_of}
 use Rattle.checkpoint.specs.State.{IsEncodable, checkpoint_of}
 
 -- ---- lists with one item changed
@@ -108,4 +114,60 @@ put_end s e is fits within =
       threads = is.threads;
       pages = is.pages;
       bounded = bounded (checkpoint_of (record s { end = e })) (record { heap = b.heap; some_thread = b.some_thread; few_threads = b.few_threads; few_alive = b.few_alive; traps = within; few_pages = b.few_pages; rise = b.rise });
+    }
+
+-- ---- a state with other bytes on its pages
+
+pub bytes_of : (m : Memory) → AllByRecursion IsPageContent m → HasBytes m
+bytes_of [] all = All-nil (λ (p : Page). AreBytes p.bytes)
+bytes_of (p ∷ m) all = All-cons (λ (q : Page). AreBytes q.bytes) p m all.0.bytes (bytes_of m all.1)
+
+content_alike : (p q : Page) → IsPageContent p → AreBytes q.bytes → shape_of q ≡ shape_of p → IsPageContent q
+content_alike p q is fits same = record {
+  number = subst (λ (s : ℕ × ℕ × ℕ). s.0 < PAGE_NUMBERS) (sym same) is.number;
+  flags = subst (λ (s : ℕ × ℕ × ℕ). s.1 < 8) (sym same) is.flags;
+  count = ap (λ (s : ℕ × ℕ × ℕ). s.2) same ∙ is.count;
+  bytes = fits;
+}
+
+contents_alike : (m left : Memory) → AllByRecursion IsPageContent m → HasBytes left → HasSameShape m left → AllByRecursion IsPageContent left
+contents_alike m [] all fits same = tt
+contents_alike [] (q ∷ left) all fits same = absurd cc
+contents_alike (p ∷ m) (q ∷ left) all fits same =
+    let here : shape_of q ≡ shape_of p = cc in
+    let others : map shape_of left ≡ map shape_of m = cc in (
+      content_alike p q all.0 (All-head (λ (r : Page). AreBytes r.bytes) q left fits) here,
+      contents_alike m left all.1 (All-tail (λ (r : Page). AreBytes r.bytes) q left fits) others,
+    )
+
+rising_from_alike : (least : ℕ) (m left : Memory) → HasSameShape m left → rising_from least left ≡ rising_from least m
+rising_from_alike least [] [] same = refl
+rising_from_alike least (p ∷ m) [] same = absurd cc
+rising_from_alike least [] (q ∷ left) same = absurd cc
+rising_from_alike least (p ∷ m) (q ∷ left) same =
+    let here : shape_of q ≡ shape_of p = cc in
+    let others : map shape_of left ≡ map shape_of m = cc in
+    ap (λ (s : ℕ × ℕ × ℕ). nat_le least s.0 && rising_from (s.0 + 1) left) here ∙ ap (λ (b : Bool). nat_le least p.number && b) (rising_from_alike (p.number + 1) m left others)
+
+pub put_pages : (s : State) (left : Memory) → IsEncodable s → HasBytes left → HasSameShape s.pages left → IsEncodable (record s { pages = left })
+put_pages s left is fits same =
+    let b = bounds_of (checkpoint_of s) is.bounded in
+    let count : length left ≡ length s.pages = sym (length-map left shape_of) ∙ ap length same ∙ length-map s.pages shape_of in
+    record {
+      steps = is.steps;
+      input = is.input;
+      heap = is.heap;
+      brk = is.brk;
+      end = is.end;
+      threads = is.threads;
+      pages = contents_alike s.pages left is.pages fits same;
+      bounded = bounded (checkpoint_of (record s { pages = left })) (record {
+        heap = b.heap;
+        some_thread = b.some_thread;
+        few_threads = b.few_threads;
+        few_alive = b.few_alive;
+        traps = b.traps;
+        few_pages = omega (arith, count, b.few_pages);
+        rise = rising_from_alike 0 s.pages left same ∙ b.rise;
+      });
     }

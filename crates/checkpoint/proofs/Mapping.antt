@@ -21,10 +21,6 @@ use Rattle.checkpoint.specs.Reading.{if_rising, rising_pages_at}
 abbrev behind : {X : Type 0} → List X → List X × List ℕ → Option (List X × List ℕ)
 behind xs p = Some (xs ++ p.0, p.1)
 
-bind_same : {A B : Type 0} (r : Option A) (f g : A → Option B) → ((x : A) → f x ≡ g x) → (r >>= f) ≡ (r >>= g)
-bind_same None f g same = refl
-bind_same (Some x) f g same = same x
-
 -- the least number that the next page may have
 abbrev pub next_least : ℕ → List Page → ℕ
 next_least least [] = least

@@ -17,7 +17,6 @@ use Rattle.guest_kernel.specs.Threads.{thread_at}
 use Rattle.guest_kernel.specs.Turn.{turn}
 use Rattle.checkpoint.specs.State.{IsEncodable}
 use Rattle.checkpoint.proofs.Keeping.{all_at, put}
-use Rattle.checkpoint.proofs.Turning.{turn_keeps}
 
 -- ---- the end of a slice
 
@@ -71,7 +70,10 @@ taken_from (Err f) h g y e = absurd cc
 abbrev Counts : Type 0
 Counts = (s : State) (tid : Tid) (log : List Answer) (after : After) → turn s tid log ≡ Ok after → after.state.steps ≡ s.steps + 1
 
-module _ (counts : Counts) where
+abbrev TurnKeeps : Type 0
+TurnKeeps = (s : State) (tid : Tid) (log : List Answer) (after : After) → IsEncodable (without_reservation s tid) → turn s tid log ≡ Ok after → after.state.steps < 2 ^ 64 → IsEncodable (without_reservation after.state tid)
+
+module _ (counts : Counts) (turn_keeps : TurnKeeps) where
   turns_steps : (left taken : ℕ) (tid : Tid) (here there : After) → turns taken left tid here ≡ Ok there → here.state.steps ≤ there.state.steps
   unfolding turns
   turns_steps zero taken tid here there ran = let same = ap (λ (r : Result After (ℕ × After)). end_of here r) ran in omega (arith, ap (λ (a : After). a.state.steps) same)

@@ -6,6 +6,7 @@ use Rattle.std.specs.List.Sorted.{IsStrictlyIncreasing}
 use Rattle.std.proofs.lemmas.Bool.{and_from, eq-eqb, le-leb}
 use Rattle.std.proofs.lemmas.List.Elements.{All-cons, All-from_get_or, All-head, All-tail}
 use Rattle.std.proofs.lemmas.List.Kept.{AllPairs-from_increasing}
+use Rattle.byteorder.specs.Numbers.{little_from-lt}
 use Rattle.dp_base.specs.declared.limits.TheConstants.{PAGE_BYTES, STACK_POINTER}
 use Rattle.dp_base.specs.declared.page.Page.{Page}
 use Rattle.dp_base.specs.Field.{AreBytes}
@@ -14,22 +15,23 @@ use Rattle.dp_base.proofs.Fields.{AreBytes-drop}
 use Rattle.elf_image.specs.File.{e_entry, field}
 use Rattle.elf_image.specs.Image.{segments_of}
 use Rattle.elf_image.specs.Segment.{MEMORY_END, heap_start, spans_of}
-use Rattle.guest_state.specs.Checkpoint.{IsPageContent, IsWord, is_heap, rising, rising_from}
+use Rattle.guest_state.specs.Checkpoint.{IsPageContent, IsWord, rising, rising_from}
 use Rattle.guest_kernel.specs.Start.{start_hart, start_memory, start_state}
+use Rattle.rv_step.specs.Words.{HasWords}
 use Rattle.checkpoint.specs.State.{IsEncodable, checkpoint_of}
 use Rattle.checkpoint.proofs.Keeping.{bounded}
-use Rattle.checkpoint.proofs.Turning.{IsHart, little_word, with_word, to_free}
+use Rattle.checkpoint.proofs.Turning.{with_word, to_free}
 
 zeros_are_words : (n : ℕ) → AllByRecursion IsWord (replicate n 0)
 zeros_are_words zero = tt
 zeros_are_words (suc n) = (omega arith, zeros_are_words n)
 
-start_hart_is : (entry : ℕ) → IsWord entry → IsHart (start_hart entry)
+start_hart_is : (entry : ℕ) → IsWord entry → HasWords (start_hart entry)
 start_hart_is entry fits = with_word (record { pc = entry; x = replicate 31 0; held = None }) 2 STACK_POINTER (record { pc = fits; count = refl; registers = zeros_are_words 31 }) (omega arith)
 
 entry_is : (file : List ℕ) → AreBytes file → IsWord (e_entry file)
 unfolding field
-entry_is file fits = little_word (drop 24 file) (AreBytes-drop 24 file fits)
+entry_is file fits = little_from-lt 0 4 (drop 24 file) (AreBytes-drop 24 file fits)
 
 -- ---- its pages
 

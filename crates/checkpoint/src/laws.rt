@@ -29,7 +29,10 @@ pub fn a_start_state_is_encodable()
 pub fn a_turn_keeps_a_state_encodable()
     ensures { (s : State) (tid : Tid) (log : List Answer) (after : After) → IsEncodable (without_reservation s tid) →
         turn s tid log ≡ Ok after → after.state.steps < 2 ^ 64 → IsEncodable (without_reservation after.state tid) }
-{}
+{
+    rv_step::laws::a_step_leaves_words();
+    rv_step::laws::a_trap_has_a_cause();
+}
 
 /// A run of slices from a state that has an encoding ends in one, if it has fewer than 2^64 steps.
 pub fn a_run_keeps_a_state_encodable()
@@ -37,6 +40,7 @@ pub fn a_run_keeps_a_state_encodable()
         run slices (at s [] log) ≡ Ok there → there.state.steps < 2 ^ 64 → IsEncodable there.state }
 {
     guest_kernel::laws::a_turn_is_one_step();
+    a_turn_keeps_a_state_encodable();
 }
 
 /// A chain of epochs from a state that has an encoding ends in one, if it has fewer than 2^64 steps.
@@ -45,4 +49,5 @@ pub fn a_chain_keeps_a_state_encodable()
         chain s epochs ≡ Ok (end, output) → end.steps < 2 ^ 64 → IsEncodable end }
 {
     guest_kernel::laws::a_turn_is_one_step();
+    a_turn_keeps_a_state_encodable();
 }

@@ -37,7 +37,7 @@ impl Mem for Pages {
 
     #[inline(always)]
     fn fetch(&mut self, address: u32) -> Access<u32> {
-        match self.word(1, address) {
+        match self.code_word(address) {
             Some(word) => Access::Done(word),
             None => Access::Denied,
         }

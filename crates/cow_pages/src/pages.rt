@@ -23,6 +23,8 @@ pub struct Pages {
     table: Vec<Frame>,
     // Where a page was last found, by its number. A hint is checked when it is used.
     hints: Vec<u16>,
+    // Where code was last fetched, which is a hint too.
+    code: u16,
 }
 
 impl Model for Pages {
@@ -68,6 +70,7 @@ impl Pages {
         Ok(Pages {
             table: Vec::new(alloc),
             hints,
+            code: 0,
         })
     }
 
@@ -152,7 +155,11 @@ impl Pages {
     {
         let table = table::shared(alloc, &self.table)?;
         let hints = vec![in alloc; 0; HINTS]?;
-        Ok(Pages { table, hints })
+        Ok(Pages {
+            table,
+            hints,
+            code: 0,
+        })
     }
 
     // The place of the page with this number.
@@ -239,6 +246,38 @@ impl Pages {
         let lowest = self.byte(flag, address)?;
         let highest = self.byte(flag, address + 1)?;
         Some(u32::from(lowest) + 256 * u32::from(highest))
+    }
+
+    // The place of the page with this number, which code is fetched from.
+    #[inline(always)]
+    #[tactic(auto, using(crate::proofs::Places::place_is))]
+    fn code_place(&mut self, number: u32) -> Option<usize>
+        ensures place { result ≡ place_of self.old number }
+        ensures same { self.new ≡ self.old }
+    {
+        let hint = self.code as usize;
+        if table::is_at(&self.table, number, hint) {
+            return Some(hint);
+        }
+        let place = self.place(number)?;
+        self.code = place as u16;
+        Some(place)
+    }
+
+    // The word of code at an address.
+    #[inline(always)]
+    #[tactic(auto, using(crate::proofs::InPages::word_some, crate::proofs::InPages::word_none))]
+    pub(crate) fn code_word(&mut self, address: u32) -> Option<u32>
+        ensures value { result ≡ option_map (little_number 4) (bytes_with 1 self.old address 4) }
+        ensures same { self.new ≡ self.old }
+    {
+        if address % 4096 > 4092 {
+            return self.word_across(1, address);
+        }
+        let Some(place) = self.code_place(address / 4096) else {
+            return None;
+        };
+        table::word_at(&self.table, place, 1, (address % 4096) as usize)
     }
 
     // The word at an address, where each byte's page has the flag.

@@ -114,3 +114,16 @@ fn images_accepted(rt: HostRuntime) -> Result<(), Fail> {
     assert_eq!(rt; came, (Status::Ok, 181, Status::Ok));
     Ok(())
 }
+
+// EBREAK first: one step, and a trap is an end like another.
+#[test]
+fn a_guest_that_traps(rt: HostRuntime) -> Result<(), Fail> {
+    let alloc = rt.alloc();
+    let code = replaced(alloc, &EXITS, 84, 12, b"\x73\0\x10\0")?;
+    let file = replaced(alloc, &code, 68, 5, b"\x58\0\0\0\x58")?;
+    let noted: &[u8] =
+        b"epochs 1 squashes 0 steps 1 sent 0 end trap 3 thread 1 value 00010054 state 802cf0037a09142bddca6a322692520e7b8b4eaa4abd6fc9d59abc8393efc7fa\n";
+    let came = recorded_as(&rt, &file, b"", noted)?;
+    assert_eq!(rt; came, (Status::Ok, 118, Status::Ok));
+    Ok(())
+}

@@ -2,6 +2,7 @@ mod Range
 mod StartPages
 mod Turns
 mod SliceRuns
+mod Stretches
 mod TurnTaken
 mod Lone
 mod Joining

@@ -10,13 +10,13 @@ use Rattle.guest_kernel.specs.declared.state.State.{State}
 use Rattle.guest_state.specs.declared.thread.Thread.{Thread}
 use Rattle.guest_state.specs.declared.thread.Thread.TheVariants.{Runs}
 use Rattle.guest_kernel.specs.Call.{After, Refusal, Written, not_runnable, a7, a0, a1, a2, bytes_written, moved, written, written_by, minus, ENOSYS}
-use Rattle.guest_kernel.specs.Instruction.{Effect, goes, calls, traps}
+use Rattle.rv_step.specs.Effect.{Effect, goes, calls, traps}
 use Rattle.guest_kernel.specs.Lone.{RunsAlone}
 use Rattle.dp_base.specs.Memory.{Memory, bytes_with}
 use Rattle.guest_state.specs.Register.{with_register, next}
 use Rattle.guest_kernel.specs.Start.{first_thread}
 use Rattle.guest_kernel.specs.State.{has_ended, dropping, unreserved, without_reservation}
-use Rattle.guest_kernel.specs.Step.{effect}
+use Rattle.rv_step.specs.Step.{effect}
 use Rattle.guest_kernel.specs.Threads.{thread_at}
 use Rattle.guest_kernel.specs.Turn.{turn, by_thread, by_effect}
 use Rattle.guest_kernel.proofs.Range.{bytes_with-length}
@@ -62,7 +62,7 @@ module _ (s : State) (log : List Answer) (alone : RunsAlone s) where
   }
 
   effect_goes_on : (e : Effect) → GoesOn log (by_effect s first_thread alone.hart alone.clear log e)
-  effect_goes_on (goes after) = record {
+  effect_goes_on (goes after memory) = record {
     after = _;
     is = refl;
     alone = record { hart = after; clear = alone.clear; threads = set after };

@@ -14,10 +14,10 @@ use Rattle.guest_state.specs.declared.thread.Thread.{Thread}
 use Rattle.guest_state.specs.declared.thread.Thread.TheVariants.{Runs, Waits, Gone}
 use Rattle.guest_kernel.specs.declared.state.State.{State}
 use Rattle.guest_kernel.specs.Call.{After, Refusal, a0, a1, a2, a7, called}
-use Rattle.guest_kernel.specs.Instruction.{Effect, goes, calls, traps}
+use Rattle.rv_step.specs.Effect.{Effect, goes, calls, traps}
 use Rattle.guest_kernel.specs.Slices.{at, joined, run, slice_ended, slices, turns}
 use Rattle.guest_kernel.specs.State.{dropping, has_ended}
-use Rattle.guest_kernel.specs.Step.{effect}
+use Rattle.rv_step.specs.Step.{effect}
 use Rattle.guest_kernel.specs.Threads.{thread_at}
 use Rattle.guest_kernel.specs.Turn.{by_effect, by_thread, turn}
 use Rattle.guest_kernel.proofs.Joining.{either_ok, whole_run}
@@ -40,7 +40,7 @@ called_is_little s tid hart clear log =
     (λ _. (omega arith, omega arith)))
 
 by_effect_is_little : (s : State) (tid : Tid) (hart : Hart) (clear : ℕ) (log : List Answer) (e : Effect) → IsLittle s (by_effect s tid hart clear log e)
-by_effect_is_little s tid hart clear log (goes after) = (omega arith, omega arith)
+by_effect_is_little s tid hart clear log (goes after memory) = (omega arith, omega arith)
 by_effect_is_little s tid hart clear log calls = called_is_little s tid hart clear log
 by_effect_is_little s tid hart clear log (traps cause value) = (omega arith, omega arith)
 

@@ -9,9 +9,9 @@ use Rattle.guest_state.specs.declared.thread.Thread.TheVariants.{Runs, Waits, Go
 use Rattle.guest_kernel.specs.declared.state.State.{State}
 use Rattle.std.specs.Prelude.{◌==◌}
 use Rattle.guest_kernel.specs.Call.{After, Refusal, not_runnable, called, a7}
-use Rattle.guest_kernel.specs.Instruction.{Effect, goes, calls, traps}
+use Rattle.rv_step.specs.Effect.{Effect, goes, calls, traps}
 use Rattle.guest_kernel.specs.State.{has_ended}
-use Rattle.guest_kernel.specs.Step.{effect}
+use Rattle.rv_step.specs.Step.{effect}
 use Rattle.guest_kernel.specs.Threads.{thread_at}
 use Rattle.guest_kernel.specs.Turn.{turn, by_thread, by_effect}
 
@@ -32,7 +32,7 @@ called-log s tid hart clear log other =
     by_row-log log (a7 hart == 1) _ _ _ _ refl (by_row-log log (a7 hart == 2) _ _ _ _ refl refl)
 
 by_effect-log : (s : State) (tid : Tid) (hart : Hart) (clear : ℕ) (log other : List Answer) (e : Effect) → by_effect s tid hart clear log e ≡ relogged log (by_effect s tid hart clear other e)
-by_effect-log s tid hart clear log other (goes after) = refl
+by_effect-log s tid hart clear log other (goes after memory) = refl
 by_effect-log s tid hart clear log other calls = called-log s tid hart clear log other
 by_effect-log s tid hart clear log other (traps cause value) = refl
 
@@ -59,7 +59,7 @@ called_counts s tid hart clear log =
     cond_both (a7 hart == 1) _ _ (CountsOnce s) (λ _. refl) (λ _. cond_both (a7 hart == 2) _ _ (CountsOnce s) (λ _. refl) (λ _. refl))
 
 by_effect_counts : (s : State) (tid : Tid) (hart : Hart) (clear : ℕ) (log : List Answer) (e : Effect) → CountsOnce s (by_effect s tid hart clear log e)
-by_effect_counts s tid hart clear log (goes after) = refl
+by_effect_counts s tid hart clear log (goes after memory) = refl
 by_effect_counts s tid hart clear log calls = called_counts s tid hart clear log
 by_effect_counts s tid hart clear log (traps cause value) = refl
 

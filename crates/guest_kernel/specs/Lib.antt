@@ -1,7 +1,5 @@
-pub mod Instruction
-pub mod Operands
-pub mod Step
 pub mod Threads
+pub mod Stretch
 pub mod State
 pub mod Call
 pub mod Turn

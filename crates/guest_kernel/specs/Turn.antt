@@ -12,13 +12,13 @@ use Rattle.guest_state.specs.declared.thread.Thread.TheVariants.{Runs, Waits, Go
 use Rattle.guest_kernel.specs.declared.state.State.{State}
 use Rattle.guest_state.specs.declared.end.End.TheVariants as ends
 use Rattle.guest_kernel.specs.Call.{After, Refusal, not_runnable, needs_answer, wrong_answer, silent, called}
-use Rattle.guest_kernel.specs.Instruction.{Effect, goes, calls, traps}
+use Rattle.rv_step.specs.Effect.{Effect, goes, calls, traps}
 use Rattle.guest_kernel.specs.State.{has_ended, with_thread}
-use Rattle.guest_kernel.specs.Step.{effect}
+use Rattle.rv_step.specs.Step.{effect}
 use Rattle.guest_kernel.specs.Threads.{thread_at}
 
 abbrev pub by_effect : State → Tid → Hart → ℕ → List Answer → Effect → Result After Refusal
-by_effect s tid hart clear log (goes after) = silent (with_thread s tid (Runs after clear)) log
+by_effect s tid hart clear log (goes after memory) = silent (record (with_thread s tid (Runs after clear)) { pages = memory }) log
 by_effect s tid hart clear log calls = called s tid hart clear log
 by_effect s tid hart clear log (traps cause value) = silent (record s { end = ends.Trap tid cause value }) log
 

@@ -7,12 +7,13 @@ ghost use Rattle.guest_kernel.specs.State.{counted};
 ghost use Rattle.guest_kernel.specs.Turn.{turn, log_of, turn_answer, state_after, output_after};
 
 use crate::state::State;
-use crate::step::{Stepped, exec};
+use crate::stretch::step;
 use cow_pages::Pages;
 use dp_base::field::write_bytes;
 use dp_base::limits::MAX_CALL_BYTES;
 use dp_base::{Answer, OutOfMemory, Tid};
 use guest_state::{End, Hart, Thread};
+use rv_step::Stepped;
 use std::alloc::Global;
 
 /// The outcome of a call for a turn. After the last three nothing has changed.
@@ -78,10 +79,11 @@ impl State {
             return Ok(Turn::NotRunnable);
         };
         let steps = self.steps + 1;
-        match exec(&mut hart, &mut self.pages) {
+        match step(&mut hart, &mut self.pages)? {
             Stepped::Went => self.threads.set(tid, Thread::Runs { hart, clear }),
             Stepped::Ecall => self.call(alloc, tid, hart, clear, out)?,
             Stepped::Trap { cause, value } => self.end = End::Trap { tid, cause, value },
+            Stepped::Busy => unreachable!(),
         }
         self.steps = steps;
         Ok(Turn::Stepped { used: false })

@@ -2,7 +2,8 @@
 //!
 //! Promises: `start` makes the start state of an image (`specs/Start.antt`), and each turn and each run of slices is the one
 //! of the definitions (`specs/Turn.antt`, `specs/Slices.antt`); `laws` says what follows from the definitions alone. Stands
-//! on `dp_base`, on `elf_image` for `load`, on `cow_pages` for `Pages`, and on `guest_state` for harts and threads.
+//! on `dp_base`, on `elf_image` for `load`, on `cow_pages` for `Pages`, on `rv_step` for the instructions, and on `guest_state`
+//! for harts and threads.
 //!
 //! ```text
 //! let mut state = start_from_file(alloc, file)?;
@@ -20,7 +21,7 @@ pub mod laws;
 mod slices;
 mod start_state;
 mod state;
-mod step;
+mod stretch;
 mod threads;
 
 pub use cow_pages::Pages;
@@ -30,7 +31,6 @@ pub use kernel::Turn;
 pub use slices::SliceRun;
 pub use start_state::{start, start_from_file};
 pub use state::State;
-pub use step::{Instr, Stepped, decode, exec};
 pub use threads::Threads;
 
 #[cfg(test)]

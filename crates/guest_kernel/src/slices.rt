@@ -1,12 +1,15 @@
 // Runs of slices, as a journal has them.
-ghost use Rattle.std.specs.Prelude.{◌≡◌, ◌+◌, ◌<◌, ◌≤◌, ◌^◌, IfOk, OnErr, length, drop};
+ghost use Rattle.std.specs.Prelude.{◌≡◌, ◌+◌, ◌<◌, ◌≤◌, ◌^◌, ℕ, List, IfOk, OnErr, Ok, length, drop};
+ghost use Rattle.dp_base.specs.declared.answer.Answer.{Answer};
 ghost use Rattle.dp_base.specs.Journal.{steps_of};
 ghost use Rattle.guest_kernel.specs.Slices.{at, turns, run};
 ghost use Rattle.guest_kernel.specs.Stops.{at_step, IsRunAnswer, IsAfterSome, IsAfterTurns};
 
 use crate::kernel::Turn;
 use crate::state::State;
-use dp_base::{Answer, OutOfMemory, Slice};
+use crate::stretch::go;
+use dp_base::{Answer, OutOfMemory, Slice, Tid};
+use guest_state::Thread;
 use std::alloc::Global;
 
 /// How far a run of slices came.
@@ -72,7 +75,12 @@ impl State {
         ensures err { OnErr result (IsAfterTurns slice.steps slice.tid
             (at self.old out.old.items (drop taken.old answers.now)) self.new out.new.items) }
     {
-        for step in 0..slice.steps {
+        let mut step = 0;
+        while step < slice.steps {
+            step += self.go_on(slice.tid, slice.steps - step);
+            if step == slice.steps {
+                break;
+            }
             let Turn::Stepped { used } = self.turn(alloc, slice.tid, answers.get(*taken), out)?
             else {
                 return Ok(Some(step));
@@ -80,7 +88,31 @@ impl State {
             if used {
                 *taken += 1;
             }
+            step += 1;
         }
         Ok(None)
+    }
+
+    // Takes turns of a thread while its hart goes on, at most so many. Returns how many were taken.
+    #[tactic(auto, using(crate::proofs::Stretches::thread_set_same), unfolding(crate::specs::Slices::turns))]
+    fn go_on(&mut self, tid: Tid, limit: u32) -> u32
+        requires { self.old.steps + limit < 2 ^ 64 }
+        ensures within { result ≤ limit }
+        ensures turns { (taken : ℕ) (out : List ℕ) (log : List Answer) →
+            turns taken result tid (at self.old out log) ≡ Ok (at self.new out log) }
+        ensures steps { self.new.steps ≡ self.old.steps + result }
+    {
+        if self.ended() {
+            return 0;
+        }
+        let Some(thread) = self.threads.get_mut(tid) else {
+            return 0;
+        };
+        let Thread::Runs { hart, .. } = thread else {
+            return 0;
+        };
+        let steps = go(hart, &mut self.pages, limit).steps;
+        self.steps += u64::from(steps);
+        steps
     }
 }

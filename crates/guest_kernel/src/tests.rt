@@ -93,11 +93,11 @@ fn guests_end(rt: HostRuntime) -> Result<(), Fail> {
             End::Exit(0xffff_ffff),
             0x10060,
         ),
-        // EBREAK isn't known here
+        // EBREAK
         (
             &[0x0010_0073, 0x0010_0893, 0x73],
             0,
-            trap(2, 0x0010_0073),
+            trap(3, 0x10054),
             0x10054,
         ),
         // no word at all: the zeros behind the headers
@@ -251,5 +251,58 @@ fn writes_hi(rt: HostRuntime) -> Result<(), Fail> {
         (SliceRun::Whole, End::Exit(0), 9)
     );
     assert_eq!(rt; out.as_slice(), b"hi\n".as_slice());
+    Ok(())
+}
+
+// The word at the first thread's stack pointer, by its lowest byte.
+fn on_the_stack(state: &State) -> Option<u8> {
+    state
+        .pages
+        .page_bytes(0x7ffff)
+        .and_then(|page| page.get(0xfe0).copied())
+}
+
+// addi x5, x2, 0; addi x7, x0, 5; lr.w x6, (x5); sc.w x6, x7, (x5). Where a slice ends between the last two, nothing is
+// stored.
+#[test]
+fn a_reservation_ends_with_its_slice(rt: HostRuntime) -> Result<(), Fail> {
+    let alloc = rt.alloc();
+    let words = [0x0001_0293, 0x0050_0393, 0x1002_a32f, 0x1872_a32f];
+    for (first, second, failed, stored) in [(3, 1, 1, 0), (2, 2, 0, 5), (4, 0, 0, 5)] {
+        let mut state = started(alloc, &words)?;
+        let mut out = Vec::new(alloc);
+        let slices = [slice(1, first), slice(1, second)];
+        let run = state.run_slices(alloc, &slices, &[], &mut out)?;
+        assert_eq!(rt; (run, state.steps), (SliceRun::Whole, 4));
+        let hart = hart_of(&state).ok_or("thread 1 runs")?;
+        assert_eq!(rt; (hart.register(6), hart.held), (failed, None));
+        assert_eq!(rt; on_the_stack(&state), Some(stored));
+    }
+    Ok(())
+}
+
+// addi x5, x0, 3; addi x6, x6, 1; bne x6, x5, -4; and exit_all(7): ten steps, however they are cut into slices.
+#[test]
+fn a_loop_cut_into_slices(rt: HostRuntime) -> Result<(), Fail> {
+    let alloc = rt.alloc();
+    let words = [
+        0x0030_0293,
+        0x0013_0313,
+        0xfe53_1ee3,
+        0x0070_0513,
+        0x0010_0893,
+        0x0000_0073,
+    ];
+    for first in 0..11 {
+        let mut state = started(alloc, &words)?;
+        let mut out = Vec::new(alloc);
+        let slices = [slice(1, first), slice(1, 10 - first)];
+        let run = state.run_slices(alloc, &slices, &[], &mut out)?;
+        assert_eq!(rt;
+            (run, state.steps, state.end),
+            (SliceRun::Whole, 10, End::Exit(7))
+        );
+        assert_eq!(rt; hart_of(&state).map(|hart| hart.pc), Some(0x1006c));
+    }
     Ok(())
 }

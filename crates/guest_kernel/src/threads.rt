@@ -1,7 +1,8 @@
 // The guest's threads, numbered from 1.
 ghost use Rattle.std.specs.Prelude.{◌≡◌, ◌≤◌, ◌<◌, ◌-◌, [], ◌∷◌, IfOk, length, slice_set};
-ghost use Rattle.std.specs.Option.{option_copied};
-ghost use Rattle.guest_kernel.specs.Threads.{thread_at};
+ghost use Rattle.std.specs.Borrow.{sem};
+ghost use Rattle.std.specs.Option.{option_copied, option_map};
+ghost use Rattle.guest_kernel.specs.Threads.{LendsThread, thread_at};
 
 use dp_base::limits::MAX_THREADS;
 use dp_base::{OutOfMemory, Tid};
@@ -69,6 +70,15 @@ impl Threads {
             return None;
         }
         self.items.get(tid.0 as usize - 1)
+    }
+
+    /// Returns the thread with this number, to be changed, or `None` if no such thread was made.
+    pub fn get_mut(&mut self, tid: Tid) -> Option<&mut Thread>
+        ensures* writes_back { sem 𝓛 (LendsThread self.entry tid result) }
+        ensures value { option_map (λ t. t.now) result ≡ thread_at self.old tid }
+    {
+        // Number 0 falls past the end.
+        self.items.get_mut((tid.0 as usize).wrapping_sub(1))
     }
 
     /// Puts a thread in the place of the one with this number. No other changes.

@@ -1,8 +1,8 @@
 // What an instruction does to its hart alone.
-ghost use Rattle.std.specs.Prelude.{◌≡◌, ◌⊎◌, ◌<◌};
+ghost use Rattle.std.specs.Prelude.{◌≡◌, ◌⊎◌, ◌<◌, ◌+◌, ◌*◌, ◌/◌};
 ghost use Rattle.dp_base.specs.Memory.{Memory};
-ghost use Rattle.rv_step.specs.Effect.{branches, jumps};
-ghost use Rattle.guest_state.specs.Register.{next, with_register};
+ghost use Rattle.rv_step.specs.Effect.{address, branches, jumps};
+ghost use Rattle.guest_state.specs.Register.{next, with_register, wrapped};
 ghost use Rattle.rv_step.specs.Step.{answer_for, hart_after};
 
 use crate::stepped::Stepped;
@@ -20,6 +20,39 @@ pub fn write(hart: &mut Hart, rd: u8, value: u32) -> Stepped
     hart.set_register(rd, value);
     hart.pc = hart.pc.wrapping_add(4);
     Stepped::Went
+}
+
+/// AUIPC: writes the sum of pc and an immediate to a register.
+#[inline(always)]
+pub fn add_to_pc(hart: &mut Hart, rd: u8, imm: u32) -> Stepped
+    requires { rd < 32 }
+    ensures answer { result ≡ Stepped.Went }
+    ensures hart { hart.new ≡ next (with_register hart.old rd (wrapped (hart.old.pc + imm))) }
+{
+    let value = hart.pc.wrapping_add(imm);
+    write(hart, rd, value)
+}
+
+/// The sum of a register and an immediate.
+#[inline(always)]
+pub fn address(hart: &Hart, rs1: u8, imm: u32) -> u32
+    requires { rs1 < 32 }
+    ensures { result ≡ address hart.now rs1 imm }
+{
+    hart.register(rs1).wrapping_add(imm)
+}
+
+/// JALR: jumps to the sum of a register and an immediate, with its lowest bit cleared. The register is read before `rd` is written.
+#[inline(always)]
+pub fn jump_register(hart: &mut Hart, rd: u8, rs1: u8, imm: u32) -> Stepped
+    requires destination { rd < 32 }
+    requires source { rs1 < 32 }
+    ensures answer { (m : Memory) → result ≡ answer_for (jumps rd (address hart.old rs1 imm / 2 * 2) hart.old m) }
+    ensures hart { (m : Memory) → hart.new ≡ hart_after (jumps rd (address hart.old rs1 imm / 2 * 2) hart.old m) hart.old }
+    ensures stays { (result ≡ Stepped.Went) ⊎ (hart.new ≡ hart.old) }
+{
+    let target = address(hart, rs1, imm) / 2 * 2;
+    jump(hart, rd, target)
 }
 
 /// Jumps, and writes the address behind the instruction to a register.

@@ -1,15 +1,14 @@
 // What each instruction does (RISC-V Unprivileged ISA 20191213, chapters 2 and 8), a row for each.
 ghost use Rattle.std.specs.Prelude.{◌≡◌, ◌⊎◌, ◌<◌, IfOk, IfSome, OnErr, OnOk, Ok, Some};
-ghost use Rattle.rv_step.specs.Effect.{address};
 ghost use Rattle.rv_step.specs.Execution.{executed};
 ghost use Rattle.rv_step.specs.Operands.{AreOperands};
 ghost use Rattle.rv_step.specs.Step.{answer_for, hart_after, memory_after};
 
 use crate::atomic::{change_word, load_reserved, store_conditional};
-use crate::control::{branch, jump, write};
+use crate::control::{add_to_pc, address, branch, jump, jump_register, write};
 use crate::instr::Instr;
 use crate::integer::{
-    is_below_signed, one_if, shifted_left, shifted_right, shifted_right_arithmetic,
+    is_below_signed, one_if, shift_amount, shifted_left, shifted_right, shifted_right_arithmetic,
 };
 use crate::load_store::{Extension, load, store};
 use crate::stepped::Stepped;
@@ -17,15 +16,6 @@ use dp_base::{AmoOp, Mem, OutOfMemory, Width};
 use guest_state::Hart;
 
 const BREAKPOINT: u8 = 3;
-
-// A register and an immediate.
-#[inline(always)]
-fn address(hart: &Hart, rs1: u8, imm: u32) -> u32
-    requires { rs1 < 32 }
-    ensures { result ≡ address hart.now rs1 imm }
-{
-    hart.register(rs1).wrapping_add(imm)
-}
 
 /// Does an instruction. After all but `Went` nothing has changed.
 #[inline(always)]
@@ -44,18 +34,12 @@ pub fn execute<M: Mem>(
 {
     match instr {
         Instr::Lui { rd, imm } => Ok(write(hart, rd, imm)),
-        Instr::Auipc { rd, imm } => {
-            let value = hart.pc.wrapping_add(imm);
-            Ok(write(hart, rd, value))
-        }
+        Instr::Auipc { rd, imm } => Ok(add_to_pc(hart, rd, imm)),
         Instr::Jal { rd, imm } => {
             let target = hart.pc.wrapping_add(imm);
             Ok(jump(hart, rd, target))
         }
-        Instr::Jalr { rd, rs1, imm } => {
-            let target = address(hart, rs1, imm) / 2 * 2;
-            Ok(jump(hart, rd, target))
-        }
+        Instr::Jalr { rd, rs1, imm } => Ok(jump_register(hart, rd, rs1, imm)),
         Instr::Beq { rs1, rs2, imm } => {
             let (a, b) = (hart.register(rs1), hart.register(rs2));
             Ok(branch(hart, a == b, imm))
@@ -158,7 +142,7 @@ pub fn execute<M: Mem>(
         }
         Instr::Sll { rd, rs1, rs2 } => {
             let (a, b) = (hart.register(rs1), hart.register(rs2));
-            Ok(write(hart, rd, shifted_left(a, b % 32)))
+            Ok(write(hart, rd, shifted_left(a, shift_amount(b))))
         }
         Instr::Slt { rd, rs1, rs2 } => {
             let (a, b) = (hart.register(rs1), hart.register(rs2));
@@ -174,11 +158,11 @@ pub fn execute<M: Mem>(
         }
         Instr::Srl { rd, rs1, rs2 } => {
             let (a, b) = (hart.register(rs1), hart.register(rs2));
-            Ok(write(hart, rd, shifted_right(a, b % 32)))
+            Ok(write(hart, rd, shifted_right(a, shift_amount(b))))
         }
         Instr::Sra { rd, rs1, rs2 } => {
             let (a, b) = (hart.register(rs1), hart.register(rs2));
-            Ok(write(hart, rd, shifted_right_arithmetic(a, b % 32)))
+            Ok(write(hart, rd, shifted_right_arithmetic(a, shift_amount(b))))
         }
         Instr::Or { rd, rs1, rs2 } => {
             let (a, b) = (hart.register(rs1), hart.register(rs2));

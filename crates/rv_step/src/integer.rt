@@ -1,7 +1,7 @@
 // What the integer instructions compute (RISC-V Unprivileged ISA 20191213, 2.4).
 ghost use Rattle.std.specs.Prelude.{◌≡◌, ◌<◌};
 ghost use Rattle.dp_base.specs.Memory.{is_below_signed};
-ghost use Rattle.rv_step.specs.Effect.{one_if, shifted_left, shifted_right, shifted_right_arithmetic};
+ghost use Rattle.rv_step.specs.Effect.{one_if, shift_of, shifted_left, shifted_right, shifted_right_arithmetic};
 
 #[inline(always)]
 pub fn is_below_signed(a: u32, b: u32) -> bool
@@ -15,6 +15,15 @@ pub fn one_if(holds: bool) -> u32
     ensures { result ≡ one_if holds }
 {
     if holds { 1 } else { 0 }
+}
+
+/// How far a shift by a register goes.
+#[inline(always)]
+pub fn shift_amount(value: u32) -> u32
+    ensures amount { result ≡ shift_of value }
+    ensures small { result < 32 }
+{
+    value % 32
 }
 
 #[inline(always)]

@@ -19,7 +19,7 @@ pub struct SmallMemory {
 
 impl SmallMemory {
     /// Makes a memory of zeros where each access may be.
-    pub fn new() -> Self {
+    pub(crate) fn new() -> Self {
         SmallMemory {
             bytes: [0; 64],
             fetches: Access::Done(()),
@@ -42,7 +42,7 @@ impl SmallMemory {
     }
 
     /// Returns the four bytes at an address.
-    pub fn word(&self, address: u32) -> u32 {
+    pub(crate) fn word(&self, address: u32) -> u32 {
         u32::from_le_bytes([
             self.byte(address),
             self.byte(address.wrapping_add(1)),
@@ -52,7 +52,7 @@ impl SmallMemory {
     }
 
     /// Writes so many of a value's four bytes at an address.
-    pub fn put(&mut self, address: u32, count: u32, value: u32) {
+    pub(crate) fn put(&mut self, address: u32, count: u32, value: u32) {
         let [a, b, c, d] = value.to_le_bytes();
         for (place, byte) in [(0, a), (1, b), (2, c), (3, d)] {
             if place < count {

@@ -2,4 +2,4 @@ use Rattle.checkpoint.proofs.Running.{chain_keeps_at}
 use Rattle.checkpoint.proofs.laws.a_chain_keeps_a_state_encodable.Goals as goal
 
 pub returns : goal.returns
-returns c = chain_keeps_at c.a_turn_is_one_step.ensures.counts
+returns c = chain_keeps_at c.a_turn_is_one_step.ensures.counts c.a_turn_keeps_a_state_encodable.ensures
