@@ -1,3 +1,4 @@
+pub mod Growing
 pub mod InPages
 pub mod PageTable
 pub mod Places

@@ -15,7 +15,7 @@ use Rattle.dp_base.specs.Memory.{ArePages, IsPage, Memory, page_at}
 use Rattle.dp_base.specs.declared.limits.TheConstants.{MAX_PAGES}
 use Rattle.dp_base.specs.declared.page.Page.{Page}
 
-abbrev numbers : Memory → List ℕ
+abbrev pub numbers : Memory → List ℕ
 numbers memory = map (λ (p : Page). p.number) memory
 
 -- ---- behind all others
@@ -46,7 +46,7 @@ ArePages-push memory p table page below few = record {
 
 -- ---- at its place
 
-rising_tail : (n : ℕ) (ns : List ℕ) → IsStrictlyIncreasing (n ∷ ns) → IsStrictlyIncreasing ns
+pub rising_tail : (n : ℕ) (ns : List ℕ) → IsStrictlyIncreasing (n ∷ ns) → IsStrictlyIncreasing ns
 rising_tail n ns rising k lt =
     let next : suc k + 1 ≡ suc (k + 1) = omega arith in
     omega (arith, rising (suc k) (omega arith), ap (λ m. slice_index (n ∷ ns) m) next)
@@ -64,11 +64,11 @@ first_with m p [] low first = low
 first_with m p (q ∷ qs) low first =
     elim (nat_lt p.number q.number) as (λ b. m < slice_index (numbers (if b then p ∷ q ∷ qs else q ∷ with_page p qs)) 0) [ true ↦ low | false ↦ first (omega arith) ]
 
-not_found : (number : ℕ) (q : Page) (qs : Memory) (b : Bool) → cond b (Some q) (page_at qs number) ≡ None → (b ≡ false) × (page_at qs number ≡ None)
+pub not_found : (number : ℕ) (q : Page) (qs : Memory) (b : Bool) → cond b (Some q) (page_at qs number) ≡ None → (b ≡ false) × (page_at qs number ≡ None)
 not_found number q qs true e = absurd cc
 not_found number q qs false e = (refl, e)
 
-rising_with : (p : Page) (memory : Memory) → IsStrictlyIncreasing (numbers memory) → page_at memory p.number ≡ None → IsStrictlyIncreasing (numbers (with_page p memory))
+pub rising_with : (p : Page) (memory : Memory) → IsStrictlyIncreasing (numbers memory) → page_at memory p.number ≡ None → IsStrictlyIncreasing (numbers (with_page p memory))
 unfolding with_page
 rising_with p [] rising new = rising_cons p.number [] rising (λ lt. absurd (omega arith))
 rising_with p (q ∷ qs) rising new =
@@ -81,16 +81,16 @@ rising_with p (q ∷ qs) rising new =
         let below : q.number < p.number = elim (cases_lt q.number p.number) [ inl less ↦ less | inr more ↦ absurd (differ (omega (arith, ltb-false _ _ lt, more))) ] in
         rising_cons q.number (numbers (with_page p qs)) others (λ some. first_with q.number p qs below (λ more. rising 0 (omega arith)))
 
-each_with : (p : Page) (memory : Memory) → IsPage p → All IsPage memory → All IsPage (with_page p memory)
+pub each_with : (P : Page → Type 0) (p : Page) (memory : Memory) → P p → All P memory → All P (with_page p memory)
 unfolding with_page
-each_with p [] page each = All-cons IsPage p [] page each
-each_with p (q ∷ qs) page each =
-    elim (nat_lt p.number q.number) as (λ b. All IsPage (if b then p ∷ q ∷ qs else q ∷ with_page p qs)) [
-      | true ↦ All-cons IsPage p (q ∷ qs) page each
-      | false ↦ All-cons IsPage q (with_page p qs) (All-head IsPage q qs each) (each_with p qs page (All-tail IsPage q qs each))
+each_with P p [] page each = All-cons P p [] page each
+each_with P p (q ∷ qs) page each =
+    elim (nat_lt p.number q.number) as (λ b. All P (if b then p ∷ q ∷ qs else q ∷ with_page p qs)) [
+      | true ↦ All-cons P p (q ∷ qs) page each
+      | false ↦ All-cons P q (with_page p qs) (All-head P q qs each) (each_with P p qs page (All-tail P q qs each))
     ]
 
-length-with : (p : Page) (memory : Memory) → length (with_page p memory) ≡ suc (length memory)
+pub length-with : (p : Page) (memory : Memory) → length (with_page p memory) ≡ suc (length memory)
 unfolding with_page
 length-with p [] = refl
 length-with p (q ∷ qs) =
@@ -98,7 +98,7 @@ length-with p (q ∷ qs) =
 
 pub ArePages-with : (memory : Memory) (p : Page) → ArePages memory → IsPage p → page_at memory p.number ≡ None → length memory < MAX_PAGES → ArePages (with_page p memory)
 ArePages-with memory p table page new few = record {
-  each = each_with p memory page table.each;
+  each = each_with IsPage p memory page table.each;
   rising = rising_with p memory table.rising new;
   few = omega (arith, length-with p memory);
 }
@@ -138,17 +138,20 @@ with_page_none p memory e =
 
 -- ---- without one
 
-numbers_without : (n : ℕ) (memory : Memory) → numbers (without_page n memory) ≡ filter (λ m. not (m == n)) (numbers memory)
-numbers_without n [] = refl
-numbers_without n (p ∷ ps) =
-    elim (p.number == n) as (λ b. numbers (cond (not b) (p ∷ without_page n ps) (without_page n ps)) ≡ cond (not b) (p.number ∷ filter (λ m. not (m == n)) (numbers ps)) (filter (λ m. not (m == n)) (numbers ps))) [
-      | true ↦ numbers_without n ps
-      | false ↦ ap (λ (ns : List ℕ). p.number ∷ ns) (numbers_without n ps)
+pub numbers_filter : (keeps : ℕ → Bool) (memory : Memory) → numbers (filter (λ (p : Page). keeps p.number) memory) ≡ filter keeps (numbers memory)
+numbers_filter keeps [] = refl
+numbers_filter keeps (p ∷ ps) =
+    elim (keeps p.number) as (λ b. numbers (cond b (p ∷ filter (λ (p : Page). keeps p.number) ps) (filter (λ (p : Page). keeps p.number) ps)) ≡ cond b (p.number ∷ filter keeps (numbers ps)) (filter keeps (numbers ps))) [
+      | true ↦ ap (λ (ns : List ℕ). p.number ∷ ns) (numbers_filter keeps ps)
+      | false ↦ numbers_filter keeps ps
     ]
+
+pub rising_filter : (keeps : ℕ → Bool) (memory : Memory) → IsStrictlyIncreasing (numbers memory) → IsStrictlyIncreasing (numbers (filter (λ (p : Page). keeps p.number) memory))
+rising_filter keeps memory rising = subst IsStrictlyIncreasing (sym (numbers_filter keeps memory)) (IsStrictlyIncreasing-filter keeps (numbers memory) rising)
 
 pub ArePages-without : (memory : Memory) (n : ℕ) → ArePages memory → ArePages (without_page n memory)
 ArePages-without memory n table = record {
   each = All-filter (λ (p : Page). not (p.number == n)) IsPage memory table.each;
-  rising = subst IsStrictlyIncreasing (sym (numbers_without n memory)) (IsStrictlyIncreasing-filter (λ m. not (m == n)) (numbers memory) table.rising);
+  rising = rising_filter (λ m. not (m == n)) memory table.rising;
   few = omega (arith, table.few, length-filter (λ (p : Page). not (p.number == n)) memory, count_by-le-length (λ (p : Page). not (p.number == n)) memory);
 }

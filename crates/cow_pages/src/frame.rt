@@ -1,10 +1,11 @@
 // A page of a table. Its value is its number, flags and bytes.
-ghost use Rattle.std.specs.Prelude.{◌≡◌, ◌+◌, ◌<◌, ◌≤◌, slice_index};
+ghost use Rattle.std.specs.Prelude.{◌≡◌, ◌+◌, ◌-◌, ◌<◌, ◌≤◌, ◌++◌, length, replicate, slice_index};
 ghost use Rattle.std.specs.Option.{option_copied};
 ghost use Rattle.byteorder.specs.Endian.{little_bytes, little_number};
 ghost use Rattle.dp_base.specs.Memory.{has_flag, with_byte};
 ghost use Rattle.cow_pages.specs.InPage.{bytes_from, bytes_in, page_of, with_bytes, written};
 
+use dp_base::limits::PAGE_BYTES;
 use std::marker::Model;
 
 #[derive(Drop)]
@@ -20,6 +21,17 @@ impl Model for Frame {
     ghost Value = { Page };
 
     ghost view = { λ f. record { number = f.number; flags = f.flags; bytes = f.bytes } };
+}
+
+// Bytes with zeros behind them, up to a page.
+pub fn padded(contents: &[u8]) -> [u8; 4096]
+    requires { length contents.now ≤ PAGE_BYTES }
+    ensures bytes { result ≡ contents.now ++ replicate (PAGE_BYTES - length contents.now) 0 }
+    ensures size { length result ≡ PAGE_BYTES }
+{
+    let mut bytes = [0; 4096];
+    bytes[..contents.len()].copy_from_slice(contents);
+    bytes
 }
 
 impl Frame {

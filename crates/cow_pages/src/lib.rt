@@ -1,7 +1,8 @@
 //! The memory of a guest: a table of pages, seen as the list of its pages in rising order of number.
 //!
 //! Promises: each access of a hart (`Mem`) is exact; a range is read exactly where each of its bytes may be; mapping and
-//! unmapping keep the order and change no other page; a shared table is an equal one. Stands on `dp_base` for `Mem` and the definitions of memory (`specs/Memory.antt`), and
+//! unmapping keep the order and change no other page; a heap whose end moves keeps the pages that it has; a shared table
+//! is an equal one. Stands on `dp_base` for `Mem` and the definitions of memory (`specs/Memory.antt`), and
 //! on `byteorder` for numbers in bytes.
 //!
 //! No contract says how an access finds its pages: by hints that are checked, with one look-up for a word inside a page,
@@ -16,7 +17,9 @@
 //! ```
 #![tactic(auto)]
 
+mod code;
 mod frame;
+mod heap;
 pub mod laws;
 mod memory;
 mod pages;
@@ -27,3 +30,7 @@ pub use pages::Pages;
 
 #[cfg(test)]
 mod tests;
+#[cfg(test)]
+mod worked_code;
+#[cfg(test)]
+mod worked_heap;

@@ -7,7 +7,7 @@ ghost use Rattle.dp_base.specs.View.{page_of};
 ghost use Rattle.cow_pages.specs.InPage.{place_of};
 ghost use Rattle.cow_pages.specs.Mapping.{page_with, with_page, without_page};
 
-use crate::frame::Frame;
+use crate::frame::{Frame, padded};
 use crate::table;
 use dp_base::limits::{MAX_PAGES, PAGE_BYTES, PAGE_NUMBERS};
 use dp_base::{OutOfMemory, PageView, Width};
@@ -39,17 +39,6 @@ impl Model for Pages {
     ghost view = { λ p. p.table.items };
 
     ghost invariant = { λ p. ArePages p.table.items × (length p.hints.items ≡ HINTS) };
-}
-
-// Bytes with zeros behind them, up to a page.
-fn padded(contents: &[u8]) -> [u8; 4096]
-    requires { length contents.now ≤ PAGE_BYTES }
-    ensures bytes { result ≡ contents.now ++ replicate (PAGE_BYTES - length contents.now) 0 }
-    ensures size { length result ≡ PAGE_BYTES }
-{
-    let mut bytes = [0; 4096];
-    bytes[..contents.len()].copy_from_slice(contents);
-    bytes
 }
 
 // The place of a number's hint. The high bits are mixed in, so that a heap and a stack have hints of their own.
@@ -153,13 +142,28 @@ impl Pages {
     pub fn share(&self, alloc: Global) -> Result<Self, OutOfMemory>
         ensures { IfOk result (λ pages. pages ≡ self.now) }
     {
-        let table = table::shared(alloc, &self.table)?;
+        Pages::of_table(alloc, table::shared(alloc, &self.table)?)
+    }
+
+    // The pages of a table.
+    pub(crate) fn of_table(alloc: Global, table: Vec<Frame>) -> Result<Self, OutOfMemory>
+        requires { ArePages table.items }
+        ensures { IfOk result (λ pages. pages ≡ table.items) }
+    {
         let hints = vec![in alloc; 0; HINTS]?;
         Ok(Pages {
             table,
             hints,
             code: 0,
         })
+    }
+
+    // Their table.
+    pub(crate) fn table(&self) -> &[Frame]
+        ensures frames { result.now ≡ self.now }
+        ensures kept { ArePages self.now }
+    {
+        &self.table
     }
 
     // The place of the page with this number.
@@ -189,7 +193,7 @@ impl Pages {
 
     // The same, which leaves the hints as they are.
     #[tactic(auto, using(crate::proofs::Places::place_is))]
-    fn place_now(&self, number: u32) -> Option<usize>
+    pub(crate) fn place_now(&self, number: u32) -> Option<usize>
         ensures { result ≡ place_of self.now number }
     {
         let hint = self.hints[hint_place(number)] as usize;

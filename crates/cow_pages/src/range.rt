@@ -42,15 +42,30 @@ impl Pages {
         Ok(Some(bytes))
     }
 
+    /// Returns whether each byte of a range may be read. A range doesn't wrap: no byte lies past the last address.
+    pub fn may_read_range(&self, address: u32, count: u32) -> bool
+        ensures { result ≡ is_some (bytes_with 4 self.now address count) }
+    {
+        self.may_use_range(4, address, count)
+    }
+
     /// Returns whether each byte of a range may be written. A range doesn't wrap: no byte lies past the last address.
     pub fn may_write_range(&self, address: u32, count: u32) -> bool
         ensures { result ≡ is_some (bytes_with 2 self.now address count) }
+    {
+        self.may_use_range(2, address, count)
+    }
+
+    // Whether each byte of a range lies on a page that has the flag.
+    fn may_use_range(&self, flag: u8, address: u32, count: u32) -> bool
+        requires { 0 < flag }
+        ensures { result ≡ is_some (bytes_with flag self.now address count) }
     {
         let mut address = u64::from(address);
         let end = address + u64::from(count);
         'parts: while address < end {
             let len = part_len(address, end);
-            if self.part(2, address, len as usize).is_none() {
+            if self.part(flag, address, len as usize).is_none() {
                 return false;
             }
             address += len;

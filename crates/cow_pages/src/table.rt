@@ -1,8 +1,8 @@
 // Pages by their place in the table.
-ghost use Rattle.std.specs.Prelude.{◌≡◌, ◌<◌, ◌≤◌, IfOk, OnErr, OnOk, slice_get};
+ghost use Rattle.std.specs.Prelude.{◌≡◌, ◌<◌, ◌≤◌, IfOk, OnErr, OnOk, is_some, slice_get};
 ghost use Rattle.std.specs.Option.{option_copied};
 ghost use Rattle.byteorder.specs.Endian.{little_bytes};
-ghost use Rattle.dp_base.specs.Memory.{with_byte};
+ghost use Rattle.dp_base.specs.Memory.{page_at, with_byte};
 ghost use Rattle.cow_pages.specs.Mapping.{with_page};
 ghost use Rattle.cow_pages.specs.InPage.{changed_at, found_byte, found_word, has_number, is_writable, place_above, place_of, written};
 
@@ -31,6 +31,22 @@ pub fn place_above(table: &[Frame], number: u32) -> Option<usize>
     ensures { result ≡ place_above table.now number }
 {
     table.iter().position(|page| number < page.number())
+}
+
+fn numbered(table: &[Frame], number: u32) -> Option<&Frame>
+    ensures { option_copied result ≡ page_at table.now number }
+{
+    table.iter().find(|page| page.number() == number)
+}
+
+// Whether a page has this number.
+pub fn has_page(table: &[Frame], number: u32) -> bool
+    ensures { result ≡ is_some (page_at table.now number) }
+{
+    match numbered(table, number) {
+        Some(_) => true,
+        None => false,
+    }
 }
 
 // Puts a page at its place in the order. An `Err` changes nothing.

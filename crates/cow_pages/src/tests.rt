@@ -5,7 +5,7 @@ use std::alloc::Global;
 use std::test::Fail;
 
 // Maps a page of zeros, where that can be.
-fn map(pages: &mut Pages, number: u32, flags: u8) -> Result<(), OutOfMemory> {
+pub(crate) fn map(pages: &mut Pages, number: u32, flags: u8) -> Result<(), OutOfMemory> {
     if pages.flags(number).is_none()
         && number < PAGE_NUMBERS
         && flags < 8
@@ -17,7 +17,7 @@ fn map(pages: &mut Pages, number: u32, flags: u8) -> Result<(), OutOfMemory> {
 }
 
 // Two pages with these flags, at 00010000 and 00011000.
-fn two_pages(alloc: Global, low: u8, high: u8) -> Result<Pages, OutOfMemory> {
+pub(crate) fn two_pages(alloc: Global, low: u8, high: u8) -> Result<Pages, OutOfMemory> {
     let mut pages = Pages::new(alloc)?;
     map(&mut pages, 0x11, high)?;
     map(&mut pages, 0x10, low)?;

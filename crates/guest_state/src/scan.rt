@@ -108,6 +108,17 @@ pub fn alive_count(thread: &Thread) -> usize
     }
 }
 
+/// Returns how many of the threads are alive.
+pub fn live_count(threads: &[Thread]) -> usize
+    ensures { result ≡ live threads.now }
+{
+    let mut alive = 0;
+    for thread in threads {
+        alive += alive_count(thread);
+    }
+    alive
+}
+
 // Whether the numbers of so many pages rise, and the bytes behind them.
 fn skip_pages(count: u16, bytes: &[u8]) -> Option<(bool, &[u8])>
     ensures { option_map (λ x. testing count x.0 x.1.now) result

@@ -2,7 +2,8 @@
 //! memories; a call of it costs nothing and hands the law to the caller's proof.
 
 ghost use Rattle.std.specs.Prelude.{◌≡◌, ◌⊎◌, ◌<◌, ◌^◌, ◌%◌, ℕ, false, Some};
-ghost use Rattle.dp_base.specs.Memory.{Memory};
+ghost use Rattle.dp_base.specs.declared.access.Width.{Width};
+ghost use Rattle.dp_base.specs.Memory.{Memory, stored};
 ghost use Rattle.guest_state.specs.declared.hart.Hart.{Hart};
 ghost use Rattle.guest_state.specs.Register.{register};
 ghost use Rattle.rv_step.specs.declared.instr.Instr.{Instr};
@@ -47,6 +48,12 @@ pub fn a_step_leaves_words()
     ensures hart { (h after : Hart) (m left : Memory) → HasWords h → HasBytes m → effect h m ≡ goes after left → HasWords after }
     ensures bytes { (h after : Hart) (m left : Memory) → HasWords h → HasBytes m → effect h m ≡ goes after left → HasBytes left }
     ensures shape { (h after : Hart) (m left : Memory) → effect h m ≡ goes after left → HasSameShape m left }
+{}
+
+/// A store leaves memory of bytes such, and changes nothing else of a page.
+pub fn a_store_leaves_bytes()
+    ensures bytes { (width : Width) (address value : ℕ) (m : Memory) → HasBytes m → HasBytes (stored width address value m) }
+    ensures shape { (width : Width) (address value : ℕ) (m : Memory) → HasSameShape m (stored width address value m) }
 {}
 
 /// A trap's cause is 0 to 7, and its value a word.

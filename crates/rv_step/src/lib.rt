@@ -28,8 +28,10 @@ mod load_store;
 mod step;
 mod stepped;
 
+pub use control::address;
 pub use decoding::decode;
 pub use instr::Instr;
+pub use integer::is_below_signed;
 pub use step::exec;
 pub use stepped::Stepped;
 
