@@ -1,28 +1,26 @@
--- A state that has an encoding, with one thread changed, with another end, with other bytes on its pages, and one step later.
-use Rattle.std.proofs.Common.{◌≡◌, ℕ, zero, suc, ◌+◌, ◌^◌, ◌<◌, Bool, true, cond, List, [], ◌∷◌, length, map, nat_le, slice_get, Some, refl, sym, ap, subst, ◌∙◌, arith}
+-- A state that has an encoding, with one thread changed, and one that is made of parts that fit.
+use Rattle.std.proofs.Common.{◌≡◌, ℕ, zero, suc, ◌+◌, ◌^◌, ◌<◌, ◌≤◌, Bool, true, cond, List, [], ◌∷◌, length, map, nat_le, slice_get, Some, refl, sym, ap, subst, ◌∙◌, arith}
 use Rattle.std.specs.Prelude.{slice_set, ◌&&◌}
 use Rattle.std.specs.List.{AllByRecursion}
-use Rattle.std.proofs.lemmas.Bool.{and_from, lt-ltb, le-leb}
+use Rattle.std.proofs.lemmas.Bool.{and_from, and_parts, leb-true, lt-ltb, le-leb}
 use Rattle.std.proofs.lemmas.List.{length-map, length-set}
 use Rattle.std.proofs.lemmas.List.Elements.{All-cons, All-head, All-nil, All-tail}
 use Rattle.std.proofs.lemmas.List.Sums.{sum_by-cons}
 use Rattle.std.proofs.lemmas.Option.{same_Some}
-use Rattle.dp_base.specs.declared.limits.TheConstants.{PAGE_NUMBERS}
+use Rattle.dp_base.specs.declared.limits.TheConstants.{MAX_LIVE_THREADS, MAX_PAGES, MAX_THREADS, PAGE_NUMBERS}
 use Rattle.dp_base.specs.declared.page.Page.{Page}
 use Rattle.dp_base.specs.Field.{AreBytes}
 use Rattle.dp_base.specs.Memory.{Memory}
-use Rattle.guest_state.specs.declared.end.End.{End}
 use Rattle.guest_state.specs.declared.thread.Thread.{Thread}
-use Rattle.guest_state.specs.Checkpoint.{Checkpoint, IsEnd, IsPageContent, IsThread, is_alive, is_bounded, live, rising_from, traps_within}
+use Rattle.guest_state.specs.Checkpoint.{Checkpoint, HEAP_END, IsEnd, IsPageContent, IsThread, IsWord, is_alive, is_bounded, is_heap, live, rising, rising_from, traps_within}
 use Rattle.guest_state.proofs.Codes.{Bounds, bounds_of}
 use Rattle.guest_kernel.specs.declared.state.State.{State}
-use Rattle.guest_kernel.specs.State.{counted}
 use Rattle.rv_step.specs.Words.{HasBytes, HasSameShape, shape_of}
 use Rattle.checkpoint.specs.State.{IsEncodable, checkpoint_of}
 
 -- ---- lists with one item changed
 
-all_set : {X : Type 0} (P : X → Type 0) (xs : List X) (i : ℕ) (y : X) → AllByRecursion P xs → P y → AllByRecursion P (slice_set xs i y)
+pub all_set : {X : Type 0} (P : X → Type 0) (xs : List X) (i : ℕ) (y : X) → AllByRecursion P xs → P y → AllByRecursion P (slice_set xs i y)
 all_set P [] i y all here = tt
 all_set P (x ∷ xs) zero y all here = (here, all.1)
 all_set P (x ∷ xs) (suc i) y all here = (all.0, all_set P xs i y all.1 here)
@@ -54,7 +52,7 @@ live_cons : (t : Thread) (xs : List Thread) → live (t ∷ xs) ≡ one_if (is_a
 unfolding one_if
 live_cons t xs = sum_by-cons (λ x. cond (is_alive x) 1 0) t xs
 
-live_set : (xs : List Thread) (i : ℕ) (x y : Thread) → slice_get xs i ≡ Some x → is_alive y ≡ is_alive x → live (slice_set xs i y) ≡ live xs
+pub live_set : (xs : List Thread) (i : ℕ) (x y : Thread) → slice_get xs i ≡ Some x → is_alive y ≡ is_alive x → live (slice_set xs i y) ≡ live xs
 live_set [] i x y is same = absurd cc
 live_set (z ∷ xs) zero x y is same =
     let there : z ≡ x = same_Some _ _ is in
@@ -97,24 +95,56 @@ put s i old new is there fits same =
       });
     }
 
--- one step later
-pub one_later : (s : State) → IsEncodable s → s.steps + 1 < 2 ^ 64 → IsEncodable (counted s)
-one_later s is few = record { steps = few; input = is.input; heap = is.heap; brk = is.brk; end = is.end; threads = is.threads; pages = is.pages; bounded = is.bounded }
+-- ---- a state whose threads, pages, break and end are others
 
--- with another end
-pub put_end : (s : State) (e : End) → IsEncodable s → IsEnd e → traps_within (length s.threads) e ≡ true → IsEncodable (record s { end = e })
-put_end s e is fits within =
-    let b = bounds_of (checkpoint_of s) is.bounded in
-    record {
-      steps = is.steps;
-      input = is.input;
-      heap = is.heap;
-      brk = is.brk;
-      end = fits;
-      threads = is.threads;
-      pages = is.pages;
-      bounded = bounded (checkpoint_of (record s { end = e })) (record { heap = b.heap; some_thread = b.some_thread; few_threads = b.few_threads; few_alive = b.few_alive; traps = within; few_pages = b.few_pages; rise = b.rise });
-    }
+-- what of a state's threads, beside their number, has to hold
+pub record ThreadsFit (threads : List Thread) : Type 0 where
+  pub each : AllByRecursion IsThread threads
+  pub some : 0 < length threads
+  pub few : length threads ≤ MAX_THREADS
+  pub alive : live threads ≤ MAX_LIVE_THREADS
+
+-- and of its pages
+pub record PagesFit (memory : Memory) : Type 0 where
+  pub each : AllByRecursion IsPageContent memory
+  pub few : length memory ≤ MAX_PAGES
+  pub rise : rising memory ≡ true
+
+pub pages_fit : (s : State) → IsEncodable s → PagesFit s.pages
+pages_fit s is = let b = bounds_of (checkpoint_of s) is.bounded in record { each = is.pages; few = b.few_pages; rise = b.rise }
+
+-- what else
+pub record RestFits (s : State) (heap : ℕ) : Type 0 where
+  pub steps : s.steps < 2 ^ 64
+  pub input : s.input < 2 ^ 64
+  pub start : s.heap ≡ heap
+  pub word : IsWord heap
+  pub brk : is_heap heap s.brk ≡ true
+  pub end : IsEnd s.end
+  pub traps : traps_within (length s.threads) s.end ≡ true
+
+brk_is_word : (heap brk : ℕ) → is_heap heap brk ≡ true → IsWord brk
+brk_is_word heap brk is = let below = leb-true brk HEAP_END (and_parts _ _ is).1 in omega (arith, below)
+
+pub built : (s : State) (heap : ℕ) → ThreadsFit s.threads → PagesFit s.pages → RestFits s heap → IsEncodable s
+built s heap threads pages rest = record {
+  steps = rest.steps;
+  input = rest.input;
+  heap = subst IsWord (sym rest.start) rest.word;
+  brk = brk_is_word heap s.brk rest.brk;
+  end = rest.end;
+  threads = threads.each;
+  pages = pages.each;
+  bounded = bounded (checkpoint_of s) (record {
+    heap = ap (λ h. is_heap h s.brk) rest.start ∙ rest.brk;
+    some_thread = threads.some;
+    few_threads = threads.few;
+    few_alive = threads.alive;
+    traps = rest.traps;
+    few_pages = pages.few;
+    rise = pages.rise;
+  });
+}
 
 -- ---- a state with other bytes on its pages
 
@@ -149,25 +179,7 @@ rising_from_alike least (p ∷ m) (q ∷ left) same =
     let others : map shape_of left ≡ map shape_of m = cc in
     ap (λ (s : ℕ × ℕ × ℕ). nat_le least s.0 && rising_from (s.0 + 1) left) here ∙ ap (λ (b : Bool). nat_le least p.number && b) (rising_from_alike (p.number + 1) m left others)
 
-pub put_pages : (s : State) (left : Memory) → IsEncodable s → HasBytes left → HasSameShape s.pages left → IsEncodable (record s { pages = left })
-put_pages s left is fits same =
-    let b = bounds_of (checkpoint_of s) is.bounded in
-    let count : length left ≡ length s.pages = sym (length-map left shape_of) ∙ ap length same ∙ length-map s.pages shape_of in
-    record {
-      steps = is.steps;
-      input = is.input;
-      heap = is.heap;
-      brk = is.brk;
-      end = is.end;
-      threads = is.threads;
-      pages = contents_alike s.pages left is.pages fits same;
-      bounded = bounded (checkpoint_of (record s { pages = left })) (record {
-        heap = b.heap;
-        some_thread = b.some_thread;
-        few_threads = b.few_threads;
-        few_alive = b.few_alive;
-        traps = b.traps;
-        few_pages = omega (arith, count, b.few_pages);
-        rise = rising_from_alike 0 s.pages left same ∙ b.rise;
-      });
-    }
+pub pages_alike : (m left : Memory) → PagesFit m → HasBytes left → HasSameShape m left → PagesFit left
+pages_alike m left fit bytes same =
+    let count : length left ≡ length m = sym (length-map left shape_of) ∙ ap length same ∙ length-map m shape_of in
+    record { each = contents_alike m left fit.each bytes same; few = omega (arith, count, fit.few); rise = rising_from_alike 0 m left same ∙ fit.rise }

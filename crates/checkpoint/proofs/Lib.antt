@@ -2,6 +2,8 @@ mod Adding
 mod Mapping
 mod Parts
 mod Keeping
+mod Lists
+mod PageLists
 mod Turning
 mod Running
 mod Starting

@@ -1,33 +1,39 @@
 -- A turn of a thread, behind which the state has an encoding again once the thread's reservation is dropped.
-use Rattle.std.proofs.Common.{◌≡◌, ℕ, zero, suc, ◌+◌, ◌-◌, ◌^◌, ◌<◌, ◌≤◌, Bool, true, false, cond, not, List, [], ◌∷◌, length, slice_get, Option, Some, None, Result, Ok, Err, refl, sym, ap, subst, ◌∙◌, arith}
-use Rattle.std.specs.Prelude.{◌==◌, slice_set, slice_index}
-use Rattle.std.specs.List.{AllByRecursion}
+use Rattle.std.proofs.Common.{◌≡◌, ℕ, zero, suc, ◌+◌, ◌-◌, ◌%◌, ◌^◌, ◌<◌, ◌≤◌, Bool, true, false, cond, not, List, [], ◌∷◌, ◌++◌, length, count_by, min, replicate, take, slice_get, Option, Some, None, Result, Ok, Err, refl, sym, ap, subst, ◌∙◌, arith}
+use Rattle.std.specs.Prelude.{◌==◌, ◌&&◌, nat_lt, slice_set, slice_index}
+use Rattle.std.specs.List.{AllByRecursion, list_any}
 use Rattle.std.proofs.Math.Nat.{min-le_right}
-use Rattle.std.proofs.lemmas.Bool.{cond_both, and_from, lt-ltb, le-leb}
-use Rattle.std.proofs.lemmas.List.{length-set}
+use Rattle.std.proofs.lemmas.Bool.{and_from, and_parts, cond_both, le-leb, leb-true, lt-ltb}
+use Rattle.std.proofs.lemmas.List.{length-append, length-set}
 use Rattle.std.proofs.lemmas.Option.{slice_get_within}
+use Rattle.dp_base.specs.declared.access.Width.{Width}
+use Rattle.dp_base.specs.declared.access.Width.TheVariants.{Four}
 use Rattle.dp_base.specs.declared.answer.Answer.{Answer}
-use Rattle.dp_base.specs.declared.limits.TheConstants.{MAX_CALL_BYTES}
+use Rattle.dp_base.specs.declared.limits.TheConstants.{MAX_CALL_BYTES, MAX_PAGES, PAGE_NUMBERS}
 use Rattle.dp_base.specs.declared.tid.Tid.{Tid}
 use Rattle.guest_state.specs.declared.end.End.{End}
 use Rattle.guest_state.specs.declared.end.End.TheVariants as ends
 use Rattle.guest_state.specs.declared.hart.Hart.{Hart}
 use Rattle.guest_state.specs.declared.thread.Thread.{Thread}
 use Rattle.guest_state.specs.declared.thread.Thread.TheVariants.{Runs, Waits, Gone}
-use Rattle.guest_state.specs.Checkpoint.{IsEnd, IsFreeHart, IsThread, IsWord, traps_within}
+use Rattle.guest_state.specs.Checkpoint.{HEAP_END, IsEnd, IsFreeHart, IsThread, IsWord, is_alive, is_heap, traps_within}
 use Rattle.guest_state.proofs.Codes.{bounds_of}
-use Rattle.dp_base.specs.Memory.{Memory, bytes_with}
+use Rattle.dp_base.specs.Memory.{ArePages, Memory, bytes_with, loaded, stored}
 use Rattle.guest_state.specs.Register.{register, with_register, next}
+use Rattle.cow_pages.specs.Heap.{with_heap}
 use Rattle.guest_kernel.specs.declared.state.State.{State}
-use Rattle.guest_kernel.specs.Call.{After, Refusal, Written, a0, a1, a2, a7, answered, bytes_written, called, minus, moved, written, written_by, ENOSYS}
+use Rattle.guest_kernel.specs.Break.{may_move_break, page_from, with_break}
+use Rattle.guest_kernel.specs.Call.{After, Refusal, Written, a0, a1, a2, a3, a7, answered, begins_to_wait, bytes_written, called, cleared, end_of_exit, end_of_waiting, exits, exits_all, is_cleared, may_spawn, minus, moved, sets_break, silent, spawned_hart, spawns, waits, waits_by, wakes, written, written_by, EAGAIN, EFAULT, EINVAL, ENOSYS}
 use Rattle.guest_kernel.specs.State.{counted, dropping, has_ended, unreserved, with_thread, without_reservation}
-use Rattle.guest_kernel.specs.Threads.{thread_at}
+use Rattle.guest_kernel.specs.Threads.{AreFew, awake, is_running, thread_at, waits_on, woken}
 use Rattle.guest_kernel.specs.Turn.{turn, by_effect, by_thread}
 use Rattle.rv_step.specs.Effect.{Effect, goes, calls, traps}
 use Rattle.rv_step.specs.Step.{effect}
 use Rattle.rv_step.specs.Words.{HasBytes, HasSameShape, HasWords}
 use Rattle.checkpoint.specs.State.{IsEncodable, checkpoint_of}
-use Rattle.checkpoint.proofs.Keeping.{all_at, set_at, set_same, set_twice, put, one_later, put_end, bytes_of, put_pages}
+use Rattle.checkpoint.proofs.Keeping.{PagesFit, RestFits, all_at, all_set, built, bytes_of, live_set, pages_alike, pages_fit, set_at, set_twice}
+use Rattle.checkpoint.proofs.Lists.{each_append, each_woken, set_append, set_woken}
+use Rattle.checkpoint.proofs.PageLists.{contents, pages_rise, risen_pages}
 
 -- ---- harts
 
@@ -55,25 +61,58 @@ with_word hart n value is fits =
     cond_both (n == 0) hart (record hart { x = slice_set hart.x (n - 1) value }) HasWords (λ _. is)
     (λ _. record { pc = is.pc; count = length-set hart.x (n - 1) value ∙ is.count; registers = words_set hart.x (n - 1) value is.registers fits })
 
+-- a thread that is woken
+free_awake : (hart : Hart) → IsFreeHart hart → IsFreeHart (with_register hart 10 0)
+free_awake hart is =
+    let words = with_word hart 10 0 (record { pc = is.pc; count = is.count; registers = is.registers }) (omega arith) in
+    record { pc = words.pc; count = words.count; registers = words.registers; free = is.free }
+
+awake_is : (t : Thread) → IsThread t → IsThread (awake t)
+awake_is (Runs hart clear) is = is
+awake_is (Waits addr hart clear) is = (free_awake hart is.1, is.2)
+awake_is (Gone code) is = is
+
+-- a thread that is made
+zeros_are_words : (n : ℕ) → AllByRecursion IsWord (replicate n 0)
+zeros_are_words zero = tt
+zeros_are_words (suc n) = (omega arith, zeros_are_words n)
+
+pub zero_hart_is : (pc : ℕ) → IsWord pc → HasWords (record { pc = pc; x = replicate 31 0; held = None })
+zero_hart_is pc fits = record { pc = fits; count = refl; registers = zeros_are_words 31 }
+
+spawned_is : (pc sp argument : ℕ) → IsWord pc → IsWord sp → IsWord argument → IsFreeHart (spawned_hart pc sp argument)
+spawned_is pc sp argument is_pc is_sp is_argument =
+    let words = with_word _ 10 argument (with_word _ 2 sp (zero_hart_is pc is_pc) is_sp) is_argument in
+    record { pc = words.pc; count = words.count; registers = words.registers; free = refl }
+
 next_is : (hart : Hart) → HasWords hart → HasWords (next hart)
 next_is hart is = record { pc = omega arith; count = is.count; registers = is.registers }
 
 -- ---- effects
 
--- what is used of a step: the laws of rv_step
-pub record StepLaws : Type 0 where
+-- what is used of a turn: the laws of rv_step, cow_pages and guest_kernel
+pub record TurnLaws : Type 0 where
   pub hart : (h after : Hart) (m left : Memory) → HasWords h → HasBytes m → effect h m ≡ goes after left → HasWords after
   pub bytes : (h after : Hart) (m left : Memory) → HasWords h → HasBytes m → effect h m ≡ goes after left → HasBytes left
   pub shape : (h after : Hart) (m left : Memory) → effect h m ≡ goes after left → HasSameShape m left
   pub cause : (h : Hart) (m : Memory) (cause value : ℕ) → effect h m ≡ traps cause value → cause < 8
   pub value : (h : Hart) (m : Memory) (cause value : ℕ) → HasWords h → HasBytes m → effect h m ≡ traps cause value → IsWord value
+  pub stored_bytes : (width : Width) (address value : ℕ) (m : Memory) → HasBytes m → HasBytes (stored width address value m)
+  pub stored_shape : (width : Width) (address value : ℕ) (m : Memory) → HasSameShape m (stored width address value m)
+  pub heap_pages : (m : Memory) (first end old_end : ℕ) → ArePages m → end ≤ PAGE_NUMBERS → length (with_heap first end old_end m) ≤ MAX_PAGES → ArePages (with_heap first end old_end m)
+  pub heap_bytes : (m : Memory) (first end old_end : ℕ) → HasBytes m → HasBytes (with_heap first end old_end m)
+  pub wake : (addr count : ℕ) (threads : List Thread) (i : ℕ) (t : Thread) → slice_get threads i ≡ Some t
+      → slice_get (woken addr count threads) i ≡ Some (cond (waits_on addr t && nat_lt (count_by (waits_on addr) (take i threads)) count) (awake t) t)
+  pub wake_length : (addr count : ℕ) (threads : List Thread) → length (woken addr count threads) ≡ length threads
+  pub few : (s : State) (tid : Tid) (log : List Answer) (after : After) → turn s tid log ≡ Ok after → AreFew s.threads → AreFew after.state.threads
+  pub slice_few : (s : State) (tid : Tid) → AreFew s.threads → AreFew (without_reservation s tid).threads
 
 abbrev IsGood : Memory → Effect → Type 0
 IsGood m (goes after left) = HasWords after × HasBytes left × HasSameShape m left
 IsGood m calls = Unit {0}
 IsGood m (traps cause value) = (cause < 8) × IsWord value
 
-effect_is_good : (laws : StepLaws) (h : Hart) (m : Memory) (e : Effect) → HasWords h → HasBytes m → effect h m ≡ e → IsGood m e
+effect_is_good : (laws : TurnLaws) (h : Hart) (m : Memory) (e : Effect) → HasWords h → HasBytes m → effect h m ≡ e → IsGood m e
 effect_is_good laws h m (goes after left) is bytes e = (laws.hart h after m left is bytes e, laws.bytes h after m left is bytes e, laws.shape h after m left e)
 effect_is_good laws h m calls is bytes e = tt
 effect_is_good laws h m (traps cause value) is bytes e = (laws.cause h m cause value e, laws.value h m cause value is bytes e)
@@ -84,21 +123,22 @@ nonzero : (n : ℕ) → (n == 0) ≡ false → 0 < n
 nonzero zero e = absurd cc
 nonzero (suc n) e = omega arith
 
-abbrev Keeps : Tid → Result After Refusal → Type 0
-Keeps tid (Ok after) = after.state.steps < 2 ^ 64 → IsEncodable (without_reservation after.state tid)
-Keeps tid (Err refusal) = Unit {0}
+-- what has to hold behind a turn, once the reservation is dropped: but for the threads' number
+pub record Fits (s left : State) (tid : Tid) : Type 0 where
+  pub each : AllByRecursion IsThread (without_reservation left tid).threads
+  pub some : 0 < length (without_reservation left tid).threads
+  pub pages : PagesFit (without_reservation left tid).pages
+  pub rest : left.steps < 2 ^ 64 → RestFits (without_reservation left tid) s.heap
 
--- the state before the turn, whose thread runs, and what follows for one with another hart
-module _ (s : State) (tid : Tid) (hart : Hart) (clear : ℕ) (log : List Answer) (is : IsEncodable (without_reservation s tid)) (there : thread_at s.threads tid ≡ Some (Runs hart clear)) where
-  i : ℕ
-  i = tid.0 - 1
+abbrev Keeps : State → Tid → Result After Refusal → Type 0
+Keeps s tid (Ok after) = Fits s after.state tid
+Keeps s tid (Err refusal) = Unit {0}
 
+-- the state before the turn, whose thread runs
+module _ (laws : TurnLaws) (s : State) (tid : Tid) (hart : Hart) (clear : ℕ) (log : List Answer) (is : IsEncodable (without_reservation s tid)) (there : thread_at s.threads tid ≡ Some (Runs hart clear)) where
   not_none : (b : Bool) (o : Option Thread) → cond b None o ≡ Some (Runs hart clear) → o ≡ Some (Runs hart clear)
   not_none true o e = absurd cc
   not_none false o e = e
-
-  old : Thread
-  old = Runs (unreserved hart) clear
 
   at_i : slice_get s.threads (tid.0 - 1) ≡ Some (Runs hart clear)
   at_i = not_none (tid.0 == 0) (slice_get s.threads (tid.0 - 1)) there
@@ -107,11 +147,15 @@ module _ (s : State) (tid : Tid) (hart : Hart) (clear : ℕ) (log : List Answer)
   number false e = refl
   number true e = let none : None ≡ Some (Runs hart clear) = sym (ap (λ (c : Bool). cond c None (slice_get s.threads (tid.0 - 1))) e) ∙ there in absurd cc
 
-  thread_set : (new : Thread) → thread_at (slice_set s.threads (tid.0 - 1) new) tid ≡ Some new
-  thread_set new = ap (λ (c : Bool). cond c None (slice_get (slice_set s.threads (tid.0 - 1) new) (tid.0 - 1))) (number (tid.0 == 0) refl) ∙ set_at s.threads (tid.0 - 1) (Runs hart clear) new at_i
+  -- the thread in its place, in any list
+  placed : (threads : List Thread) (t : Thread) → slice_get threads (tid.0 - 1) ≡ Some t → thread_at threads tid ≡ Some t
+  placed threads t is_ = ap (λ (c : Bool). cond c None (slice_get threads (tid.0 - 1))) (number (tid.0 == 0) refl) ∙ is_
 
   before : IsEncodable (with_thread s tid (Runs (unreserved hart) clear))
   before = subst (λ (o : Option Thread). IsEncodable (dropping s tid o)) there is
+
+  inside : tid.0 - 1 < length s.threads
+  inside = slice_get_within s.threads (tid.0 - 1) (Runs hart clear) at_i
 
   old_is : IsThread (Runs (unreserved hart) clear)
   old_is = all_at IsThread (slice_set s.threads (tid.0 - 1) (Runs (unreserved hart) clear)) (tid.0 - 1) (Runs (unreserved hart) clear) before.threads (set_at s.threads (tid.0 - 1) (Runs hart clear) (Runs (unreserved hart) clear) at_i)
@@ -119,24 +163,21 @@ module _ (s : State) (tid : Tid) (hart : Hart) (clear : ℕ) (log : List Answer)
   hart_is : HasWords hart
   hart_is = of_free hart old_is.0
 
-  pages_are : HasBytes s.pages
-  pages_are = bytes_of s.pages before.pages
+  pages_are : PagesFit s.pages
+  pages_are = pages_fit (with_thread s tid (Runs (unreserved hart) clear)) before
 
-  -- with another hart, another end, and other pages
-  turned : (after : Hart) (e : End) (left : Memory) → HasWords after → IsEnd e → traps_within (length s.threads) e ≡ true → HasBytes left → HasSameShape s.pages left → s.steps + 1 < 2 ^ 64
-      → IsEncodable (without_reservation (counted (record (with_thread s tid (Runs after clear)) { end = e; pages = left })) tid)
-  turned after e left fits fits_end within bytes shape few =
-      let new = Runs (unreserved after) clear in
-      let free = to_free after fits in
-      let placed = put (with_thread s tid (Runs (unreserved hart) clear)) (tid.0 - 1) (Runs (unreserved hart) clear) new before (set_at s.threads (tid.0 - 1) (Runs hart clear) (Runs (unreserved hart) clear) at_i) (free, old_is.1) refl in
-      let there_ : IsEncodable (with_thread s tid new) = subst (λ (l : List Thread). IsEncodable (record s { threads = l })) (set_twice s.threads (tid.0 - 1) (Runs (unreserved hart) clear) new) placed in
-      let size : length (slice_set s.threads (tid.0 - 1) new) ≡ length s.threads = length-set s.threads (tid.0 - 1) new in
-      let ended = put_end (with_thread s tid new) e there_ fits_end (ap (λ (n : ℕ). traps_within n e) size ∙ within) in
-      let paged = put_pages (record (with_thread s tid new) { end = e }) left ended bytes shape in
-      let later = one_later (record (with_thread s tid new) { end = e; pages = left }) paged few in
-      let middle = counted (record (with_thread s tid (Runs after clear)) { end = e; pages = left }) in
-      let dropped : IsEncodable (with_thread middle tid new) = subst (λ (l : List Thread). IsEncodable (record middle { threads = l })) (sym (set_twice s.threads (tid.0 - 1) (Runs after clear) new)) later in
-      subst (λ (o : Option Thread). IsEncodable (dropping middle tid o)) (sym (thread_set (Runs after clear))) dropped
+  bytes_are : HasBytes s.pages
+  bytes_are = bytes_of s.pages before.pages
+
+  heap_is : is_heap s.heap s.brk ≡ true
+  heap_is = (bounds_of (checkpoint_of (with_thread s tid (Runs (unreserved hart) clear))) before.bounded).heap
+
+  some_threads : 0 < length s.threads
+  some_threads = omega (arith, inside)
+
+  -- each thread has an encoding, with another in the place of this one
+  each_set : (t : Thread) → IsThread t → AllByRecursion IsThread (slice_set s.threads (tid.0 - 1) t)
+  each_set t fits = subst (AllByRecursion IsThread) (set_twice s.threads (tid.0 - 1) (Runs (unreserved hart) clear) t) (all_set IsThread (slice_set s.threads (tid.0 - 1) (Runs (unreserved hart) clear)) (tid.0 - 1) t before.threads fits)
 
   end_is : IsEnd s.end
   end_is = before.end
@@ -144,13 +185,57 @@ module _ (s : State) (tid : Tid) (hart : Hart) (clear : ℕ) (log : List Answer)
   within_is : traps_within (length s.threads) s.end ≡ true
   within_is = ap (λ (n : ℕ). traps_within n s.end) (sym (length-set s.threads (tid.0 - 1) (Runs (unreserved hart) clear))) ∙ (bounds_of (checkpoint_of (with_thread s tid (Runs (unreserved hart) clear))) before.bounded).traps
 
-  -- it goes on with this hart and these pages
-  went : (after : Hart) (left : Memory) → HasWords after → HasBytes left → HasSameShape s.pages left → s.steps + 1 < 2 ^ 64
-      → IsEncodable (without_reservation (counted (record (with_thread s tid (Runs after clear)) { pages = left })) tid)
-  went after left fits bytes shape few = turned after s.end left fits end_is within_is bytes shape few
+  -- ---- a state behind the turn
 
-  answer_is : (value : ℕ) → IsWord value → s.steps + 1 < 2 ^ 64 → IsEncodable (without_reservation (counted (answered s tid hart clear value)) tid)
-  answer_is value fits few = went (next (with_register hart 10 value)) s.pages (next_is (with_register hart 10 value) (with_word hart 10 value hart_is fits)) pages_are refl few
+  -- what it leaves, whatever its threads
+  pub record Leaves (left : State) (threads : List Thread) : Type 0 where
+    pub input : left.input ≡ s.input
+    pub heap : left.heap ≡ s.heap
+    pub brk : is_heap s.heap left.brk ≡ true
+    pub end : IsEnd left.end
+    pub traps : traps_within (length threads) left.end ≡ true
+    pub pages : PagesFit left.pages
+
+  fits_by : (left : State) (threads : List Thread) → without_reservation left tid ≡ record left { threads = threads } → AllByRecursion IsThread threads → 0 < length threads → Leaves left threads → Fits s left tid
+  fits_by left threads dropped each some leaves = record {
+    each = subst (λ (t : State). AllByRecursion IsThread t.threads) (sym dropped) each;
+    some = subst (λ (t : State). 0 < length t.threads) (sym dropped) some;
+    pages = subst (λ (t : State). PagesFit t.pages) (sym dropped) leaves.pages;
+    rest = λ few. subst (λ (t : State). RestFits t s.heap) (sym dropped) (record {
+      steps = few;
+      input = subst (λ n. n < 2 ^ 64) (sym leaves.input) before.input;
+      start = leaves.heap;
+      word = before.heap;
+      brk = leaves.brk;
+      end = leaves.end;
+      traps = leaves.traps;
+    });
+  }
+
+  -- the thread still runs, among these
+  dropped_running : (left : State) (threads : List Thread) (h : Hart) (c : ℕ) → left.threads ≡ slice_set threads (tid.0 - 1) (Runs h c) → tid.0 - 1 < length threads
+      → without_reservation left tid ≡ record left { threads = slice_set threads (tid.0 - 1) (Runs (unreserved h) c) }
+  dropped_running left threads h c are within =
+      let here : slice_get left.threads (tid.0 - 1) ≡ Some (Runs h c) = ap (λ l. slice_get l (tid.0 - 1)) are ∙ get_set threads (tid.0 - 1) (Runs h c) within in
+      ap (λ (o : Option Thread). dropping left tid o) (placed left.threads (Runs h c) here)
+      ∙ ap (λ l. record left { threads = slice_set l (tid.0 - 1) (Runs (unreserved h) c) }) are
+      ∙ ap (λ l. record left { threads = l }) (set_twice threads (tid.0 - 1) (Runs h c) (Runs (unreserved h) c))
+    where
+      get_set : (xs : List Thread) (i : ℕ) (y : Thread) → i < length xs → slice_get (slice_set xs i y) i ≡ Some y
+      get_set [] i y lt = absurd (omega (arith, lt))
+      get_set (x ∷ xs) zero y lt = refl
+      get_set (x ∷ xs) (suc i) y lt = get_set xs i y (omega (arith, lt))
+
+  -- it goes on, with nothing changed but these
+  went : (left : State) (h : Hart) → left.threads ≡ slice_set s.threads (tid.0 - 1) (Runs h clear) → HasWords h → left.input ≡ s.input → left.heap ≡ s.heap → is_heap s.heap left.brk ≡ true → IsEnd left.end
+      → traps_within (length s.threads) left.end ≡ true → PagesFit left.pages → Fits s left tid
+  went left h are words input heap brk end trap pages =
+      let size = length-set s.threads (tid.0 - 1) (Runs (unreserved h) clear) in
+      fits_by left (slice_set s.threads (tid.0 - 1) (Runs (unreserved h) clear)) (dropped_running left s.threads h clear are inside) (each_set (Runs (unreserved h) clear) (to_free h words, old_is.1)) (omega (arith, size, some_threads))
+      (record { input = input; heap = heap; brk = brk; end = end; traps = ap (λ n. traps_within n left.end) size ∙ trap; pages = pages })
+
+  answer_is : (value : ℕ) → IsWord value → Fits s (counted (answered s tid hart clear value)) tid
+  answer_is value fits = went (counted (answered s tid hart clear value)) (next (with_register hart 10 value)) refl (next_is (with_register hart 10 value) (with_word hart 10 value hart_is fits)) refl refl heap_is end_is within_is pages_are
 
   bytes_word : (count : ℕ) (bytes : Option (List ℕ)) → count ≤ MAX_CALL_BYTES → IsWord (bytes_written count bytes).answer
   bytes_word count None few = omega arith
@@ -164,48 +249,247 @@ module _ (s : State) (tid : Tid) (hart : Hart) (clear : ℕ) (log : List Answer)
       cond_both (not (fd == 1)) _ _ HasWord (λ _. omega arith)
       (λ _. cond_both (len == 0) _ _ HasWord (λ _. omega arith) (λ _. bytes_word (moved len) (bytes_with 4 memory addr (moved len)) (min-le_right len MAX_CALL_BYTES)))
 
-  called_keeps : Keeps tid (called s tid hart clear log)
-  called_keeps =
-      cond_both (a7 hart == 1) _ _ (Keeps tid) (λ _. λ few. turned (next hart) (ends.Exit (a0 hart)) s.pages (next_is hart hart_is) (register_is_word hart 10 hart_is) refl pages_are refl few)
-      (λ _. cond_both (a7 hart == 2) _ _ (Keeps tid) (λ _. λ few. answer_is (written_by s.pages hart).answer (written_word s.pages (a0 hart) (a1 hart) (a2 hart)) few)
-      (λ _. λ few. answer_is (minus ENOSYS) (omega arith) few))
+  -- ---- exit_thread
 
-  same_thread : with_thread s tid (Runs hart clear) ≡ s
-  same_thread = ap (λ (l : List Thread). record s { threads = l }) (set_same s.threads (tid.0 - 1) (Runs hart clear) at_i)
+  waiting_end : (threads : List Thread) → IsEnd (end_of_waiting threads)
+  waiting_end threads = cond_both (list_any is_running threads) _ _ IsEnd (λ _. tt) (λ _. tt)
+
+  waiting_traps : (n : ℕ) (threads : List Thread) → traps_within n (end_of_waiting threads) ≡ true
+  waiting_traps n threads = cond_both (list_any is_running threads) _ _ (λ (e : End). traps_within n e ≡ true) (λ _. refl) (λ _. refl)
+
+  exit_end : (code : ℕ) (threads : List Thread) → IsWord code → IsEnd (end_of_exit code threads)
+  exit_end code threads fits = cond_both (list_any is_alive threads) _ _ IsEnd (λ _. waiting_end threads) (λ _. fits)
+
+  exit_traps : (n code : ℕ) (threads : List Thread) → traps_within n (end_of_exit code threads) ≡ true
+  exit_traps n code threads = cond_both (list_any is_alive threads) _ _ (λ (e : End). traps_within n e ≡ true) (λ _. waiting_traps n threads) (λ _. refl)
+
+  code_is : IsWord (a0 hart)
+  code_is = register_is_word hart 10 hart_is
+
+  gone : State
+  gone = with_thread s tid (Gone (a0 hart))
+
+  -- the thread that has exited stands in its place in what is left
+  pub record IsLeft (left : State) : Type 0 where
+    pub here : slice_get left.threads (tid.0 - 1) ≡ Some (Gone (a0 hart))
+    pub each : AllByRecursion IsThread left.threads
+    pub some : 0 < length left.threads
+    pub pages : PagesFit left.pages
+    pub input : left.input ≡ s.input
+    pub heap : left.heap ≡ s.heap
+    pub brk : left.brk ≡ s.brk
+
+  left_gone : IsLeft (with_thread s tid (Gone (a0 hart)))
+  left_gone = record {
+    here = set_at s.threads (tid.0 - 1) (Runs hart clear) (Gone (a0 hart)) at_i;
+    each = each_set (Gone (a0 hart)) code_is;
+    some = omega (arith, some_threads, length-set s.threads (tid.0 - 1) (Gone (a0 hart)));
+    pages = pages_are;
+    input = refl;
+    heap = refl;
+    brk = refl;
+  }
+
+  left_cleared : IsLeft (cleared clear (with_thread s tid (Gone (a0 hart))))
+  left_cleared = cond_both (is_cleared clear s.pages) _ _ IsLeft
+      (λ _. record {
+        here = laws.wake clear (length (with_thread s tid (Gone (a0 hart))).threads) (with_thread s tid (Gone (a0 hart))).threads (tid.0 - 1) (Gone (a0 hart)) left_gone.here;
+        each = each_woken awake_is clear (length (with_thread s tid (Gone (a0 hart))).threads) (with_thread s tid (Gone (a0 hart))).threads left_gone.each;
+        some = omega (arith, left_gone.some, laws.wake_length clear (length (with_thread s tid (Gone (a0 hart))).threads) (with_thread s tid (Gone (a0 hart))).threads);
+        pages = pages_alike s.pages (stored Four clear 0 s.pages) pages_are (laws.stored_bytes Four clear 0 s.pages bytes_are) (laws.stored_shape Four clear 0 s.pages);
+        input = refl;
+        heap = refl;
+        brk = refl;
+      })
+      (λ _. left_gone)
+
+  exits_is : Keeps s tid (silent (exits s tid hart clear) log)
+  exits_is =
+      let left = cleared clear (with_thread s tid (Gone (a0 hart))) in
+      let behind = counted (exits s tid hart clear) in
+      fits_by behind left.threads (ap (λ (o : Option Thread). dropping behind tid o) (placed left.threads (Gone (a0 hart)) left_cleared.here)) left_cleared.each left_cleared.some
+      (record {
+        input = left_cleared.input;
+        heap = left_cleared.heap;
+        brk = ap (λ b. is_heap s.heap b) left_cleared.brk ∙ heap_is;
+        end = exit_end (a0 hart) left.threads code_is;
+        traps = exit_traps (length left.threads) (a0 hart) left.threads;
+        pages = left_cleared.pages;
+      })
+
+  -- ---- spawn, futex_wait, futex_wake
+
+  traps_more : (n m : ℕ) (e : End) → n ≤ m → traps_within n e ≡ true → traps_within m e ≡ true
+  traps_more n m ends.None more within = refl
+  traps_more n m (ends.Exit code) more within = refl
+  traps_more n m ends.Deadlock more within = refl
+  traps_more n m (ends.Trap t cause value) more within =
+      let parts = and_parts _ _ within in and_from _ _ parts.0 (le-leb t.0 m (let few = leb-true t.0 n parts.1 in omega (arith, few, more)))
+
+  spawned : Thread
+  spawned = Runs (spawned_hart (a0 hart) (a1 hart) (a2 hart)) (a3 hart)
+
+  few_threads : length s.threads ≤ 1024
+  few_threads =
+      let size = length-set s.threads (tid.0 - 1) (Runs (unreserved hart) clear) in
+      let few = (bounds_of (checkpoint_of (with_thread s tid (Runs (unreserved hart) clear))) before.bounded).few_threads in
+      omega (arith, size, few)
+
+  answered_hart : (value : ℕ) → IsWord value → HasWords (next (with_register hart 10 value))
+  answered_hart value fits = next_is (with_register hart 10 value) (with_word hart 10 value hart_is fits)
+
+  spawned_fits : Fits s (counted (answered (record s { threads = s.threads ++ Runs (spawned_hart (a0 hart) (a1 hart) (a2 hart)) (a3 hart) ∷ [] }) tid hart clear (length s.threads + 1))) tid
+  spawned_fits =
+      let new = Runs (spawned_hart (a0 hart) (a1 hart) (a2 hart)) (a3 hart) in
+      let threads = s.threads ++ new ∷ [] in
+      let h = next (with_register hart 10 (length s.threads + 1)) in
+      let t = Runs (unreserved h) clear in
+      let size : length threads ≡ length s.threads + 1 = length-append s.threads (new ∷ []) in
+      let words = answered_hart (length s.threads + 1) (omega (arith, few_threads)) in
+      let left = counted (answered (record s { threads = threads }) tid hart clear (length s.threads + 1)) in
+      let all : length (slice_set threads (tid.0 - 1) t) ≡ length threads = length-set threads (tid.0 - 1) t in
+      fits_by left (slice_set threads (tid.0 - 1) t) (dropped_running left threads h clear refl (omega (arith, size, inside)))
+      (subst (AllByRecursion IsThread) (sym (set_append s.threads (new ∷ []) (tid.0 - 1) t inside))
+      (each_append IsThread (slice_set s.threads (tid.0 - 1) t) (new ∷ []) (each_set t (to_free h words, old_is.1))
+      ((spawned_is (a0 hart) (a1 hart) (a2 hart) (register_is_word hart 10 hart_is) (register_is_word hart 11 hart_is) (register_is_word hart 12 hart_is), register_is_word hart 13 hart_is), tt)))
+      (omega (arith, all, size))
+      (record { input = refl; heap = refl; brk = heap_is; end = end_is; traps = traps_more (length s.threads) (length (slice_set threads (tid.0 - 1) t)) s.end (omega (arith, all, size)) within_is; pages = pages_are })
+
+  spawns_is : Keeps s tid (silent (spawns s tid hart clear) log)
+  spawns_is = cond_both (may_spawn s.threads) _ _ (λ (left : State). Fits s (counted left) tid) (λ _. spawned_fits) (λ _. answer_is (minus EAGAIN) (omega arith))
+
+  begins_is : (addr : ℕ) → IsWord addr → Fits s (counted (begins_to_wait s tid hart clear addr)) tid
+  begins_is addr fits =
+      let h = next hart in
+      let t = Waits addr (unreserved h) clear in
+      let threads = slice_set s.threads (tid.0 - 1) (Waits addr h clear) in
+      let left = counted (begins_to_wait s tid hart clear addr) in
+      let all : length (slice_set s.threads (tid.0 - 1) t) ≡ length s.threads = length-set s.threads (tid.0 - 1) t in
+      let dropped : without_reservation left tid ≡ record left { threads = slice_set s.threads (tid.0 - 1) t } =
+      ap (λ (o : Option Thread). dropping left tid o) (placed threads (Waits addr h clear) (set_at s.threads (tid.0 - 1) (Runs hart clear) (Waits addr h clear) at_i))
+      ∙ ap (λ l. record left { threads = l }) (set_twice s.threads (tid.0 - 1) (Waits addr h clear) t) in
+      fits_by left (slice_set s.threads (tid.0 - 1) t) dropped (each_set t (fits, to_free h (next_is hart hart_is), old_is.1)) (omega (arith, all, some_threads))
+      (record { input = refl; heap = refl; brk = heap_is; end = waiting_end threads; traps = waiting_traps (length (slice_set s.threads (tid.0 - 1) t)) threads; pages = pages_are })
+
+  waits_by_is : (addr expected : ℕ) (word : Option ℕ) → IsWord addr → Fits s (counted (waits_by s tid hart clear addr expected word)) tid
+  waits_by_is addr expected None fits = answer_is (minus EFAULT) (omega arith)
+  waits_by_is addr expected (Some word) fits = cond_both (word == expected) _ _ (λ (left : State). Fits s (counted left) tid) (λ _. begins_is addr fits) (λ _. answer_is (minus EAGAIN) (omega arith))
+
+  waits_is : Keeps s tid (silent (waits s tid hart clear) log)
+  waits_is = cond_both (a0 hart % 4 == 0) _ _ (λ (left : State). Fits s (counted left) tid)
+      (λ _. waits_by_is (a0 hart) (a1 hart) (loaded Four (a0 hart) s.pages) (register_is_word hart 10 hart_is)) (λ _. answer_is (minus EINVAL) (omega arith))
+
+  min_left : (a b : ℕ) → min a b ≤ a
+  min_left a b = omega arith
+
+  wakes_is : Keeps s tid (silent (wakes s tid hart clear) log)
+  wakes_is =
+      let threads = woken (a0 hart) (a1 hart) s.threads in
+      let value = min (a1 hart) (count_by (waits_on (a0 hart)) s.threads) in
+      let h = next (with_register hart 10 value) in
+      let t = Runs (unreserved h) clear in
+      let size : length threads ≡ length s.threads = laws.wake_length (a0 hart) (a1 hart) s.threads in
+      let small : IsWord (a1 hart) = register_is_word hart 11 hart_is in
+      let least = min_left (a1 hart) (count_by (waits_on (a0 hart)) s.threads) in
+      let words = answered_hart value (omega (arith, small, least)) in
+      let left = counted (wakes s tid hart clear) in
+      let all : length (slice_set threads (tid.0 - 1) t) ≡ length threads = length-set threads (tid.0 - 1) t in
+      fits_by left (slice_set threads (tid.0 - 1) t) (dropped_running left threads h clear refl (omega (arith, size, inside)))
+      (subst (AllByRecursion IsThread) (sym (set_woken (a0 hart) (a1 hart) s.threads (tid.0 - 1) (Runs hart clear) t at_i refl refl))
+      (each_woken awake_is (a0 hart) (a1 hart) (slice_set s.threads (tid.0 - 1) t) (each_set t (to_free h words, old_is.1))))
+      (omega (arith, all, size, some_threads))
+      (record { input = refl; heap = refl; brk = heap_is; end = end_is; traps = ap (λ n. traps_within n s.end) (all ∙ size) ∙ within_is; pages = pages_are })
+
+  -- ---- brk
+
+  heap_fits : (new : ℕ) → may_move_break s new ≡ true → (is_heap s.heap new ≡ true) × PagesFit (with_break s new) × IsWord new
+  heap_fits new may =
+      let parts = and_parts _ _ may in
+      let apart = and_parts _ _ parts.0 in
+      let range = and_parts _ _ apart.0 in
+      let start = and_parts _ _ (and_parts _ _ heap_is).0 in
+      let few = leb-true (length (with_break s new)) MAX_PAGES parts.1 in
+      let below = leb-true new HEAP_END range.1 in
+      let pages = laws.heap_pages s.pages (page_from s.heap) (page_from new) (page_from s.brk) (risen_pages s.pages pages_are.each pages_are.rise pages_are.few) (omega (arith, below)) few in
+      let bytes = laws.heap_bytes s.pages (page_from s.heap) (page_from new) (page_from s.brk) bytes_are in (
+        and_from _ _ (and_from _ _ start.0 range.0) range.1,
+        record { each = contents (with_break s new) pages.each bytes; few = few; rise = pages_rise (with_break s new) pages.rising },
+        omega (arith, below),
+      )
+
+  sets_break_is : Keeps s tid (silent (sets_break s tid hart clear) log)
+  sets_break_is = cond_both (may_move_break s (a0 hart)) _ _ (λ (left : State). Fits s (counted left) tid)
+      (λ may.
+      let fit = heap_fits (a0 hart) may in
+      went (counted (answered (record s { pages = with_break s (a0 hart); brk = a0 hart }) tid hart clear (a0 hart))) (next (with_register hart 10 (a0 hart))) refl (answered_hart (a0 hart) fit.2) refl refl fit.0 end_is within_is fit.1)
+      (λ _. answer_is s.brk before.brk)
+
+  -- ---- the table
+
+  tid_is : IsWord tid.0
+  tid_is = omega (arith, inside, few_threads)
+
+  called_keeps : Keeps s tid (called s tid hart clear log)
+  called_keeps =
+      cond_both (a7 hart == 0) _ _ (Keeps s tid) (λ _. exits_is)
+      (λ _. cond_both (a7 hart == 1) _ _ (Keeps s tid) (λ _. went (counted (exits_all s tid hart clear)) (next hart) refl (next_is hart hart_is) refl refl heap_is (register_is_word hart 10 hart_is) refl pages_are)
+      (λ _. cond_both (a7 hart == 2) _ _ (Keeps s tid) (λ _. answer_is (written_by s.pages hart).answer (written_word s.pages (a0 hart) (a1 hart) (a2 hart)))
+      (λ _. cond_both (a7 hart == 4) _ _ (Keeps s tid) (λ _. spawns_is)
+      (λ _. cond_both (a7 hart == 5) _ _ (Keeps s tid) (λ _. waits_is)
+      (λ _. cond_both (a7 hart == 6) _ _ (Keeps s tid) (λ _. wakes_is)
+      (λ _. cond_both (a7 hart == 7) _ _ (Keeps s tid) (λ _. answer_is 0 (omega arith))
+      (λ _. cond_both (a7 hart == 9) _ _ (Keeps s tid) (λ _. sets_break_is)
+      (λ _. cond_both (a7 hart == 10) _ _ (Keeps s tid) (λ _. answer_is tid.0 tid_is)
+      (λ _. answer_is (minus ENOSYS) (omega arith))))))))))
+
+  -- ---- steps
 
   trap_within : (cause value : ℕ) → traps_within (length s.threads) (ends.Trap tid cause value) ≡ true
   trap_within cause value =
-      let inside : tid.0 - 1 < length s.threads = slice_get_within s.threads (tid.0 - 1) (Runs hart clear) at_i in
       let some : 0 < tid.0 = nonzero tid.0 (number (tid.0 == 0) refl) in
       and_from _ _ (lt-ltb _ _ some) (le-leb _ _ (omega (arith, inside, some)))
 
-  trapped : (cause value : ℕ) → cause < 8 → IsWord value → s.steps + 1 < 2 ^ 64 → tid.0 < 2 ^ 16 → IsEncodable (without_reservation (counted (record s { end = ends.Trap tid cause value })) tid)
-  trapped cause value small fits few tid_fits =
-      subst (λ (t : State). IsEncodable (without_reservation (counted (record t { end = ends.Trap tid cause value })) tid)) same_thread
-      (turned hart (ends.Trap tid cause value) s.pages hart_is (tid_fits, small, fits) (trap_within cause value) pages_are refl few)
+  trapped : (cause value : ℕ) → cause < 8 → IsWord value → Fits s (counted (record s { end = ends.Trap tid cause value })) tid
+  trapped cause value small fits =
+      let left = counted (record s { end = ends.Trap tid cause value }) in
+      let t = Runs (unreserved hart) clear in
+      let size = length-set s.threads (tid.0 - 1) t in
+      fits_by left (slice_set s.threads (tid.0 - 1) t) (ap (λ (o : Option Thread). dropping left tid o) there) (each_set t old_is) (omega (arith, size, some_threads))
+      (record { input = refl; heap = refl; brk = heap_is; end = (omega (arith, inside, few_threads), small, fits); traps = ap (λ n. traps_within n (ends.Trap tid cause value)) size ∙ trap_within cause value; pages = pages_are })
 
-  few_numbers : tid.0 < 2 ^ 16
-  few_numbers =
-      let inside : tid.0 - 1 < length s.threads = slice_get_within s.threads (tid.0 - 1) (Runs hart clear) at_i in
-      let size = length-set s.threads (tid.0 - 1) (Runs (unreserved hart) clear) in
-      let few = (bounds_of (checkpoint_of (with_thread s tid (Runs (unreserved hart) clear))) before.bounded).few_threads in
-      omega (arith, inside, size, few)
-
-  effect_keeps : (e : Effect) → IsGood s.pages e → Keeps tid (by_effect s tid hart clear log e)
-  effect_keeps (goes after left) good = λ few. went after left good.0 good.1 good.2 few
+  effect_keeps : (e : Effect) → IsGood s.pages e → Keeps s tid (by_effect s tid hart clear log e)
+  effect_keeps (goes after left) good =
+      went (counted (record (with_thread s tid (Runs after clear)) { pages = left })) after refl good.0 refl refl heap_is end_is within_is (pages_alike s.pages left pages_are good.1 good.2)
   effect_keeps calls good = called_keeps
-  effect_keeps (traps cause value) good = λ few. trapped cause value good.0 good.1 few few_numbers
+  effect_keeps (traps cause value) good = trapped cause value good.0 good.1
 
-  runs_keeps : StepLaws → Keeps tid (by_effect s tid hart clear log (effect hart s.pages))
-  runs_keeps laws = effect_keeps (effect hart s.pages) (effect_is_good laws hart s.pages (effect hart s.pages) hart_is pages_are refl)
+  runs_keeps : Keeps s tid (by_effect s tid hart clear log (effect hart s.pages))
+  runs_keeps = effect_keeps (effect hart s.pages) (effect_is_good laws hart s.pages (effect hart s.pages) hart_is bytes_are refl)
 
-thread_keeps : (laws : StepLaws) (s : State) (tid : Tid) (log : List Answer) (o : Option Thread) → IsEncodable (without_reservation s tid) → thread_at s.threads tid ≡ o → Keeps tid (by_thread s tid log o)
+  -- the threads are few before the turn
+  few_before : AreFew s.threads
+  few_before =
+      let b = bounds_of (checkpoint_of (with_thread s tid (Runs (unreserved hart) clear))) before.bounded in
+      let alive = live_set s.threads (tid.0 - 1) (Runs hart clear) (Runs (unreserved hart) clear) at_i refl in
+      record { made = few_threads; alive = omega (arith, alive, b.few_alive) }
+
+abbrev KeepsAll : State → Tid → Result After Refusal → Type 0
+KeepsAll s tid (Ok after) = Fits s after.state tid × AreFew s.threads
+KeepsAll s tid (Err refusal) = Unit {0}
+
+with_few : (s : State) (tid : Tid) (r : Result After Refusal) → AreFew s.threads → Keeps s tid r → KeepsAll s tid r
+with_few s tid (Ok after) few keeps = (keeps, few)
+with_few s tid (Err refusal) few keeps = tt
+
+thread_keeps : (laws : TurnLaws) (s : State) (tid : Tid) (log : List Answer) (o : Option Thread) → IsEncodable (without_reservation s tid) → thread_at s.threads tid ≡ o → KeepsAll s tid (by_thread s tid log o)
 thread_keeps laws s tid log None is there = tt
-thread_keeps laws s tid log (Some (Runs hart clear)) is there = runs_keeps s tid hart clear log is there laws
+thread_keeps laws s tid log (Some (Runs hart clear)) is there = with_few s tid (by_effect s tid hart clear log (effect hart s.pages)) (few_before laws s tid hart clear log is there) (runs_keeps laws s tid hart clear log is there)
 thread_keeps laws s tid log (Some (Waits addr hart clear)) is there = tt
 thread_keeps laws s tid log (Some (Gone code)) is there = tt
 
-pub turn_keeps : StepLaws → (s : State) (tid : Tid) (log : List Answer) (after : After) → IsEncodable (without_reservation s tid) → turn s tid log ≡ Ok after → after.state.steps < 2 ^ 64 → IsEncodable (without_reservation after.state tid)
+pub turn_keeps : TurnLaws → (s : State) (tid : Tid) (log : List Answer) (after : After) → IsEncodable (without_reservation s tid) → turn s tid log ≡ Ok after → after.state.steps < 2 ^ 64 → IsEncodable (without_reservation after.state tid)
 unfolding turn
-turn_keeps laws s tid log after is taken few =
-    subst (Keeps tid) taken (cond_both (has_ended s.end) _ _ (Keeps tid) (λ _. tt) (λ _. thread_keeps laws s tid log (thread_at s.threads tid) is refl)) few
+turn_keeps laws s tid log after is taken steps =
+    let kept = subst (KeepsAll s tid) taken (cond_both (has_ended s.end) _ _ (KeepsAll s tid) (λ _. tt) (λ _. thread_keeps laws s tid log (thread_at s.threads tid) is refl)) in
+    let few = laws.slice_few after.state tid (laws.few s tid log after taken kept.1) in
+    built (without_reservation after.state tid) s.heap (record { each = kept.0.each; some = kept.0.some; few = few.made; alive = few.alive }) kept.0.pages (kept.0.rest steps)

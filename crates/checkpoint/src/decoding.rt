@@ -11,7 +11,7 @@ use dp_base::OutOfMemory;
 use dp_base::field::{read_u16, read_u32, read_u64};
 use dp_base::limits::MAX_PAGES;
 use guest_kernel::{Pages, State, Threads};
-use guest_state::{Bounds, Thread, alive_count, read_end, read_page, read_thread};
+use guest_state::{Bounds, Thread, live_count, read_end, read_page, read_thread};
 use std::alloc::Global;
 
 /// Returns the state whose encoding these bytes are. Returns `None` exactly if they are no state's, also if bytes stand
@@ -97,17 +97,6 @@ fn read_threads(
         rest = behind;
     }
     Ok(Some((threads, rest)))
-}
-
-// How many of the threads are alive.
-fn live_count(threads: &[Thread]) -> usize
-    ensures { result ≡ live threads.now }
-{
-    let mut alive = 0;
-    for thread in threads {
-        alive += alive_count(thread);
-    }
-    alive
 }
 
 // So many pages in rising order, and the bytes behind them. `None` also if their numbers don't rise.

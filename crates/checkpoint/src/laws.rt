@@ -32,6 +32,10 @@ pub fn a_turn_keeps_a_state_encodable()
 {
     rv_step::laws::a_step_leaves_words();
     rv_step::laws::a_trap_has_a_cause();
+    rv_step::laws::a_store_leaves_bytes();
+    cow_pages::laws::a_heap_keeps_pages();
+    guest_kernel::laws::threads_are_few();
+    guest_kernel::laws::a_wake_is_of_the_lowest();
 }
 
 /// A run of slices from a state that has an encoding ends in one, if it has fewer than 2^64 steps.

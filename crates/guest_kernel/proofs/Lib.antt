@@ -4,6 +4,11 @@ mod Turns
 mod SliceRuns
 mod Stretches
 mod TurnTaken
-mod Lone
+mod Writes
 mod Joining
 mod RunBounds
+mod Waking
+mod Calls
+mod ThreadLists
+mod Running
+mod Reaching

@@ -1,6 +1,5 @@
 -- How far turns, slices and runs go: the steps that they count, and the bytes that they read and write.
 use Rattle.std.proofs.Common.{◌≡◌, ◌+◌, ◌*◌, ◌≤◌, ℕ, zero, suc, List, [], ◌∷◌, length, Option, Some, None, Result, Ok, Err, refl, subst, arith}
-use Rattle.std.specs.Prelude.{◌==◌}
 use Rattle.std.proofs.lemmas.Bool.{cond_both}
 use Rattle.std.proofs.lemmas.List.{length-append}
 use Rattle.std.proofs.lemmas.List.Sums.{sum_by-cons}
@@ -13,7 +12,7 @@ use Rattle.guest_state.specs.declared.hart.Hart.{Hart}
 use Rattle.guest_state.specs.declared.thread.Thread.{Thread}
 use Rattle.guest_state.specs.declared.thread.Thread.TheVariants.{Runs, Waits, Gone}
 use Rattle.guest_kernel.specs.declared.state.State.{State}
-use Rattle.guest_kernel.specs.Call.{After, Refusal, a0, a1, a2, a7, called}
+use Rattle.guest_kernel.specs.Call.{After, Refusal, a0, a1, a2, called, exits, sets_break, silent, spawns, waits}
 use Rattle.rv_step.specs.Effect.{Effect, goes, calls, traps}
 use Rattle.guest_kernel.specs.Slices.{at, joined, run, slice_ended, slices, turns}
 use Rattle.guest_kernel.specs.State.{dropping, has_ended}
@@ -21,9 +20,9 @@ use Rattle.rv_step.specs.Step.{effect}
 use Rattle.guest_kernel.specs.Threads.{thread_at}
 use Rattle.guest_kernel.specs.Turn.{by_effect, by_thread, turn}
 use Rattle.guest_kernel.proofs.Joining.{either_ok, whole_run}
-use Rattle.guest_kernel.proofs.Lone.{written_is_short}
+use Rattle.guest_kernel.proofs.Writes.{written_is_short}
 use Rattle.guest_kernel.proofs.SliceRuns.{without_reservation-steps}
-use Rattle.guest_kernel.proofs.Turns.{CountsOnce, turn_counts_once}
+use Rattle.guest_kernel.proofs.Turns.{CountsOnce, IsStill, called_by_row, exits_still, sets_break_still, spawns_still, turn_counts_once, waits_still}
 
 -- ---- a turn reads and writes at most 4,096 bytes
 
@@ -31,13 +30,15 @@ abbrev pub IsLittle : State → Result After Refusal → Type 0
 IsLittle s (Ok after) = (after.state.input ≤ s.input + MAX_CALL_BYTES) × (length after.output ≤ MAX_CALL_BYTES)
 IsLittle s (Err refusal) = Unit {0}
 
+little_by : (s left : State) (log : List Answer) → IsStill s left → IsLittle s (silent left log)
+little_by s left log is = (omega (arith, is.input), omega arith)
+
 called_is_little : (s : State) (tid : Tid) (hart : Hart) (clear : ℕ) (log : List Answer) → IsLittle s (called s tid hart clear log)
-called_is_little s tid hart clear log =
-    cond_both (a7 hart == 1) _ _ (IsLittle s)
-    (λ _. (omega arith, omega arith))
-    (λ _. cond_both (a7 hart == 2) _ _ (IsLittle s)
-    (λ _. (omega arith, written_is_short s.pages (a0 hart) (a1 hart) (a2 hart)))
-    (λ _. (omega arith, omega arith)))
+called_is_little s tid hart clear log = called_by_row (IsLittle s) s tid hart clear log
+    (little_by s (exits s tid hart clear) log (exits_still s tid hart clear)) (omega arith, omega arith)
+    (omega arith, written_is_short s.pages (a0 hart) (a1 hart) (a2 hart))
+    (little_by s (spawns s tid hart clear) log (spawns_still s tid hart clear)) (little_by s (waits s tid hart clear) log (waits_still s tid hart clear))
+    (omega arith, omega arith) (omega arith, omega arith) (little_by s (sets_break s tid hart clear) log (sets_break_still s tid hart clear)) (omega arith, omega arith) (omega arith, omega arith)
 
 by_effect_is_little : (s : State) (tid : Tid) (hart : Hart) (clear : ℕ) (log : List Answer) (e : Effect) → IsLittle s (by_effect s tid hart clear log e)
 by_effect_is_little s tid hart clear log (goes after memory) = (omega arith, omega arith)

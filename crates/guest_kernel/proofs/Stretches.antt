@@ -1,5 +1,5 @@
 -- Steps of a hart that all go on are turns of its thread.
-use Rattle.std.proofs.Common.{◌≡◌, ◌+◌, ◌-◌, ◌<◌, ℕ, zero, suc, Bool, true, false, cond, Option, Some, None, Result, Ok, Err, List, [], ◌∷◌, refl, sym, ap, ◌∙◌, arith}
+use Rattle.std.proofs.Common.{◌≡◌, ◌+◌, ◌-◌, ◌<◌, ℕ, zero, suc, Bool, true, false, cond, Option, Some, None, Result, Ok, Err, List, [], ◌∷◌, inl, inr, refl, sym, ap, subst, ◌∙◌, arith}
 use Rattle.std.specs.Prelude.{IfOk, OnErr, OnOk, slice_get, slice_set, ◌==◌}
 use Rattle.std.proofs.lemmas.List.{append-nil}
 use Rattle.dp_base.specs.declared.answer.Answer.{Answer}
@@ -8,7 +8,7 @@ use Rattle.dp_base.specs.declared.tid.Tid.{Tid}
 use Rattle.dp_base.specs.Memory.{Memory}
 use Rattle.guest_state.specs.declared.hart.Hart.{Hart}
 use Rattle.guest_state.specs.declared.thread.Thread.{Thread}
-use Rattle.guest_state.specs.declared.thread.Thread.TheVariants.{Runs}
+use Rattle.guest_state.specs.declared.thread.Thread.TheVariants.{Runs, Waits, Gone}
 use Rattle.rv_step.specs.Effect.{Effect, goes, calls, traps}
 use Rattle.rv_step.specs.declared.stepped.Stepped.{Stepped}
 use Rattle.rv_step.specs.declared.stepped.Stepped.TheVariants as answers
@@ -17,14 +17,15 @@ use Rattle.guest_kernel.specs.declared.state.State.{State}
 use Rattle.guest_kernel.specs.Call.{After, Refusal, not_runnable}
 use Rattle.guest_kernel.specs.Slices.{at, either, joined, turns}
 use Rattle.guest_kernel.specs.State.{has_ended, with_thread}
-use Rattle.guest_kernel.specs.Stretch.{HasStopped, going, one_more}
+use Rattle.guest_kernel.specs.Stretch.{GoesOn, HasStayed, HasStopped, ThreadGoesOn, going, one_more}
 use Rattle.guest_kernel.specs.Threads.{thread_at}
-use Rattle.guest_kernel.specs.Turn.{turn, by_thread, by_effect}
+use Rattle.guest_kernel.specs.Turn.{turn, by_thread, by_effect, thread_yields, yields, yields_by}
+use Rattle.std.proofs.lemmas.Bool.{cases_lt}
 use Rattle.guest_kernel.proofs.SliceRuns.{turns-add}
 
 -- ---- a thread in the place where it was
 
-slice_set_same : {X : Type 0} (xs : List X) (i : ℕ) (x : X) → slice_get xs i ≡ Some x → slice_set xs i x ≡ xs
+pub slice_set_same : {X : Type 0} (xs : List X) (i : ℕ) (x : X) → slice_get xs i ≡ Some x → slice_set xs i x ≡ xs
 slice_set_same [] i x is = refl
 slice_set_same (y ∷ ys) zero x is = let same : y ≡ x = cc in ap (λ z. z ∷ ys) (sym same)
 slice_set_same (y ∷ ys) (suc i) x is = ap (λ zs. y ∷ zs) (slice_set_same ys i x is)
@@ -111,6 +112,92 @@ turns_going zero s tid out log hart clear h m taken stands on =
     ap (λ (t : State). Ok (at t out log)) (moved_none s tid hart clear stands ∙ ap (λ (x : Hart). moved s tid x clear s.pages 0) same_hart ∙ ap (λ (x : Memory). moved s tid h clear x 0) same_memory)
 turns_going (suc n) s tid out log hart clear h m taken stands on =
     going_by s tid out log hart clear h m n taken (going n hart s.pages) stands (λ h1 m1 e. turns_going n s tid out log hart clear h1 m1 taken stands e) on
+
+-- ---- before its end a stretch has gone on too
+
+-- a place of a stretch from which it goes on
+pub record HasGoneOn (k : ℕ) (hart : Hart) (memory : Memory) : Type 0 where
+  pub there : Hart
+  pub behind : Memory
+  pub gone : going k hart memory ≡ goes there behind
+  pub next_hart : Hart
+  pub next_memory : Memory
+  pub more : effect there behind ≡ goes next_hart next_memory
+
+last_before : (e : Effect) (n : ℕ) (hart : Hart) (memory : Memory) (h : Hart) (m : Memory) → going n hart memory ≡ e → one_more e ≡ goes h m → HasGoneOn n hart memory
+last_before calls n hart memory h m is on = absurd cc
+last_before (traps c v) n hart memory h m is on = absurd cc
+last_before (goes h1 m1) n hart memory h m is on = record { there = h1; behind = m1; gone = is; next_hart = h; next_memory = m; more = on }
+
+earlier : (n k : ℕ) (hart : Hart) (memory : Memory) → HasGoneOn n hart memory → k < suc n → (k < n → HasGoneOn k hart memory) → HasGoneOn k hart memory
+earlier n k hart memory last within below =
+    elim (cases_lt k n) [ inl lt ↦ below lt | inr ge ↦ (let same : n ≡ k = omega (arith, ge, within) in subst (λ i. HasGoneOn i hart memory) same last) ]
+
+pub gone_before : (n k : ℕ) (hart : Hart) (memory : Memory) (h : Hart) (m : Memory) → going n hart memory ≡ goes h m → k < n → HasGoneOn k hart memory
+unfolding going
+gone_before zero k hart memory h m on within = absurd (omega (arith, within))
+gone_before (suc n) k hart memory h m on within =
+    let last = last_before (going n hart memory) n hart memory h m refl on in
+    earlier n k hart memory last within (λ lt. gone_before n k hart memory last.there last.behind last.gone lt)
+
+-- ---- what a thread that has gone on has done
+
+-- the state behind it
+abbrev pub gone_to : State → List Thread → Memory → ℕ → State
+gone_to s threads memory steps = record s { threads = threads; pages = memory; steps = s.steps + steps }
+
+stayed_to : (s : State) (steps : ℕ) (left : List Thread) (behind : Memory) → HasStayed s.threads s.pages steps left behind → gone_to s left behind steps ≡ s
+stayed_to s steps left behind stayed =
+    ap (λ (l : List Thread). record s { threads = l; pages = behind; steps = s.steps + steps }) stayed.left_is
+    ∙ ap (λ (m : Memory). record s { pages = m; steps = s.steps + steps }) stayed.same
+    ∙ ap (λ (n : ℕ). record s { steps = n }) (let none : s.steps + steps ≡ s.steps = omega (arith, stayed.none) in none)
+
+stayed_turns : (s : State) (tid : Tid) (out : List ℕ) (log : List Answer) (steps taken : ℕ) (left : List Thread) (behind : Memory) → HasStayed s.threads s.pages steps left behind
+    → turns taken steps tid (at s out log) ≡ Ok (at (gone_to s left behind steps) out log)
+unfolding turns
+stayed_turns s tid out log steps taken left behind stayed =
+    ap (λ (n : ℕ). turns taken n tid (at s out log)) stayed.none ∙ ap (λ (t : State). Ok (at t out log)) (sym (stayed_to s steps left behind stayed))
+
+gone_turns : (s : State) (tid : Tid) (out : List ℕ) (log : List Answer) (steps taken : ℕ) (left : List Thread) (behind : Memory) (t : Option Thread) → has_ended s.end ≡ false → thread_at s.threads tid ≡ t
+    → ThreadGoesOn s.threads s.pages tid steps left behind t → turns taken steps tid (at s out log) ≡ Ok (at (gone_to s left behind steps) out log)
+gone_turns s tid out log steps taken left behind None running there gone = stayed_turns s tid out log steps taken left behind gone
+gone_turns s tid out log steps taken left behind (Some (Waits addr hart clear)) running there gone = stayed_turns s tid out log steps taken left behind gone
+gone_turns s tid out log steps taken left behind (Some (Gone code)) running there gone = stayed_turns s tid out log steps taken left behind gone
+gone_turns s tid out log steps taken left behind (Some (Runs hart clear)) running there gone =
+    turns_going steps s tid out log hart clear gone.there behind taken (record { running = running; thread = there }) gone.gone
+    ∙ ap (λ (l : List Thread). Ok (at (gone_to s l behind steps) out log)) (sym gone.left_is)
+
+pub goes_on_turns : (s : State) (tid : Tid) (out : List ℕ) (log : List Answer) (steps taken : ℕ) (left : List Thread) (behind : Memory) → has_ended s.end ≡ false
+    → GoesOn s.threads s.pages tid steps left behind → turns taken steps tid (at s out log) ≡ Ok (at (gone_to s left behind steps) out log)
+goes_on_turns s tid out log steps taken left behind running gone = gone_turns s tid out log steps taken left behind (thread_at s.threads tid) running refl gone
+
+-- none of them is a yield
+moved_yields : (s : State) (tid : Tid) (hart : Hart) (clear : ℕ) (k : ℕ) → Stands s tid hart clear → (gone : HasGoneOn k hart s.pages) → yields (moved s tid gone.there clear gone.behind k) tid ≡ false
+unfolding yields
+moved_yields s tid hart clear k stands gone =
+    let there = (moved_stands s tid hart clear gone.there gone.behind k stands).thread in
+    ap (λ (t : Option Thread). thread_yields gone.behind t) there ∙ ap (λ (e : Effect). yields_by gone.there e) gone.more
+
+abbrev reached : After → Result After (ℕ × After) → After
+reached start (Ok there) = there
+reached start (Err stop) = start
+
+going_yields : (s : State) (tid : Tid) (hart : Hart) (clear : ℕ) (k : ℕ) (mid : After) → Stands s tid hart clear → HasGoneOn k hart s.pages → turns 0 k tid (at s [] []) ≡ Ok mid → yields mid.state tid ≡ false
+going_yields s tid hart clear k mid stands gone ran =
+    let same : at (moved s tid gone.there clear gone.behind k) [] [] ≡ mid = ap (λ r. reached mid r) (sym (turns_going k s tid [] [] hart clear gone.there gone.behind 0 stands gone.gone) ∙ ran) in
+    subst (λ (a : After). yields a.state tid ≡ false) same (moved_yields s tid hart clear k stands gone)
+
+gone_yields : (s : State) (tid : Tid) (steps k : ℕ) (mid : After) (left : List Thread) (behind : Memory) (t : Option Thread) → has_ended s.end ≡ false → thread_at s.threads tid ≡ t
+    → ThreadGoesOn s.threads s.pages tid steps left behind t → k < steps → turns 0 k tid (at s [] []) ≡ Ok mid → yields mid.state tid ≡ false
+gone_yields s tid steps k mid left behind None running there gone within ran = absurd (omega (arith, gone.none, within))
+gone_yields s tid steps k mid left behind (Some (Waits addr hart clear)) running there gone within ran = absurd (omega (arith, gone.none, within))
+gone_yields s tid steps k mid left behind (Some (Gone code)) running there gone within ran = absurd (omega (arith, gone.none, within))
+gone_yields s tid steps k mid left behind (Some (Runs hart clear)) running there gone within ran =
+    going_yields s tid hart clear k mid (record { running = running; thread = there }) (gone_before steps k hart s.pages gone.there behind gone.gone within) ran
+
+pub goes_on_yields : (s : State) (tid : Tid) (steps k : ℕ) (mid : After) (left : List Thread) (behind : Memory) → has_ended s.end ≡ false
+    → GoesOn s.threads s.pages tid steps left behind → k < steps → turns 0 k tid (at s [] []) ≡ Ok mid → yields mid.state tid ≡ false
+goes_on_yields s tid steps k mid left behind running gone within ran = gone_yields s tid steps k mid left behind (thread_at s.threads tid) running refl gone within ran
 
 -- turns behind the turns of a slice so far
 pub then_turns : (start a b : After) (n k : ℕ) (tid : Tid) → turns 0 n tid start ≡ Ok a → ((taken : ℕ) → turns taken k tid a ≡ Ok b) → turns 0 (n + k) tid start ≡ Ok b

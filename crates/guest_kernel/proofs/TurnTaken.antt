@@ -26,20 +26,20 @@ pub record IsRefused (s : State) (tid : Tid) (log : List Answer) (out : List ℕ
   pub stops : (taken left : ℕ) → turns taken (suc left) tid (at s out log) ≡ Err (taken, at s out log)
 
 abbrev pub IsNotStepped : Turn → Type 0
-IsNotStepped answer = (used : Bool) → answer ≡ answers.Stepped used → ⊥
+IsNotStepped answer = (used yielded : Bool) → answer ≡ answers.Stepped used yielded → ⊥
 
 -- the answer where a turn wasn't taken is none of `Stepped`
-refusal_answer : (prefix : List Answer) (x : Refusal) (used : Bool) → answers.Stepped used ≡ turn_answer prefix (Err x) → ⊥
-refusal_answer prefix not_runnable used e = cc
-refusal_answer prefix needs_answer used e = cc
-refusal_answer prefix wrong_answer used e = cc
+refusal_answer : (told : Bool) (prefix : List Answer) (x : Refusal) (used yielded : Bool) → answers.Stepped used yielded ≡ turn_answer told prefix (Err x) → ⊥
+refusal_answer told prefix not_runnable used yielded e = cc
+refusal_answer told prefix needs_answer used yielded e = cc
+refusal_answer told prefix wrong_answer used yielded e = cc
 
-by_result_taken : (s : State) (tid : Tid) (prefix log : List Answer) (out : List ℕ) (used : Bool) (s' : State) (out' : List ℕ) (r : Result After Refusal)
+by_result_taken : (s : State) (tid : Tid) (told : Bool) (prefix log : List Answer) (out : List ℕ) (used yielded : Bool) (s' : State) (out' : List ℕ) (r : Result After Refusal)
     → turn s tid log ≡ relogged log r → r ≡ relogged prefix r → CountsOnce s r
-    → answers.Stepped used ≡ turn_answer prefix r → s' ≡ state_after s r → out' ≡ output_after out r → IsTaken s tid log out used s' out'
+    → answers.Stepped used yielded ≡ turn_answer told prefix r → s' ≡ state_after s r → out' ≡ output_after out r → IsTaken s tid log out used s' out'
 unfolding turns
-by_result_taken s tid prefix log out used s' out' (Err x) by_log by_prefix counts answer state output = absurd (refusal_answer prefix x used answer)
-by_result_taken s tid prefix log out used s' out' (Ok after) by_log by_prefix counts answer state output =
+by_result_taken s tid told prefix log out used yielded s' out' (Err x) by_log by_prefix counts answer state output = absurd (refusal_answer told prefix x used yielded answer)
+by_result_taken s tid told prefix log out used yielded s' out' (Ok after) by_log by_prefix counts answer state output =
     let rest : after.rest ≡ prefix = cc in
     let tested : used ≡ nat_lt (length after.rest) (length prefix) = cc in
     record {
@@ -49,25 +49,25 @@ by_result_taken s tid prefix log out used s' out' (Ok after) by_log by_prefix co
       counts = ap (λ (t : State). t.steps) state ∙ counts;
     }
 
-pub turn_taken : (s : State) (tid : Tid) (prefix log : List Answer) (out : List ℕ) (used : Bool) (s' : State) (out' : List ℕ)
-    → answers.Stepped used ≡ turn_answer prefix (turn s tid prefix) → s' ≡ state_after s (turn s tid prefix) → out' ≡ output_after out (turn s tid prefix) → IsTaken s tid log out used s' out'
-turn_taken s tid prefix log out used s' out' answer state output =
-    by_result_taken s tid prefix log out used s' out' (turn s tid prefix) (turn-log s tid log prefix) (turn-log s tid prefix prefix) (turn_counts_once s tid prefix) answer state output
+pub turn_taken : (s : State) (tid : Tid) (told : Bool) (prefix log : List Answer) (out : List ℕ) (used yielded : Bool) (s' : State) (out' : List ℕ)
+    → answers.Stepped used yielded ≡ turn_answer told prefix (turn s tid prefix) → s' ≡ state_after s (turn s tid prefix) → out' ≡ output_after out (turn s tid prefix) → IsTaken s tid log out used s' out'
+turn_taken s tid told prefix log out used yielded s' out' answer state output =
+    by_result_taken s tid told prefix log out used yielded s' out' (turn s tid prefix) (turn-log s tid log prefix) (turn-log s tid prefix prefix) (turn_counts_once s tid prefix) answer state output
 
-by_result_refused : (s : State) (tid : Tid) (prefix log : List Answer) (out : List ℕ) (answer : Turn) (s' : State) (out' : List ℕ) (r : Result After Refusal)
-    → turn s tid log ≡ relogged log r → answer ≡ turn_answer prefix r → IsNotStepped answer → s' ≡ state_after s r → out' ≡ output_after out r → IsRefused s tid log out s' out'
+by_result_refused : (s : State) (tid : Tid) (told : Bool) (prefix log : List Answer) (out : List ℕ) (answer : Turn) (s' : State) (out' : List ℕ) (r : Result After Refusal)
+    → turn s tid log ≡ relogged log r → answer ≡ turn_answer told prefix r → IsNotStepped answer → s' ≡ state_after s r → out' ≡ output_after out r → IsRefused s tid log out s' out'
 unfolding turns
-by_result_refused s tid prefix log out answer s' out' (Ok after) by_log is not_stepped state output = absurd (not_stepped (nat_lt (length after.rest) (length prefix)) is)
-by_result_refused s tid prefix log out answer s' out' (Err x) by_log is not_stepped state output = record {
+by_result_refused s tid told prefix log out answer s' out' (Ok after) by_log is not_stepped state output = absurd (not_stepped (nat_lt (length after.rest) (length prefix)) told is)
+by_result_refused s tid told prefix log out answer s' out' (Err x) by_log is not_stepped state output = record {
   same = state;
   same_out = output;
   stops = λ taken left. ap (λ (q : Result After Refusal). either q (λ refusal. Err (taken, at s out log)) (λ (b : After). turns (taken + 1) left tid (joined (at s out log) b))) by_log;
 }
 
-pub turn_refused : (s : State) (tid : Tid) (prefix log : List Answer) (out : List ℕ) (answer : Turn) (s' : State) (out' : List ℕ)
-    → answer ≡ turn_answer prefix (turn s tid prefix) → IsNotStepped answer → s' ≡ state_after s (turn s tid prefix) → out' ≡ output_after out (turn s tid prefix) → IsRefused s tid log out s' out'
-turn_refused s tid prefix log out answer s' out' is not_stepped state output =
-    by_result_refused s tid prefix log out answer s' out' (turn s tid prefix) (turn-log s tid log prefix) is not_stepped state output
+pub turn_refused : (s : State) (tid : Tid) (told : Bool) (prefix log : List Answer) (out : List ℕ) (answer : Turn) (s' : State) (out' : List ℕ)
+    → answer ≡ turn_answer told prefix (turn s tid prefix) → IsNotStepped answer → s' ≡ state_after s (turn s tid prefix) → out' ≡ output_after out (turn s tid prefix) → IsRefused s tid log out s' out'
+turn_refused s tid told prefix log out answer s' out' is not_stepped state output =
+    by_result_refused s tid told prefix log out answer s' out' (turn s tid prefix) (turn-log s tid log prefix) is not_stepped state output
 
 -- ---- behind the turns of a slice so far
 

@@ -1,9 +1,10 @@
 pub mod Threads
 pub mod Stretch
 pub mod State
+pub mod Break
 pub mod Call
 pub mod Turn
+pub mod Peek
 pub mod Start
 pub mod Slices
 pub mod Stops
-pub mod Lone

@@ -1,9 +1,10 @@
 -- One turn of a thread. This machine's own.
-use Rattle.std.specs.Prelude.{ℕ, List, ◌++◌, length, Option, Some, None, Result, Ok, Err, nat_lt, if◌then◌else◌}
+use Rattle.std.specs.Prelude.{ℕ, Bool, false, ◌==◌, List, ◌++◌, length, Option, Some, None, Result, Ok, Err, nat_lt, if◌then◌else◌}
 use Rattle.std.specs.Option.{option_copied, option_to_list}
 use Rattle.std.specs.Borrow.{Bor}
 use Rattle.dp_base.specs.declared.answer.Answer.{Answer}
 use Rattle.dp_base.specs.declared.tid.Tid.{Tid}
+use Rattle.dp_base.specs.Memory.{Memory}
 use Rattle.guest_state.specs.declared.hart.Hart.{Hart}
 use Rattle.guest_kernel.specs.declared.kernel.Turn.{Turn}
 use Rattle.guest_kernel.specs.declared.kernel.Turn.TheVariants as answers
@@ -11,7 +12,7 @@ use Rattle.guest_state.specs.declared.thread.Thread.{Thread}
 use Rattle.guest_state.specs.declared.thread.Thread.TheVariants.{Runs, Waits, Gone}
 use Rattle.guest_kernel.specs.declared.state.State.{State}
 use Rattle.guest_state.specs.declared.end.End.TheVariants as ends
-use Rattle.guest_kernel.specs.Call.{After, Refusal, not_runnable, needs_answer, wrong_answer, silent, called}
+use Rattle.guest_kernel.specs.Call.{After, Refusal, not_runnable, needs_answer, wrong_answer, a7, silent, called}
 use Rattle.rv_step.specs.Effect.{Effect, goes, calls, traps}
 use Rattle.guest_kernel.specs.State.{has_ended, with_thread}
 use Rattle.rv_step.specs.Step.{effect}
@@ -33,16 +34,32 @@ by_thread s tid log (Some (Gone code)) = Err not_runnable
 unfoldable pub turn : State → Tid → List Answer → Result After Refusal
 turn s tid log = if has_ended s.end then Err not_runnable else by_thread s tid log (thread_at s.threads tid)
 
+-- whether the call at which a thread stands is a yield
+abbrev pub yields_by : Hart → Effect → Bool
+yields_by hart (goes after memory) = false
+yields_by hart calls = a7 hart == 7
+yields_by hart (traps cause value) = false
+
+abbrev pub thread_yields : Memory → Option Thread → Bool
+thread_yields memory None = false
+thread_yields memory (Some (Runs hart clear)) = yields_by hart (effect hart memory)
+thread_yields memory (Some (Waits addr hart clear)) = false
+thread_yields memory (Some (Gone code)) = false
+
+-- whether a thread's next turn is a yield
+unfoldable pub yields : State → Tid → Bool
+yields s tid = thread_yields s.pages (thread_at s.threads tid)
+
 -- the log that one answer makes, or none
 abbrev pub log_of : Option (Bor Answer) → List Answer
 log_of answer = option_to_list (option_copied answer)
 
--- the answer of `State::turn`
-abbrev pub turn_answer : List Answer → Result After Refusal → Turn
-turn_answer log (Ok after) = answers.Stepped (nat_lt (length after.rest) (length log))
-turn_answer log (Err not_runnable) = answers.NotRunnable
-turn_answer log (Err needs_answer) = answers.NeedsAnswer
-turn_answer log (Err wrong_answer) = answers.WrongAnswer
+-- the answer of `State::turn`, for a turn that is a yield or isn't
+abbrev pub turn_answer : (yielded : Bool) → List Answer → Result After Refusal → Turn
+turn_answer yielded log (Ok after) = answers.Stepped (nat_lt (length after.rest) (length log)) yielded
+turn_answer yielded log (Err not_runnable) = answers.NotRunnable
+turn_answer yielded log (Err needs_answer) = answers.NeedsAnswer
+turn_answer yielded log (Err wrong_answer) = answers.WrongAnswer
 
 -- the state and the output behind it; where it isn't defined, they are those before it
 abbrev pub state_after : State → Result After Refusal → State

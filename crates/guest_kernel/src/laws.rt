@@ -1,7 +1,7 @@
 //! What follows from the definitions alone. Each function's contract is a law over all guests, states, slices and
 //! logs; a call of it costs nothing and hands the law to the caller's proof.
 
-ghost use Rattle.std.specs.Prelude.{All, ◌≡◌, ◌+◌, ◌*◌, ◌≤◌, ◌++◌, ℕ, List, [], ◌∷◌, length, true, false, Ok, Err};
+ghost use Rattle.std.specs.Prelude.{◌<◌, Some, count_by, take, nat_lt, ◌&&◌, slice_get, if◌then◌else◌, All, ◌≡◌, ◌+◌, ◌*◌, ◌≤◌, ◌++◌, ℕ, List, [], ◌∷◌, length, true, false, Ok, Err};
 ghost use Rattle.dp_base.specs.declared.answer.Answer.{Answer};
 ghost use Rattle.dp_base.specs.declared.limits.TheConstants.{MAX_CALL_BYTES};
 ghost use Rattle.dp_base.specs.declared.slice.Slice.{Slice};
@@ -11,13 +11,18 @@ ghost use Rattle.dp_base.specs.Journal.{Epoch, steps_of};
 ghost use Rattle.dp_base.specs.Memory.{ArePages};
 ghost use Rattle.elf_image.specs.declared.image.Image.{Image};
 ghost use Rattle.elf_image.specs.Image.{IsImageOf};
+ghost use Rattle.guest_state.specs.Checkpoint.{is_alive};
+ghost use Rattle.guest_state.specs.declared.end.End.TheVariants as ends;
 ghost use Rattle.guest_state.specs.declared.hart.Hart.{Hart};
+ghost use Rattle.guest_kernel.specs.Threads.{AreFew, awake, is_running, runs_at, thread_at, waits_on, woken};
+ghost use Rattle.std.specs.List.{AllByRecursion, list_any};
 ghost use Rattle.guest_kernel.specs.declared.state.State.{State};
+ghost use Rattle.guest_state.specs.declared.thread.Thread.{Thread};
+ghost use Rattle.guest_state.specs.declared.thread.Thread.TheVariants.{Gone};
 ghost use Rattle.guest_kernel.specs.Call.{After, Refusal, not_runnable};
-ghost use Rattle.guest_kernel.specs.Lone.{RunsAlone};
 ghost use Rattle.guest_state.specs.Register.{register, with_register};
 ghost use Rattle.guest_kernel.specs.Slices.{at, either, joined, turns, run, chain, chained, one_slice, slice_ended};
-ghost use Rattle.guest_kernel.specs.Start.{IsGuestFile, start_of, start_state, first_thread};
+ghost use Rattle.guest_kernel.specs.Start.{IsGuestFile, start_of, start_state};
 ghost use Rattle.guest_kernel.specs.State.{has_ended, without_reservation};
 ghost use Rattle.guest_kernel.specs.Turn.{turn, state_after};
 
@@ -47,6 +52,69 @@ pub fn a_turn_reads_and_writes_little()
 pub fn an_ended_guest_has_no_turn()
     ensures { (s : State) (tid : Tid) (log : List Answer) →
         has_ended s.end ≡ true → turn s tid log ≡ Err not_runnable }
+{}
+
+/// A turn is of a thread that runs, in a guest that hasn't ended.
+pub fn a_turn_is_of_a_thread_that_runs()
+    ensures going { (s : State) (tid : Tid) (log : List Answer) (after : After) →
+        turn s tid log ≡ Ok after → has_ended s.end ≡ false }
+    ensures runs { (s : State) (tid : Tid) (log : List Answer) (after : After) →
+        turn s tid log ≡ Ok after → runs_at s.threads tid ≡ true }
+    ensures some { (s : State) (tid : Tid) → runs_at s.threads tid ≡ true → list_any is_running s.threads ≡ true }
+{}
+
+/// In a guest that hasn't ended a thread that runs has a turn. No call takes an answer.
+pub fn a_thread_that_runs_has_a_turn()
+    ensures { (s : State) (tid : Tid) (log : List Answer) → has_ended s.end ≡ false → runs_at s.threads tid ≡ true →
+        (after : After) × (turn s tid log ≡ Ok after) × (after.rest ≡ log) }
+{}
+
+/// While a guest hasn't ended a thread runs: so it is at its start, and behind each turn. It is a deadlock where none runs and one is
+/// alive. The end of a slice changes nothing of this.
+pub fn a_guest_goes_on_while_a_thread_runs()
+    ensures start { (file : List ℕ) → list_any is_running (start_state file).threads ≡ true }
+    ensures turn { (s : State) (tid : Tid) (log : List Answer) (after : After) → turn s tid log ≡ Ok after →
+        has_ended after.state.end ≡ false → list_any is_running after.state.threads ≡ true }
+    ensures deadlock { (s : State) (tid : Tid) (log : List Answer) (after : After) → turn s tid log ≡ Ok after →
+        after.state.end ≡ ends.Deadlock → (list_any is_running after.state.threads ≡ false)
+        × (list_any is_alive after.state.threads ≡ true) }
+    ensures run { (s : State) (slices : List Slice) (log : List Answer) (there : After) →
+        run slices (at s [] log) ≡ Ok there → (has_ended s.end ≡ false → list_any is_running s.threads ≡ true) →
+        has_ended there.state.end ≡ false → list_any is_running there.state.threads ≡ true }
+    ensures slice { (s : State) (tid : Tid) →
+        list_any is_running (without_reservation s tid).threads ≡ list_any is_running s.threads }
+{}
+
+/// A wake on an address makes exactly those threads run that wait on it and before which fewer wait than it may wake: the waiters of
+/// lowest number, or all where there are fewer. It changes no other thread.
+pub fn a_wake_is_of_the_lowest()
+    ensures threads { (addr count : ℕ) (threads : List Thread) (i : ℕ) (t : Thread) → slice_get threads i ≡ Some t →
+        slice_get (woken addr count threads) i
+        ≡ Some (if waits_on addr t && nat_lt (count_by (waits_on addr) (take i threads)) count then awake t else t) }
+    ensures number { (addr count : ℕ) (threads : List Thread) → length (woken addr count threads) ≡ length threads }
+{}
+
+/// A thread that has gone stays gone, with its code, through every turn and every run: it never runs again.
+pub fn a_thread_that_has_gone_stays_gone()
+    ensures turn { (s : State) (tid other : Tid) (log : List Answer) (after : After) (code : ℕ) → turn s tid log ≡ Ok after →
+        thread_at s.threads other ≡ Some (Gone code) → thread_at after.state.threads other ≡ Some (Gone code) }
+    ensures run { (s : State) (slices : List Slice) (log : List Answer) (there : After) (other : Tid) (code : ℕ) →
+        run slices (at s [] log) ≡ Ok there →
+        thread_at s.threads other ≡ Some (Gone code) → thread_at there.state.threads other ≡ Some (Gone code) }
+{}
+
+/// In every state that a run reaches at most 1,024 threads were made and at most 64 are alive, if it was so at its start, as it is
+/// at a guest's. The threads of a run's slices were all made.
+pub fn threads_are_few()
+    ensures start { (file : List ℕ) → AreFew (start_state file).threads }
+    ensures turn { (s : State) (tid : Tid) (log : List Answer) (after : After) → turn s tid log ≡ Ok after →
+        AreFew s.threads → AreFew after.state.threads }
+    ensures slice { (s : State) (tid : Tid) → AreFew s.threads → AreFew (without_reservation s tid).threads }
+    ensures run { (s : State) (slices : List Slice) (log : List Answer) (there : After) →
+        run slices (at s [] log) ≡ Ok there → AreFew s.threads → AreFew there.state.threads }
+    ensures made { (s : State) (slices : List Slice) (log : List Answer) (there : After) →
+        run slices (at s [] log) ≡ Ok there →
+        AllByRecursion (λ x. 0 < x.steps → x.tid.0 ≤ length there.state.threads) slices }
 {}
 
 /// A run takes as many steps as its slices have, uses its answers up, and reads and writes at most 4,096 bytes a step.
@@ -89,16 +157,6 @@ pub fn a_guest_starts_with_pages()
     elf_image::laws::page_flags_are_three_bits();
     elf_image::laws::a_page_of_a_file_is_bytes();
 }
-
-/// A guest whose one thread runs: it has a turn until it ends, which takes no answer and writes at most 4,096 bytes, and
-/// its thread still runs behind the turn and behind the end of a slice.
-pub fn a_lone_thread_goes_on()
-    ensures start { (file : List ℕ) → RunsAlone (start_state file) }
-    ensures turn { (s : State) (log : List Answer) → RunsAlone s → has_ended s.end ≡ false →
-        (after : After) × (turn s first_thread log ≡ Ok after) × RunsAlone after.state
-        × (length after.output ≤ MAX_CALL_BYTES) × (after.rest ≡ log) }
-    ensures slice { (s : State) → RunsAlone s → RunsAlone (without_reservation s first_thread) }
-{}
 
 /// A turn behind some turns of its thread is one turn more.
 pub fn turns_count_on()

@@ -16,8 +16,11 @@
 //! ```
 #![tactic(auto)]
 
+mod call;
+mod heap;
 mod kernel;
 pub mod laws;
+mod peek;
 mod slices;
 mod start_state;
 mod state;
@@ -28,14 +31,25 @@ pub use cow_pages::Pages;
 pub use elf_image::{Image, ImageFault, Segment, Segments, load};
 pub use guest_state::{End, Hart, Thread};
 pub use kernel::Turn;
+pub use peek::Peek;
 pub use slices::SliceRun;
 pub use start_state::{start, start_from_file};
 pub use state::State;
 pub use threads::Threads;
 
 #[cfg(test)]
+mod call_tests;
+#[cfg(test)]
+mod futex_tests;
+#[cfg(test)]
+mod heap_tests;
+#[cfg(test)]
 mod start_tests;
 #[cfg(test)]
 mod tests;
 #[cfg(test)]
+mod thread_tests;
+#[cfg(test)]
 mod worked_chains;
+#[cfg(test)]
+mod worked_peeks;

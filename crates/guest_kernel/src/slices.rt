@@ -1,15 +1,15 @@
 // Runs of slices, as a journal has them.
-ghost use Rattle.std.specs.Prelude.{◌≡◌, ◌+◌, ◌<◌, ◌≤◌, ◌^◌, ℕ, List, IfOk, OnErr, Ok, length, drop};
+ghost use Rattle.std.specs.Prelude.{◌≡◌, ◌+◌, ◌<◌, ◌≤◌, ◌^◌, ℕ, false, List, [], IfOk, OnErr, Ok, length, drop};
 ghost use Rattle.dp_base.specs.declared.answer.Answer.{Answer};
 ghost use Rattle.dp_base.specs.Journal.{steps_of};
+ghost use Rattle.guest_kernel.specs.Call.{After};
 ghost use Rattle.guest_kernel.specs.Slices.{at, turns, run};
+ghost use Rattle.guest_kernel.specs.Turn.{yields};
 ghost use Rattle.guest_kernel.specs.Stops.{at_step, IsRunAnswer, IsAfterSome, IsAfterTurns};
 
 use crate::kernel::Turn;
 use crate::state::State;
-use crate::stretch::go;
 use dp_base::{Answer, OutOfMemory, Slice, Tid};
-use guest_state::Thread;
 use std::alloc::Global;
 
 /// How far a run of slices came.
@@ -81,7 +81,7 @@ impl State {
             if step == slice.steps {
                 break;
             }
-            let Turn::Stepped { used } = self.turn(alloc, slice.tid, answers.get(*taken), out)?
+            let Turn::Stepped { used, .. } = self.turn(alloc, slice.tid, answers.get(*taken), out)?
             else {
                 return Ok(Some(step));
             };
@@ -93,25 +93,22 @@ impl State {
         Ok(None)
     }
 
-    // Takes turns of a thread while its hart goes on, at most so many. Returns how many were taken.
-    #[tactic(auto, using(crate::proofs::Stretches::thread_set_same), unfolding(crate::specs::Slices::turns))]
-    fn go_on(&mut self, tid: Tid, limit: u32) -> u32
+    /// Takes turns of a thread while they are plain steps of its hart, at most so many. Returns how many were taken, 0 where the
+    /// thread has none: a turn that is a call, a trap or in want of memory isn't taken. None of them writes, takes an answer or is
+    /// a yield.
+    pub fn go_on(&mut self, tid: Tid, limit: u32) -> u32
         requires { self.old.steps + limit < 2 ^ 64 }
         ensures within { result ≤ limit }
         ensures turns { (taken : ℕ) (out : List ℕ) (log : List Answer) →
             turns taken result tid (at self.old out log) ≡ Ok (at self.new out log) }
+        ensures no_yield { (count : ℕ) (mid : After) → count < result →
+            turns 0 count tid (at self.old [] []) ≡ Ok mid → yields mid.state tid ≡ false }
         ensures steps { self.new.steps ≡ self.old.steps + result }
     {
         if self.ended() {
             return 0;
         }
-        let Some(thread) = self.threads.get_mut(tid) else {
-            return 0;
-        };
-        let Thread::Runs { hart, .. } = thread else {
-            return 0;
-        };
-        let steps = go(hart, &mut self.pages, limit).steps;
+        let steps = self.threads.go_on(tid, &mut self.pages, limit);
         self.steps += u64::from(steps);
         steps
     }

@@ -247,7 +247,16 @@ fn a_segment_that_fills_its_page(rt: HostRuntime) -> Result<(), Fail> {
     assert_eq!(rt; state.pages.flags(0x20), Some(7));
     let mut out = Vec::new(alloc);
     let answer = state.turn(alloc, Tid(1), None, &mut out)?;
-    assert_eq!(rt; (answer, state.steps), (Turn::Stepped { used: false }, 1));
+    assert_eq!(rt;
+        (answer, state.steps),
+        (
+            Turn::Stepped {
+                used: false,
+                yielded: false
+            },
+            1
+        )
+    );
     assert_eq!(rt; state.end, trap(0, 0x20001));
     Ok(())
 }

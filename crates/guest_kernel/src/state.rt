@@ -1,11 +1,12 @@
 // A guest between two turns.
-ghost use Rattle.std.specs.Prelude.{◌≡◌};
+ghost use Rattle.std.specs.Prelude.{◌≡◌, IfOk};
 ghost use Rattle.guest_kernel.specs.State.{has_ended, without_reservation};
 
 use crate::threads::Threads;
 use cow_pages::Pages;
-use dp_base::Tid;
+use dp_base::{OutOfMemory, Tid};
 use guest_state::{End, Thread};
+use std::alloc::Global;
 
 /// A guest: its memory, its threads, and how far it is.
 #[derive(Drop)]
@@ -30,6 +31,23 @@ impl State {
         ensures { result ≡ has_ended self.now.end }
     {
         !matches!(self.end, End::None)
+    }
+
+    /// Returns an equal state. What one does isn't seen in the other.
+    pub fn share(&self, alloc: Global) -> Result<State, OutOfMemory>
+        ensures { IfOk result (λ state. state ≡ self.now) }
+    {
+        let pages = self.pages.share(alloc)?;
+        let threads = self.threads.share(alloc)?;
+        Ok(State {
+            pages,
+            heap: self.heap,
+            brk: self.brk,
+            threads,
+            input: self.input,
+            steps: self.steps,
+            end: self.end,
+        })
     }
 
     /// Drops a thread's reservation, as a slice's end does. All else stays.
@@ -61,7 +79,6 @@ mod tests {
     use super::*;
     use crate::kernel::Turn;
     use guest_state::Hart;
-    use std::alloc::Global;
     use std::test::Fail;
 
     fn state_of(alloc: Global, thread: Thread) -> Result<State, Fail> {

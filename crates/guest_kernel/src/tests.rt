@@ -103,8 +103,8 @@ fn guests_end(rt: HostRuntime) -> Result<(), Fail> {
         // no word at all: the zeros behind the headers
         (&[], 0, trap(2, 0), 0x10054),
         (&longest, 979, trap(2, 0), 0x10fa0),
-        // x17 is 0, which is no call; the next word is no instruction
-        (&[0x73], 1, trap(2, 0), 0x10058),
+        // addi x17, x0, 11, which is no call; the word behind it is no instruction
+        (&[0x00b0_0893, 0x73], 2, trap(2, 0), 0x1005c),
     ];
     for (words, before, end, pc) in cases {
         let steps = u32::from(before) + 1;
@@ -135,11 +135,11 @@ fn registers(rt: HostRuntime) -> Result<(), Fail> {
         (&[ADDI_TO_X0, 0x8000_00b7], 1, 0x8000_0000),
         // lui x0, 0x10 behind addi x1, x0, 3
         (&[0x0030_0093, 0x0001_0037], 1, 3),
-        // addi x17, x0, 5; ecall: no such call, and its number stays
-        (&[0x0050_0893, 0x0000_0073], 10, 0xffff_ffda),
-        (&[0x0050_0893, 0x0000_0073], 17, 5),
-        // x17 is 0: no such call here
-        (&[0x0070_0513, 0x0000_0073], 10, 0xffff_ffda),
+        // addi x17, x0, 11; ecall: no such call, and its number stays
+        (&[0x00b0_0893, 0x0000_0073], 10, 0xffff_ffda),
+        (&[0x00b0_0893, 0x0000_0073], 17, 11),
+        // addi x17, x0, -1; ecall
+        (&[0xfff0_0893, 0x0000_0073], 10, 0xffff_ffda),
     ];
     for (words, number, value) in cases {
         let (state, _) = after(alloc, words, 2)?;
@@ -161,7 +161,7 @@ fn ran(alloc: Global, slices: &[Slice], answers: &[Answer]) -> Result<(SliceRun,
     Ok((run, state.steps))
 }
 
-fn slice(tid: u16, steps: u32) -> Slice {
+pub(crate) fn slice(tid: u16, steps: u32) -> Slice {
     Slice {
         tid: Tid(tid),
         steps,
@@ -191,7 +191,10 @@ fn turns(rt: HostRuntime) -> Result<(), Fail> {
     let alloc = rt.alloc();
     let mut state = started(alloc, &EXIT_SEVEN)?;
     let mut out = Vec::new(alloc);
-    let went = Turn::Stepped { used: false };
+    let went = Turn::Stepped {
+        used: false,
+        yielded: false,
+    };
     for (tid, answer) in [
         (0, Turn::NotRunnable),
         (2, Turn::NotRunnable),

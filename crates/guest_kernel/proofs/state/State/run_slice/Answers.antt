@@ -1,7 +1,7 @@
 use Rattle.std.proofs.Common.{◌≡◌, ◌+◌, ℕ, drop, refl, sym, ap, ◌∙◌, arith}
 use Rattle.std.proofs.lemmas.Result.{err_from_is_err_and}
 use Rattle.guest_kernel.specs.Slices.{at, turns}
-use Rattle.guest_kernel.specs.Turn.{log_of}
+use Rattle.guest_kernel.specs.Turn.{log_of, yields}
 use Rattle.guest_kernel.proofs.Stretches.{then_turns}
 use Rattle.guest_kernel.proofs.TurnTaken.{turn_taken, turn_refused, one_more, stops_here}
 use Rattle.guest_kernel.proofs.state.State.run_slice.Goals as goal
@@ -35,7 +35,7 @@ returns-in_default c =
     let start = at c.args.self.now c.args.out.now.items (drop c.args.taken.now c.args.answers.now) in
     let s = c.go_on-step.new.self in
     let gone = then_turns start (at l.self l.out.items log) (at s l.out.items log) l.step c.go_on-step.result c.args.slice.tid l.invariant.so_far (λ taken. c.go_on-step.ensures.turns taken l.out.items log) in
-    let refused = turn_refused s c.args.slice.tid (log_of c.get.result) log l.out.items c.in_ok-used.field-0 c.turn.new.self c.turn.new.out.items
+    let refused = turn_refused s c.args.slice.tid (yields s c.args.slice.tid) (log_of c.get.result) log l.out.items c.in_ok-used.field-0 c.turn.new.self c.turn.new.out.items
     c.in_ok-used.ensures.answer c.in_default.not-Stepped c.in_ok-used.ensures.state c.in_ok-used.ensures.output in
     record {
       within = l.invariant.within;
@@ -51,7 +51,7 @@ loop-step-preserved c =
     let start = at c.args.self.now c.args.out.now.items (drop c.args.taken.now c.args.answers.now) in
     let s = c.go_on-step.new.self in
     let gone = then_turns start (at l.self l.out.items log) (at s l.out.items log) l.step c.go_on-step.result c.args.slice.tid l.invariant.so_far (λ taken. c.go_on-step.ensures.turns taken l.out.items log) in
-    let taken = turn_taken s c.args.slice.tid (log_of c.get.result) log l.out.items c.in-Stepped.used c.turn.new.self c.turn.new.out.items
+    let taken = turn_taken s c.args.slice.tid (yields s c.args.slice.tid) (log_of c.get.result) log l.out.items c.in-Stepped.used _ c.turn.new.self c.turn.new.out.items
     (sym c.in-Stepped.is ∙ c.in_ok-used.ensures.answer) c.in_ok-used.ensures.state c.in_ok-used.ensures.output in
     elim c.if-used.branch [
       | then-used w ↦ let yes = w.if-used.true in let no = taken.unused in absurd cc

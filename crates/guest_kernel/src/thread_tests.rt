@@ -1,0 +1,333 @@
+// Threads that are made, and the calls that name and yield one, each worked out by hand; and a guest of two threads.
+ghost use Rattle.std.specs.Prelude.{◌≡◌, ◌<◌, ◌^◌, IfOk};
+ghost use Rattle.dp_base.specs.Journal.{steps_of};
+
+use super::*;
+use crate::tests::{hart_of, slice, started};
+use dp_base::limits::MAX_THREADS;
+use dp_base::{Slice, Tid};
+use std::alloc::Global;
+use std::test::Fail;
+
+// ecall; addi x0, x0, 0; EBREAK
+const CODE: [u8; 12] = [0x73, 0, 0, 0, 0x13, 0, 0, 0, 0x73, 0, 0x10, 0];
+
+// `CODE` is at 00010000.
+fn state_of(alloc: Global, threads: Threads) -> Result<State, Fail>
+    ensures { IfOk result (λ state. state.steps ≡ 0) }
+{
+    let mut pages = Pages::new(alloc)?;
+    pages.map_above(0x10, 1, &CODE)?;
+    Ok(State {
+        pages,
+        heap: 0x11000,
+        brk: 0x11000,
+        threads,
+        input: 0,
+        steps: 0,
+        end: End::None,
+    })
+}
+
+// spawn(23456789, 9abcdef0, 11223344, 55667788)
+fn spawner() -> Hart {
+    let mut hart = Hart {
+        pc: 0x10000,
+        x: [7; 31],
+        held: Some(4),
+    };
+    hart.set_register(10, 0x2345_6789);
+    hart.set_register(11, 0x9abc_def0);
+    hart.set_register(12, 0x1122_3344);
+    hart.set_register(13, 0x5566_7788);
+    hart.set_register(17, 4);
+    hart
+}
+
+// A guest's threads: so many that have gone, so many that wait, so many that run, and one that calls spawn.
+fn threads_of(alloc: Global, gone: usize, waiting: usize, running: usize) -> Result<Threads, Fail> {
+    let hart = spawner();
+    let mut items = Vec::new(alloc);
+    items.resize(gone.min(1024), Thread::Gone(3))?;
+    for _ in 0..waiting {
+        items.push(Thread::Waits {
+            addr: 8,
+            hart,
+            clear: 0,
+        })?;
+    }
+    for _ in 0..running {
+        items.push(Thread::Runs { hart, clear: 0 })?;
+    }
+    items.push(Thread::Runs { hart, clear: 12 })?;
+    if items.len() > MAX_THREADS {
+        return Err("there aren't so many".into());
+    }
+    Ok(Threads::from_vec(items))
+}
+
+// What a spawn comes to: the answer, how many threads were made, and how many are alive.
+fn spawned(
+    alloc: Global,
+    gone: usize,
+    waiting: usize,
+    running: usize,
+) -> Result<(u32, usize, usize), Fail> {
+    let threads = threads_of(alloc, gone, waiting, running)?;
+    let tid = Tid(threads.len() as u16);
+    let mut state = state_of(alloc, threads)?;
+    let mut out = Vec::new(alloc);
+    state.turn(alloc, tid, None, &mut out)?;
+    match state.threads.get(tid) {
+        Some(Thread::Runs { hart, clear: 12 }) if hart.pc == 0x10004 => {
+            let (made, alive) = (state.threads.len(), state.threads.alive());
+            Ok((hart.register(10), made, alive))
+        }
+        _ => Err("the thread goes on behind its call".into()),
+    }
+}
+
+#[test]
+fn spawns(rt: HostRuntime) -> Result<(), Fail> {
+    // how many have gone, wait and run beside the one that calls; the answer, how many were made, and how many are alive
+    let cases = [
+        (0, 0, 0, 2, 2, 2),
+        (0, 0, 62, 64, 64, 64),
+        (0, 0, 63, 0xffff_fff5, 64, 64),
+        (0, 62, 0, 64, 64, 64),
+        (0, 63, 0, 0xffff_fff5, 64, 64),
+        (0, 31, 31, 64, 64, 64),
+        (0, 32, 31, 0xffff_fff5, 64, 64),
+        (5, 0, 62, 69, 69, 64),
+        (5, 0, 63, 0xffff_fff5, 69, 64),
+        (1022, 0, 0, 1024, 1024, 2),
+        (1023, 0, 0, 0xffff_fff5, 1024, 1),
+        (960, 0, 62, 1024, 1024, 64),
+        (960, 0, 63, 0xffff_fff5, 1024, 64),
+    ];
+    for (gone, waiting, running, answer, made, alive) in cases {
+        let found = spawned(rt.alloc(), gone, waiting, running)?;
+        assert_eq!(rt; found, (answer, made, alive), "{gone} have gone");
+    }
+    Ok(())
+}
+
+#[test]
+fn the_thread_that_is_made(rt: HostRuntime) -> Result<(), Fail> {
+    let alloc = rt.alloc();
+    let mut state = state_of(alloc, threads_of(alloc, 2, 1, 0)?)?;
+    let mut out = Vec::new(alloc);
+    state.turn(alloc, Tid(4), None, &mut out)?;
+    // x2 is at place 1, x10 at place 9
+    let made = Hart {
+        pc: 0x2345_6789,
+        x: [
+            0,
+            0x9abc_def0,
+            0,
+            0,
+            0,
+            0,
+            0,
+            0,
+            0,
+            0x1122_3344,
+            0,
+            0,
+            0,
+            0,
+            0,
+            0,
+            0,
+            0,
+            0,
+            0,
+            0,
+            0,
+            0,
+            0,
+            0,
+            0,
+            0,
+            0,
+            0,
+            0,
+            0,
+        ],
+        held: None,
+    };
+    let made = Thread::Runs {
+        hart: made,
+        clear: 0x5566_7788,
+    };
+    assert!(rt;
+        state
+            .threads
+            .get(Tid(5))
+            .is_some_and(|thread| *thread == made)
+    );
+    // the spawner has its answer
+    let mut hart = spawner();
+    hart.pc = 0x10004;
+    hart.set_register(10, 5);
+    let spawner = Thread::Runs { hart, clear: 12 };
+    assert!(rt;
+        state
+            .threads
+            .get(Tid(4))
+            .is_some_and(|thread| *thread == spawner)
+    );
+    assert_eq!(rt; (state.end, state.steps), (End::None, 1));
+    Ok(())
+}
+
+// What a turn of thread 3 comes to, which stands there with this x17: whether it is a yield, and x10 behind it.
+fn turned(alloc: Global, pc: u32, number: u32) -> Result<(bool, u32), Fail> {
+    let mut threads = threads_of(alloc, 1, 0, 1)?;
+    let mut hart = Hart {
+        pc,
+        x: [0x99; 31],
+        held: None,
+    };
+    hart.set_register(17, number);
+    if threads.len() == 3 {
+        threads.set(Tid(3), Thread::Runs { hart, clear: 12 });
+    }
+    let mut state = state_of(alloc, threads)?;
+    let mut out = Vec::new(alloc);
+    let Turn::Stepped {
+        used: false,
+        yielded,
+    } = state.turn(alloc, Tid(3), None, &mut out)?
+    else {
+        return Err("a turn without an answer".into());
+    };
+    let a0 = match state.threads.get(Tid(3)) {
+        Some(Thread::Runs { hart, .. }) => hart.register(10),
+        _ => 0x99,
+    };
+    Ok((yielded, a0))
+}
+
+#[test]
+fn yields_and_numbers(rt: HostRuntime) -> Result<(), Fail> {
+    // pc, x17; whether the turn is a yield, and x10 behind it
+    let cases = [
+        (0x10000, 7, true, 0),
+        // gettid
+        (0x10000, 10, false, 3),
+        // the other calls: two exits, a write to file 99, a spawn, a wait on 99, which is no multiple of 4, a wake, and a break below
+        // the heap
+        (0x10000, 0, false, 0x99),
+        (0x10000, 1, false, 0x99),
+        (0x10000, 2, false, 0xffff_fff7),
+        (0x10000, 4, false, 4),
+        (0x10000, 5, false, 0xffff_ffea),
+        (0x10000, 6, false, 0),
+        (0x10000, 9, false, 0x11000),
+        // no calls
+        (0x10000, 11, false, 0xffff_ffda),
+        (0x10000, 0x107, false, 0xffff_ffda),
+        (0x10000, 0x8000_0007, false, 0xffff_ffda),
+        (0x10000, 0xffff_ffff, false, 0xffff_ffda),
+        // a plain instruction, and a trap
+        (0x10004, 7, false, 0x99),
+        (0x10008, 7, false, 0x99),
+    ];
+    for (pc, number, yielded, a0) in cases {
+        let found = turned(rt.alloc(), pc, number)?;
+        assert_eq!(rt; found, (yielded, a0), "{number:x} at {pc:x}");
+    }
+    Ok(())
+}
+
+// A guest of two threads. Thread 1, from 00010054 on: addi x5, x0, 1; sw x5, 0(x2); lui x10, 0x10; addi x10, x10, 0x90;
+// addi x13, x2, 0; addi x17, x0, 4; ecall: spawn(10090, 0, 0, x2). Then addi x10, x2, 0; addi x11, x0, 1; addi x17, x0, 5; ecall:
+// futex_wait(x2, 1). Then lw x10, 0(x2); addi x10, x10, 7; addi x17, x0, 1; ecall: exit_all with 7 more than the word.
+// Thread 2, from 00010090 on: addi x10, x0, 3; ecall: exit_thread(3).
+const TWO_THREADS: [u32; 17] = [
+    0x0010_0293,
+    0x0051_2023,
+    0x0001_0537,
+    0x0905_0513,
+    0x0001_0693,
+    0x0040_0893,
+    0x0000_0073,
+    0x0001_0513,
+    0x0010_0593,
+    0x0050_0893,
+    0x0000_0073,
+    0x0001_2503,
+    0x0075_0513,
+    0x0010_0893,
+    0x0000_0073,
+    0x0030_0513,
+    0x0000_0073,
+];
+
+// What slices of it come to: the run, the end, the step count, and the pc and x10 of thread 1 where it runs.
+#[derive(Clone, Copy, Debug, PartialEq, Eq)]
+struct Outcome {
+    run: SliceRun,
+    end: End,
+    steps: u64,
+    first: Option<(u32, u32)>,
+}
+
+fn ran(alloc: Global, slices: &[Slice]) -> Result<Outcome, Fail>
+    requires { steps_of slices.now < 2 ^ 62 }
+{
+    let mut state = started(alloc, &TWO_THREADS)?;
+    let mut out = Vec::new(alloc);
+    let run = state.run_slices(alloc, slices, &[], &mut out)?;
+    Ok(Outcome {
+        run,
+        end: state.end,
+        steps: state.steps,
+        first: hart_of(&state).map(|hart| (hart.pc, hart.register(10))),
+    })
+}
+
+// A run to the end, which is the 17th step.
+fn to_the_end() -> Outcome {
+    Outcome {
+        run: SliceRun::Whole,
+        end: End::Exit(7),
+        steps: 17,
+        first: Some((0x10090, 7)),
+    }
+}
+
+// A run that stops at the first step of a slice, behind so many steps.
+fn stopped(slice: usize, steps: u64, first: Option<(u32, u32)>) -> Outcome {
+    Outcome {
+        run: SliceRun::Stops { slice, step: 0 },
+        end: End::None,
+        steps,
+        first,
+    }
+}
+
+#[test]
+fn a_guest_of_two_threads(rt: HostRuntime) -> Result<(), Fail> {
+    let alloc = rt.alloc();
+    // thread 1 waits, and the exit of thread 2 wakes it
+    let found = ran(alloc, &[slice(1, 11), slice(2, 2), slice(1, 4)])?;
+    assert_eq!(rt; found, to_the_end());
+    // thread 2 is gone before the wait, which finds another word
+    let found = ran(alloc, &[slice(1, 7), slice(2, 2), slice(1, 8)])?;
+    assert_eq!(rt; found, to_the_end());
+    let found = ran(alloc, &[slice(1, 10), slice(2, 2), slice(1, 1)])?;
+    assert_eq!(rt; found.first, Some((0x10080, 0xffff_fff5)));
+    // behind its wake thread 1 stands behind its wait
+    let found = ran(alloc, &[slice(1, 11), slice(2, 2)])?;
+    assert_eq!(rt; found.first, Some((0x10080, 0)));
+    // while it waits it has no turn, and neither has thread 2 before it is made and behind its exit
+    let found = ran(alloc, &[slice(1, 11), slice(1, 1)])?;
+    assert_eq!(rt; found, stopped(1, 11, None));
+    let found = ran(alloc, &[slice(1, 6), slice(2, 1)])?;
+    assert_eq!(rt; found, stopped(1, 6, Some((0x1006c, 0x10090))));
+    let found = ran(alloc, &[slice(1, 7), slice(2, 2), slice(2, 1)])?;
+    assert_eq!(rt; found, stopped(2, 9, Some((0x10070, 2))));
+    Ok(())
+}
