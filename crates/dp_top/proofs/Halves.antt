@@ -17,7 +17,7 @@ use Rattle.guest_kernel.specs.Start.{IsGuestFile, start_state}
 use Rattle.journal_text.specs.Reading.{Reading, Tail, end, ending, journal_of, reads}
 use Rattle.journal_text.specs.Records.{IsRecord, Record}
 use Rattle.recorder.specs.declared.options.Options.{Options}
-use Rattle.recorder.specs.Recording.{EachIsNext, HasRoom, Recorded, Run, records_of}
+use Rattle.recorder.specs.Recording.{EachIsNext, HasRoom, Recorded, Run, first_behind, records_of}
 
 -- ---- a chain of epochs plays as it runs
 
@@ -48,9 +48,9 @@ chain_plays (e ∷ epochs) number place s = in_front (run e.slices (at s [] e.an
 
 -- ---- a run's records
 
-are_records : (options : Options) (s : State) (epochs : List Epoch) → EachIsNext options s epochs → AllByRecursion IsRecord (records_of epochs)
-are_records options s [] each = tt
-are_records options s (e ∷ epochs) each = ((each.2.cut.is_epoch, each.2.cut.fits.1), are_records options each.0 epochs each.3)
+are_records : (options : Options) (first : ℕ) (s : State) (epochs : List Epoch) → EachIsNext options first s epochs → AllByRecursion IsRecord (records_of epochs)
+are_records options first s [] each = tt
+are_records options first s (e ∷ epochs) each = ((each.2.is_epoch, each.2.fits.1), are_records options (first_behind first e.slices) each.0 epochs each.3)
 
 epochs_are : (epochs : List Epoch) → epochs_of (records_of epochs) ≡ epochs
 epochs_are [] = refl
@@ -68,7 +68,7 @@ module _ (law : AtRest) (size : Short) (guest : List ℕ) (options : Options) (r
   place = length (journal_of guest (records_of r.epochs)) - 1
 
   reads_as : reads (journal_of guest (records_of r.epochs)) ≡ Some (ending guest (records_of r.epochs) place)
-  reads_as = law guest (records_of r.epochs) (omega (arith, size guest accepted), fits) (are_records options (start_state guest) r.epochs r.each) (omega (arith, room, options.room_range))
+  reads_as = law guest (records_of r.epochs) (omega (arith, size guest accepted), fits) (are_records options 1 (start_state guest) r.epochs r.each) (omega (arith, room, options.room_range))
 
   plays : play_of (ending guest (records_of r.epochs) place) ≡ made (Ok r.end) r.output
   plays = subst (λ (c : Result (State × List ℕ) ℕ). ended_as c (play_of (ending guest (records_of r.epochs) place))) r.chained (chain_plays r.epochs 1 place (start_state guest))

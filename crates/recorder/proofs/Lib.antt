@@ -1,4 +1,3 @@
-pub mod Rounds
-mod Slicing
-mod OneEpoch
 mod Commits
+pub mod Rounds
+mod Alike

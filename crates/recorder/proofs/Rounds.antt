@@ -2,13 +2,22 @@
 use Rattle.std.proofs.Common.{◌≡◌, inl, inr, ℕ, ◌+◌, ◌*◌, ◌<◌, ◌≤◌, true, false, List, [], ◌∷◌, ◌++◌, length, take, Option, Result, Ok, Err, refl, sym, ap, subst, ◌∙◌, append_assoc, arith}
 use Rattle.std.proofs.lemmas.List.{append-nil, length-append, length_push, take_all}
 use Rattle.dp_base.specs.declared.limits.TheConstants.{EPOCH_END_BYTES, MAX_CALL_BYTES}
-use Rattle.dp_base.specs.Journal.{Epoch, steps_of, epoch_body, frame}
+use Rattle.std.specs.List.{AllByRecursion}
+use Rattle.std.proofs.lemmas.List.Sums.{sum_by-cons}
+use Rattle.dp_base.specs.declared.slice.Slice.{Slice}
+use Rattle.dp_base.specs.Journal.{Epoch, IsSlice, steps_of, epoch_body, frame}
+use Rattle.epoch_runner.specs.declared.bounds.Bounds.{Bounds}
+use Rattle.epoch_runner.specs.declared.epoch_run.EpochRun.{EpochRun}
+use Rattle.epoch_runner.specs.declared.epoch_run.Ran.{Ran}
+use Rattle.epoch_runner.specs.declared.epoch_run.Ran.TheVariants as ran_as
+use Rattle.epoch_runner.specs.Running.{HasRun, HasRunEpoch}
 use Rattle.disk_model.specs.History.{History}
 use Rattle.disk_model.specs.Known.{IfKnown}
 use Rattle.disk_model.proofs.Knowing.{known-map, known-then}
 use Rattle.guest_kernel.specs.declared.state.State.{State}
 use Rattle.guest_kernel.specs.Call.{After}
-use Rattle.guest_kernel.specs.Lone.{RunsAlone}
+use Rattle.std.specs.List.{list_any}
+use Rattle.guest_kernel.specs.Threads.{AreFew, is_running}
 use Rattle.guest_kernel.specs.Slices.{Stop, chain, either, onto}
 use Rattle.guest_kernel.specs.State.{has_ended}
 use Rattle.recorder.specs.declared.options.Options.{Options}
@@ -19,7 +28,7 @@ use Rattle.recorder.specs.declared.commit.CommitFault.TheVariants as commits
 use Rattle.recorder.specs.declared.record_fault.RecordFault.TheVariants as faults
 use Rattle.recorder.specs.Faults.{of_begin, of_commit}
 use Rattle.recorder.specs.Committing.{Committed, HasCommitted}
-use Rattle.recorder.specs.Recording.{IsNext, EachIsNext, Run, HasRoom, IsRecorded, Recorded, records_of, reported}
+use Rattle.recorder.specs.Recording.{IsNext, EachIsNext, Run, epoch_steps, first_after, first_behind, HasRoom, IsRecorded, Recorded, records_of, reported}
 use Rattle.checkpoint.specs.State.{digest_of}
 use Rattle.device.specs.Sending.{Sent}
 use Rattle.disk_model.specs.declared.world.Stream.TheVariants.{Note}
@@ -52,19 +61,23 @@ chain_end (Err count) written mid before is = absurd cc
 chain_end (Ok end) written mid before is = (end.1, ap (λ (s : State). Ok (s, end.1)) (ap (end_or mid) is))
 
 -- an epoch behind a run is next
-each-push : (options : Options) (start : State) (epochs : List Epoch) (mid : State) (before : List ℕ) (e : Epoch) (end : State) (output : List ℕ)
-    → EachIsNext options start epochs → chain start epochs ≡ Ok (mid, before) → IsNext options mid e end output → EachIsNext options start (epochs ++ e ∷ [])
+each-push : (options : Options) (first : ℕ) (start : State) (epochs : List Epoch) (mid : State) (before : List ℕ) (e : Epoch) (end : State) (output : List ℕ)
+    → EachIsNext options first start epochs → chain start epochs ≡ Ok (mid, before) → IsNext options (first_after first epochs) mid e end output → EachIsNext options first start (epochs ++ e ∷ [])
 unfolding chain
-each-push options start [] mid before e end output each chained next_ =
+each-push options first start [] mid before e end output each chained next_ =
     let same : start ≡ mid = ap (end_or mid) chained in
-    (end, output, subst (λ (s : State). IsNext options s e end output) (sym same) next_, tt)
-each-push options start (x ∷ xs) mid before e end output each chained next_ =
+    (end, output, subst (λ (s : State). IsNext options first s e end output) (sym same) next_, tt)
+each-push options first start (x ∷ xs) mid before e end output each chained next_ =
     let there : State = each.0 in
     let written : List ℕ = each.1 in
     let behind : either (chain there xs) (λ count. Err (count + 1)) (onto written) ≡ Ok (mid, before) =
     sym (ap (λ (r : Result After (Stop × After)). either r (λ stop. Err 0) (λ here. either (chain here.state xs) (λ count. Err (count + 1)) (onto here.output))) each.2.ran) ∙ chained in
     let last = chain_end (chain there xs) written mid before behind in
-    (there, written, each.2, each-push options there xs mid last.0 e end output each.3 last.1 next_)
+    (there, written, each.2, each-push options (first_behind first x.slices) there xs mid last.0 e end output each.3 last.1 next_)
+
+pub first_after-push : (first : ℕ) (epochs : List Epoch) (e : Epoch) → first_after first (epochs ++ e ∷ []) ≡ first_behind (first_after first epochs) e.slices
+first_after-push first [] e = refl
+first_after-push first (x ∷ xs) e = first_after-push (first_behind first x.slices) xs e
 
 -- ---- the recording so far
 
@@ -72,13 +85,18 @@ records-push : (epochs : List Epoch) (e : Epoch) → records_of (epochs ++ e ∷
 records-push [] e = refl
 records-push (x ∷ xs) e = ap (λ (l : List Record). epoch x ∷ l) (records-push xs e)
 
+-- a guest that hasn't ended has a thread that runs, and few were made
+pub record CanGoOn (s : State) : Type 0 where
+  pub runs : has_ended s.end ≡ false → list_any is_running s.threads ≡ true
+  pub few : AreFew s.threads
+
 pub record SoFar (guest : List ℕ) (options : Options) (start : State) (first now : Option History) (state : State) (j : Journal) (epochs sent : ℕ) : Type 0 where
   pub done : List Epoch
   pub output : List ℕ
   pub chained : chain start done ≡ Ok (state, output)
-  pub each : EachIsNext options start done
+  pub each : EachIsNext options 1 start done
   pub counted : state.steps ≤ options.limit
-  pub alone : RunsAlone state
+  pub goes_on : CanGoOn state
   pub history : IfKnown (IsRecorded guest done output) first now
   pub place_is : j.end ≡ length (journal_of guest (records_of done))
   pub room_is : j.room ≡ options.room
@@ -103,28 +121,30 @@ module _ (guest : List ℕ) (options : Options) (start : State) (first now : Opt
   fits_still : (state : State) (j : Journal) (epochs sent : ℕ) (so_far : SoFar guest options start first now state j epochs sent) → HasRoom guest options so_far.done
   fits_still state j epochs sent so_far = omega (arith, so_far.fits, so_far.place_is, so_far.room_is)
 
-  pub begun_so_far : (j : Journal) → start.steps ≤ options.limit → RunsAlone start → HasBegun (length guest) options.room (Ok j) → length (journal_of guest []) ≡ 10 + length guest
-      → IfKnown (Begun guest (Ok j)) first now → SoFar guest options start first now start j 0 0
+  pub begun_so_far : (j : Journal) → start.steps ≤ options.limit → CanGoOn start → HasBegun (length guest) options.room (Ok j) → length (journal_of guest []) ≡ 10 + length guest
+      → IfKnown (Begun guest (Ok j)) first now → (so_far : SoFar guest options start first now start j 0 0) × (so_far.done ≡ [])
   unfolding chain
-  begun_so_far j few alone begun_is size begun =
-      let end_is : j.end ≡ 10 + length guest = ap (λ (k : Journal). k.end) begun_is.0 in
-      record {
-        done = [];
-        output = [];
-        chained = refl;
-        each = tt;
-        counted = few;
-        alone = alone;
-        history = known-map _ _ _ _ (λ s t b. record { empty = b.0; stands = b.1; sent = b.2.sent ∙ sym (append-nil s.sent); noted = b.2.noted }) begun;
-        place_is = end_is ∙ sym size;
-        room_is = ap (λ (k : Journal). k.room) begun_is.0;
-        fits = omega (arith, begun_is.1, end_is, ap (λ (k : Journal). k.room) begun_is.0);
-        works = ap (λ (k : Journal). k.failed) begun_is.0;
-        count = refl;
-        few = omega (arith, end_is);
-        sent_is = refl;
-        little = omega arith;
-      }
+  begun_so_far j few goes_on begun_is size begun =
+      let end_is : j.end ≡ 10 + length guest = ap (λ (k : Journal). k.end) begun_is.0 in (
+        record {
+          done = [];
+          output = [];
+          chained = refl;
+          each = tt;
+          counted = few;
+          goes_on = goes_on;
+          history = known-map _ _ _ _ (λ s t b. record { empty = b.0; stands = b.1; sent = b.2.sent ∙ sym (append-nil s.sent); noted = b.2.noted }) begun;
+          place_is = end_is ∙ sym size;
+          room_is = ap (λ (k : Journal). k.room) begun_is.0;
+          fits = omega (arith, begun_is.1, end_is, ap (λ (k : Journal). k.room) begun_is.0);
+          works = ap (λ (k : Journal). k.failed) begun_is.0;
+          count = refl;
+          few = omega (arith, end_is);
+          sent_is = refl;
+          little = omega arith;
+        },
+        refl,
+      )
 
   -- ---- it stops
 
@@ -196,7 +216,7 @@ module _ (guest : List ℕ) (options : Options) (start : State) (first now : Opt
   -- ---- an epoch that is next
 
   module _ (later : Option History) (state : State) (j : Journal) (epochs sent : ℕ) (so_far : SoFar guest options start first now state j epochs sent)
-      (e : Epoch) (end : State) (output : List ℕ) (next_ : IsNext options state e end output) (added : List ℕ) (framed : added ≡ frame (epoch_body e)) where
+      (e : Epoch) (end : State) (output : List ℕ) (next_ : IsNext options (first_after 1 so_far.done) state e end output) (added : List ℕ) (framed : added ≡ frame (epoch_body e)) where
     appends_there : (s t : History) → IsRecorded guest so_far.done so_far.output s t → IsAppend j.end added t guest (records_of so_far.done) (epoch e)
     appends_there s t recorded = record { stands = recorded.stands; at_end = so_far.place_is ∙ ap (λ (l : List ℕ). length l) (sym recorded.stands.disk); framed = framed }
 
@@ -207,37 +227,39 @@ module _ (guest : List ℕ) (options : Options) (start : State) (first now : Opt
     size_more = ap (λ (l : List Record). length (journal_of guest l)) (records-push so_far.done e) ∙ length-journal-push guest (records_of so_far.done) (epoch e)
 
     -- it was committed
-    pub committed : RunsAlone end → end.steps ≡ state.steps + steps_of e.slices → chain start (so_far.done ++ e ∷ []) ≡ Ok (end, so_far.output ++ output)
+    pub committed : CanGoOn end → end.steps ≡ state.steps + steps_of e.slices → steps_of e.slices ≤ epoch_steps options state → length output < EPOCH_END_BYTES + MAX_CALL_BYTES → chain start (so_far.done ++ e ∷ []) ≡ Ok (end, so_far.output ++ output)
         → (j' : Journal) → 0 < length added → HasCommitted j (length added) j' (Ok tt) → IfKnown (Committed j added output (Ok tt)) now later
-        → SoFar guest options start first later end j' (epochs + 1) (sent + length output)
-    committed alone counted chained j' some numbers known =
-        let end_is : j'.end ≡ j.end + length added = ap (λ (k : Journal). k.end) numbers.2 in
-        record {
-          done = so_far.done ++ e ∷ [];
-          output = so_far.output ++ output;
-          chained = chained;
-          each = each-push options start so_far.done state so_far.output e end output so_far.each so_far.chained next_;
-          counted = omega (arith, counted, next_.cut.few_steps, so_far.counted);
-          alone = alone;
-          history = known-then _ _ _ _ _ _
-              (λ s t u r k.
-              let made = k.0 guest (records_of so_far.done) (epoch e) (appends_there s t r) in
-              record {
-                empty = r.empty;
-                stands = stands_more u made;
-                sent = k.1 ∙ ap (λ (l : List ℕ). l ++ output) r.sent ∙ append_assoc s.sent so_far.output output;
-                noted = k.2 ∙ r.noted;
-              })
-              so_far.history known;
-          place_is = omega (arith, end_is, size_more, so_far.place_is, ap (λ (l : List ℕ). length l) framed);
-          room_is = ap (λ (k : Journal). k.room) numbers.2 ∙ so_far.room_is;
-          fits = omega (arith, end_is, numbers.1, ap (λ (k : Journal). k.room) numbers.2);
-          works = ap (λ (k : Journal). k.failed) numbers.2 ∙ so_far.works;
-          count = omega (arith, so_far.count, length_push so_far.done e);
-          few = omega (arith, end_is, so_far.few, some);
-          sent_is = omega (arith, so_far.sent_is, length-append so_far.output output);
-          little = omega (arith, so_far.little, next_.cut.little_output);
-        }
+        → (so_far' : SoFar guest options start first later end j' (epochs + 1) (sent + length output)) × (so_far'.done ≡ so_far.done ++ e ∷ [])
+    committed goes_on counted few_steps little chained j' some numbers known =
+        let end_is : j'.end ≡ j.end + length added = ap (λ (k : Journal). k.end) numbers.2 in (
+          record {
+            done = so_far.done ++ e ∷ [];
+            output = so_far.output ++ output;
+            chained = chained;
+            each = each-push options 1 start so_far.done state so_far.output e end output so_far.each so_far.chained next_;
+            counted = omega (arith, counted, few_steps, so_far.counted);
+            goes_on = goes_on;
+            history = known-then _ _ _ _ _ _
+                (λ s t u r k.
+                let made = k.0 guest (records_of so_far.done) (epoch e) (appends_there s t r) in
+                record {
+                  empty = r.empty;
+                  stands = stands_more u made;
+                  sent = k.1 ∙ ap (λ (l : List ℕ). l ++ output) r.sent ∙ append_assoc s.sent so_far.output output;
+                  noted = k.2 ∙ r.noted;
+                })
+                so_far.history known;
+            place_is = omega (arith, end_is, size_more, so_far.place_is, ap (λ (l : List ℕ). length l) framed);
+            room_is = ap (λ (k : Journal). k.room) numbers.2 ∙ so_far.room_is;
+            fits = omega (arith, end_is, numbers.1, ap (λ (k : Journal). k.room) numbers.2);
+            works = ap (λ (k : Journal). k.failed) numbers.2 ∙ so_far.works;
+            count = omega (arith, so_far.count, length_push so_far.done e);
+            few = omega (arith, end_is, so_far.few, some);
+            sent_is = omega (arith, so_far.sent_is, length-append so_far.output output);
+            little = omega (arith, so_far.little, little);
+          },
+          refl,
+        )
 
     -- it wasn't, or not sent whole
     pub commit_failed : (fault : CommitFault) → has_ended state.end ≡ false → state.steps < options.limit → (j' : Journal) → HasCommitted j (length added) j' (Err fault)
@@ -283,3 +305,17 @@ module _ (guest : List ℕ) (options : Options) (start : State) (first now : Opt
           })
           so_far.history known,
     )
+
+-- ---- an epoch that was run
+
+pub ran_epoch : (s : State) (bounds : Bounds) (ran : Ran) (r : EpochRun) → HasRun s bounds ran → ran ≡ ran_as.Epoch r → HasRunEpoch s bounds r
+ran_epoch s bounds ran r has is = subst (HasRun s bounds) is has
+
+pub positive_steps : (xs : List Slice) → AllByRecursion IsSlice xs → 0 < length xs → 0 < steps_of xs
+positive_steps [] are some = absurd (omega arith)
+positive_steps (x ∷ xs) are some = let first : 0 < x.steps = are.0.2 in omega (arith, first, sum_by-cons (λ (s : Slice). s.steps) x xs)
+
+-- its threads have numbers below 65,535
+pub low_numbers : (xs : List Slice) (made : ℕ) → AllByRecursion IsSlice xs → AllByRecursion (λ (x : Slice). 0 < x.steps → x.tid.0 ≤ made) xs → made ≤ 1024 → AllByRecursion (λ (x : Slice). x.tid.0 < 65535) xs
+low_numbers [] made are within few = tt
+low_numbers (x ∷ xs) made are within few = (let low = within.0 are.0.2 in omega (arith, low, few), low_numbers xs made are.1 within.1 few)

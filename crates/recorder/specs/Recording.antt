@@ -1,7 +1,8 @@
 -- What a recording comes to: a run of the guest, cut into epochs, which is in the journal and was sent. This project's own.
 use Rattle.std.specs.Prelude.{◌≡◌, ◌⊎◌, ◌<◌, ◌≤◌, ◌+◌, ◌-◌, min, ℕ, true, false, List, [], ◌∷◌, ◌++◌, length, map, take, Option, Result, Ok, Err, ⊤}
 use Rattle.dp_base.specs.Encoding.{IsPrefixOf}
-use Rattle.dp_base.specs.Journal.{Epoch, epoch_body, frame}
+use Rattle.dp_base.specs.declared.slice.Slice.{Slice}
+use Rattle.dp_base.specs.Journal.{Epoch, IsBody, IsEpoch, epoch_body, frame}
 use Rattle.disk_model.specs.History.{History}
 use Rattle.disk_model.specs.Known.{IfKnown}
 use Rattle.guest_kernel.specs.declared.state.State.{State}
@@ -12,7 +13,8 @@ use Rattle.dp_report.specs.declared.report.Report.{Report}
 use Rattle.dp_report.specs.Texts.{report_line}
 use Rattle.recorder.specs.declared.record_fault.RecordFault.{RecordFault}
 use Rattle.recorder.specs.declared.record_fault.RecordFault.TheVariants as faults
-use Rattle.recorder.specs.EpochRun.{IsCutWithin}
+use Rattle.epoch_runner.specs.declared.bounds.Bounds.{Bounds}
+use Rattle.epoch_runner.specs.Schedule.{IsScheduled}
 use Rattle.checkpoint.specs.State.{digest_of}
 use Rattle.epoch_journal.specs.Standing.{Stands}
 use Rattle.journal_text.specs.Reading.{journal_of}
@@ -24,15 +26,34 @@ use Rattle.journal_text.specs.Records.{Record, epoch}
 abbrev pub epoch_steps : Options → State → ℕ
 epoch_steps options s = min options.epoch (options.limit - s.steps)
 
--- an epoch from this state to that one, as the options cut it
-pub record IsNext (options : Options) (s : State) (e : Epoch) (end : State) (output : List ℕ) : Type 0 where
+-- which thread is first behind these slices, if it runs: the one behind the thread of the last of them
+abbrev pub first_behind : ℕ → List Slice → ℕ
+first_behind first [] = first
+first_behind first (x ∷ xs) = first_behind (x.tid.0 + 1) xs
+
+-- and behind these epochs
+abbrev pub first_after : ℕ → List Epoch → ℕ
+first_after first [] = first
+first_after first (e ∷ epochs) = first_after (first_behind first e.slices) epochs
+
+-- An epoch from this state to that one, as the schedule runs it within the options' bounds, with the thread that is first. No call
+-- takes an answer.
+pub record IsNext (options : Options) (first : ℕ) (s : State) (e : Epoch) (end : State) (output : List ℕ) : Type 0 where
+  pub bounds : Bounds
+  pub steps : bounds.steps ≡ epoch_steps options s
+  pub slice : bounds.slice ≡ options.slice
+  pub first_is : bounds.first ≡ first
+  pub scheduled : IsScheduled s bounds e.slices output end
+  pub answers : e.answers ≡ []
   pub ran : run e.slices (at s [] e.answers) ≡ Ok (at end output [])
-  pub cut : IsCutWithin s (epoch_steps options s) options.slice e end output
+  pub is_epoch : IsEpoch e
+  pub fits : IsBody (epoch_body e)
 
 -- each of them from the end of the one before
-abbrev pub EachIsNext : Options → State → List Epoch → Type 0
-EachIsNext options s [] = ⊤
-EachIsNext options s (e ∷ epochs) = (end : State) × (output : List ℕ) × IsNext options s e end output × EachIsNext options end epochs
+abbrev pub EachIsNext : Options → ℕ → State → List Epoch → Type 0
+EachIsNext options first s [] = ⊤
+EachIsNext options first s (e ∷ epochs) =
+    (end : State) × (output : List ℕ) × IsNext options first s e end output × EachIsNext options (first_behind first e.slices) end epochs
 
 -- a run of a guest from a state
 pub record Run (options : Options) (start : State) : Type 0 where
@@ -40,7 +61,7 @@ pub record Run (options : Options) (start : State) : Type 0 where
   pub end : State
   pub output : List ℕ
   pub chained : chain start epochs ≡ Ok (end, output)
-  pub each : EachIsNext options start epochs
+  pub each : EachIsNext options 1 start epochs
   pub counted : end.steps ≤ options.limit
 
 -- ---- what is on the disk and was sent
@@ -108,7 +129,7 @@ abbrev pub HasNoRoom : (guest : List ℕ) → (start : State) → Options → (e
 HasNoRoom guest start options end need before after =
     ((end ≡ 0) × (need ≡ 10 + length guest) × (options.room < need) × IfKnown IsUntouched before after)
     ⊎ ((r : Run options start) × (has_ended r.end.end ≡ false) × (r.end.steps < options.limit) × HasRoom guest options r.epochs
-    × (next : Epoch) × (there : State) × (output : List ℕ) × IsNext options r.end next there output
+    × (next : Epoch) × (there : State) × (output : List ℕ) × IsNext options (first_after 1 r.epochs) r.end next there output
     × (end ≡ length (journal_of guest (records_of r.epochs))) × (need ≡ length (frame (epoch_body next))) × (options.room < end + need)
     × IfKnown (IsRecorded guest r.epochs r.output) before after)
 
@@ -127,7 +148,7 @@ Recorded guest start options before after (Err (faults.JournalInUse len)) = (0 <
 Recorded guest start options before after (Err faults.DiskFault) =
     (r : Run options start) × ((r.epochs ≡ []) ⊎ HasRoom guest options r.epochs) × IfKnown (IsInterrupted guest r.epochs r.output) before after
 Recorded guest start options before after (Err faults.OutputFault) =
-    ((r : Run options start) × (last : Epoch) × (there : State) × (output : List ℕ) × IsNext options r.end last there output
+    ((r : Run options start) × (last : Epoch) × (there : State) × (output : List ℕ) × IsNext options (first_after 1 r.epochs) r.end last there output
     × HasRoom guest options (r.epochs ++ last ∷ []) × IfKnown (IsPartlySent guest r.epochs last r.output output) before after)
     ⊎ ((r : Run options start) × (has_ended r.end.end ≡ true) × HasRoom guest options r.epochs
     × IfKnown (IsPartlyReported guest r.epochs r.output (report_line (reported r))) before after)

@@ -5,7 +5,7 @@
 //! guest with a chain of epochs from its start state, and what was sent is exactly that chain's output; after each other
 //! answer it says what stands. The journal is never longer than its room. All memory for an epoch is taken before its first
 //! write to the disk: from there on only `Ok` or a device's fault comes. At `Ok` the report's line was sent on Note, and else
-//! nothing was but a prefix of it. Stands on `guest_kernel`, `checkpoint`, `epoch_record`, `epoch_journal`, `device` and
+//! nothing was but a prefix of it. Stands on `guest_kernel`, `epoch_runner`, `checkpoint`, `epoch_record`, `epoch_journal`, `device` and
 //! `dp_report`.
 //!
 //! ```text
@@ -21,9 +21,7 @@
 //! ```
 #![tactic(auto)]
 
-mod bounds;
 mod commit;
-mod epoch;
 pub mod laws;
 mod options;
 mod ready;

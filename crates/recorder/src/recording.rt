@@ -1,25 +1,25 @@
 // A whole recording: begin, one epoch after another, and the report.
 ghost use Rattle.std.specs.Prelude.{◌≡◌, ◌<◌, ◌≤◌, ◌-◌, ◌^◌, min, Err, IfOk, IsErrOf, length};
+ghost use Rattle.std.specs.List.{AllByRecursion};
 ghost use Rattle.dp_base.specs.Journal.{IsBody, IsEpoch, epoch_body, frame};
 ghost use Rattle.disk_model.specs.Counts.{Rose};
 ghost use Rattle.epoch_record.specs.Epoch.{epoch_of};
 ghost use Rattle.guest_kernel.specs.Start.{IsGuestFile, start_state};
-ghost use Rattle.recorder.specs.Recording.{Recorded};
+ghost use Rattle.recorder.specs.Recording.{Recorded, first_behind};
 ghost use Rattle.recorder.specs.declared.record_fault.RecordFault.TheVariants as faults;
 
-use crate::bounds::Bounds;
 use crate::commit::commit_epoch;
-use crate::epoch::run_epoch;
 use crate::options::Options;
 use crate::ready::Ready;
 use crate::record_fault::RecordFault;
 use checkpoint::digest;
 use device::send_all;
 use disk_model::{Stream, World};
-use dp_base::OutOfMemory;
+use dp_base::{OutOfMemory, Slice};
 use dp_report::{Report, line};
 use epoch_journal::Journal;
 use epoch_record::{Epoch, encode};
+use epoch_runner::{Bounds, Ran, run_epoch};
 use guest_kernel::{State, laws};
 use journal_text::Frame;
 use std::alloc::Global;
@@ -69,27 +69,34 @@ fn record_epochs<W: World>(
     ensures sink_count { W.sink_faults world.old ≤ W.sink_faults world.new }
 {
     elf_image::laws::a_file_without_fault_has_segments();
-    laws::a_lone_thread_goes_on();
+    laws::a_guest_goes_on_while_a_thread_runs();
     laws::an_epoch_more();
+    laws::threads_are_few();
+    epoch_runner::laws::an_epoch_ends_by_a_rule();
     dp_base::laws::lengths();
     checkpoint::laws::a_start_state_is_encodable();
     checkpoint::laws::a_chain_keeps_a_state_encodable();
     let mut journal = Journal::begin(alloc, world, guest, options.room)?;
     let mut state = start;
+    let mut first = 1;
     let mut epochs = 0;
     let mut sent = 0;
     'rounds: while !state.ended() {
         if state.steps >= options.limit {
             return Err(RecordFault::StepLimit(state.steps));
         }
-        let bounds = bounds_from(&options, state.steps);
-        let run = run_epoch(alloc, state, bounds)?;
+        let bounds = bounds_from(&options, state.steps, first);
+        let Ran::Epoch(run) = run_epoch(alloc, state, bounds)? else {
+            // A guest that hasn't ended has a thread that runs.
+            unreachable!();
+        };
         let frame = frame_of(alloc, &run.epoch)?;
         let ready = Ready {
             frame,
             out: run.out,
         };
         commit_epoch(&mut journal, world, &ready)?;
+        first = next_first(first, run.epoch.slices.as_slice());
         state = run.end;
         epochs += 1;
         sent += ready.out.len() as u64;
@@ -109,17 +116,31 @@ fn record_epochs<W: World>(
     }
 }
 
-// How far an epoch may go behind so many steps.
-fn bounds_from(options: &Options, steps: u64) -> Bounds
+// How far an epoch may go behind so many steps, and which thread is first.
+fn bounds_from(options: &Options, steps: u64, first: u16) -> Bounds
     requires { steps < options.now.limit }
     ensures steps { result.steps ≡ min options.now.epoch (options.now.limit - steps) }
     ensures slice { result.slice ≡ options.now.slice }
+    ensures first { result.first ≡ first }
 {
     let left = options.limit - steps;
     Bounds {
         steps: left.min(u64::from(options.epoch)) as u32,
         slice: options.slice,
+        first,
     }
+}
+
+// The thread that is first behind these slices: one more than that of the last of them.
+fn next_first(first: u16, slices: &[Slice]) -> u16
+    requires { AllByRecursion (λ x. x.tid.0 < 65535) slices.now }
+    ensures { result ≡ first_behind first slices.now }
+{
+    let mut next = first;
+    for slice in slices {
+        next = slice.tid.0 + 1;
+    }
+    next
 }
 
 // The frame of an epoch's record.

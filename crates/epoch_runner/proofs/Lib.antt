@@ -1,0 +1,9 @@
+mod Kernel
+mod Nexts
+mod Courses
+mod Reservations
+mod CourseRuns
+mod Stretch
+mod Slicing
+mod Epochs
+mod Choosing

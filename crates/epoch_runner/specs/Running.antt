@@ -1,0 +1,37 @@
+-- What a run of an epoch answers. This machine's own.
+use Rattle.std.specs.Prelude.{◌≡◌, ◌<◌, ◌+◌, ℕ, List, [], false, true, Ok, ◌⊎◌}
+use Rattle.dp_base.specs.Journal.{IsBody, IsEpoch, epoch_body, steps_of}
+use Rattle.dp_base.specs.Journal as journals
+use Rattle.epoch_record.specs.Epoch.{epoch_of}
+use Rattle.guest_kernel.specs.declared.state.State.{State}
+use Rattle.guest_kernel.specs.Slices.{at, run}
+use Rattle.epoch_runner.specs.declared.bounds.Bounds.{Bounds}
+use Rattle.epoch_runner.specs.declared.epoch_run.EpochRun.{EpochRun}
+use Rattle.epoch_runner.specs.declared.epoch_run.Ran.{Ran}
+use Rattle.epoch_runner.specs.declared.epoch_run.Ran.TheVariants as answers
+use Rattle.epoch_runner.specs.Schedule.{IsScheduled, can_step}
+
+-- an epoch that has a record, run from a state to another, with what it wrote
+pub record IsRunOf (start : State) (e : journals.Epoch) (output : List ℕ) (end : State) : Type 0 where
+  pub ran : run e.slices (at start [] e.answers) ≡ Ok (at end output [])
+  pub counted : end.steps ≡ start.steps + steps_of e.slices
+  pub is_epoch : IsEpoch e
+  pub fits : IsBody (epoch_body e)
+
+-- the epoch of a state within bounds: it is run by the schedule, takes no answer, and has a step
+pub record HasRunEpoch (start : State) (bounds : Bounds) (r : EpochRun) : Type 0 where
+  pub from : r.start ≡ start
+  pub some_steps : 0 < bounds.steps
+  pub could_step : can_step start ≡ true
+  pub scheduled : IsScheduled start bounds (epoch_of r.epoch).slices r.out r.end
+  pub no_answers : (epoch_of r.epoch).answers ≡ []
+  pub runs : IsRunOf start (epoch_of r.epoch) r.out r.end
+
+-- where there is nothing to run: the bounds give no step, or the guest can't take one
+pub record HasIdled (start : State) (bounds : Bounds) (s : State) : Type 0 where
+  pub same : s ≡ start
+  pub why : (bounds.steps ≡ 0) ⊎ (can_step start ≡ false)
+
+abbrev pub HasRun : State → Bounds → Ran → Type 0
+HasRun start bounds (answers.Epoch r) = HasRunEpoch start bounds r
+HasRun start bounds (answers.Idle s) = HasIdled start bounds s
