@@ -1,0 +1,226 @@
+// Guests of several threads, recorded in several epochs and slices, and replayed. The values come from a model apart from ours, which
+// runs the words by the ISA's text and the schedule's rules.
+use super::*;
+use disk_mem::{Fails, MemFiles, MemWorld, NamedFile};
+use disk_model::Stream;
+use dp_report::Status;
+use dp_top::run;
+use std::alloc::{AllocError, Global};
+use std::test::Fail;
+
+// A file's headers up to p_filesz, and those behind p_memsz: ELF32, little-endian, RISC-V, one segment that is the whole file at
+// 00010000, entry 00010054.
+const HEADERS_START: [u8; 68] = [
+    0x7f, 0x45, 0x4c, 0x46, 0x01, 0x01, 0x01, 0x00, 0x00, 0x00, 0x00, 0x00, 0x00, 0x00, 0x00, 0x00,
+    0x02, 0x00, 0xf3, 0x00, 0x01, 0x00, 0x00, 0x00, 0x54, 0x00, 0x01, 0x00, 0x34, 0x00, 0x00, 0x00,
+    0x00, 0x00, 0x00, 0x00, 0x00, 0x00, 0x00, 0x00, 0x34, 0x00, 0x20, 0x00, 0x01, 0x00, 0x00, 0x00,
+    0x00, 0x00, 0x00, 0x00, 0x01, 0x00, 0x00, 0x00, 0x00, 0x00, 0x00, 0x00, 0x00, 0x00, 0x01, 0x00,
+    0x00, 0x00, 0x01, 0x00,
+];
+
+const HEADERS_END: [u8; 8] = [0x05, 0x00, 0x00, 0x00, 0x00, 0x10, 0x00, 0x00];
+
+// The file of a guest of these words.
+pub(crate) fn file_of(alloc: Global, words: &[u32]) -> Result<Vec<u8>, AllocError> {
+    let size = words.len().min(1000) as u32 * 4 + 84;
+    let mut file = HEADERS_START.to_vec(alloc)?;
+    file.extend_from_slice(&size.to_le_bytes())?;
+    file.extend_from_slice(&size.to_le_bytes())?;
+    file.extend_from_slice(&HEADERS_END)?;
+    for word in words {
+        file.extend_from_slice(&word.to_le_bytes())?;
+    }
+    Ok(file)
+}
+
+// A run with these words, where `g` is this file.
+pub(crate) fn ran(
+    rt: &HostRuntime,
+    words: &[&str],
+    file: &[u8],
+    world: MemWorld,
+) -> Result<(MemWorld, Status), Fail> {
+    let alloc = rt.alloc();
+    let mut texts = Vec::new(alloc);
+    for word in words {
+        texts.push(String::from_str(alloc, word)?)?;
+    }
+    let mut named = Vec::new(alloc);
+    named.push(NamedFile {
+        name: String::from_str(alloc, "g")?,
+        bytes: file.to_vec(alloc)?,
+    })?;
+    let mut files = MemFiles::new(named, Fails::Never);
+    Ok(run(rt, alloc, &texts, &mut files, world))
+}
+
+// What a recording came to and how long its journal is, where it sends this on Out and this on Note, and where its replay sends the
+// same.
+pub(crate) fn recorded(
+    rt: &HostRuntime,
+    words: &[u32],
+    epoch: &str,
+    slice: &str,
+    out: &[u8],
+    note: &[u8],
+) -> Result<(Status, Status, usize), Fail> {
+    let alloc = rt.alloc();
+    let file = file_of(alloc, words)?;
+    let asked = [
+        "dpcli", "record", "g", "j", "--epoch", epoch, "--slice", slice,
+    ];
+    let empty = MemWorld::new(alloc, Fails::Never, Fails::Never, 4096)?;
+    let (after, status) = ran(rt, &asked, &file, empty)?;
+    if after.sent(Stream::Out) != out || after.sent(Stream::Note) != note {
+        return Err("the recording's output and its note".into());
+    }
+    let len = after.bytes().len();
+    let fresh = MemWorld::new(alloc, Fails::Never, Fails::Never, 4096)?;
+    let disk = fresh.of_disk(alloc, after.bytes())?;
+    let (replayed, answer) = ran(rt, &["dpcli", "replay", "j"], &[], disk)?;
+    if replayed.sent(Stream::Out) != out || replayed.sent(Stream::Note) != note {
+        return Err("the replay's output and its note".into());
+    }
+    Ok((status, answer, len))
+}
+
+#[test]
+fn two_adders(rt: HostRuntime) -> Result<(), Fail> {
+    // steps of an epoch and of a slice at most; the journal's bytes, and the note
+    let cases: [(&str, &str, usize, &[u8]); 5] = [
+        (
+            "20000",
+            "1000",
+            370,
+            b"epochs 1 squashes 0 steps 173 sent 2 end exit 0 state fdf37b240741f2959a92080ddf5e4d9f01f41abe29a8b4b7dee3367963748ee2\n",
+        ),
+        (
+            "50",
+            "7",
+            648,
+            b"epochs 5 squashes 0 steps 250 sent 2 end exit 0 state c60246673039d32fff3505612f3578369d4f5d762063dcccae9ac3523a2d7e53\n",
+        ),
+        (
+            "40",
+            "11",
+            546,
+            b"epochs 5 squashes 0 steps 199 sent 2 end exit 0 state 972bff86dd9f69dde36219a3d3d5efee14e00acf9668c26a936d23c717f8e41d\n",
+        ),
+        (
+            "13",
+            "8",
+            792,
+            b"epochs 17 squashes 0 steps 221 sent 2 end exit 0 state b3bc2c2927747b82a150494997d6b599752f302f17881f090db7f8dcdc45abdc\n",
+        ),
+        (
+            "17",
+            "9",
+            726,
+            b"epochs 14 squashes 0 steps 225 sent 2 end exit 0 state 1d51c58bdaeb8b48b666284f08d90f19f5b1b8335b3c6b19473a3f7793d69b39\n",
+        ),
+    ];
+    for (epoch, slice, len, note) in cases {
+        let came = recorded(&rt, &ADDERS, epoch, slice, b"8\n", note)?;
+        assert_eq!(rt;
+            came,
+            (Status::Ok, Status::Ok, len),
+            "epoch {epoch} slice {slice}"
+        );
+    }
+    Ok(())
+}
+
+#[test]
+fn a_producer_and_a_consumer(rt: HostRuntime) -> Result<(), Fail> {
+    // steps of an epoch and of a slice at most; the journal's bytes, and the note
+    let cases: [(&str, &str, usize, &[u8]); 5] = [
+        (
+            "20000",
+            "1000",
+            404,
+            b"epochs 1 squashes 0 steps 125 sent 4 end exit 5 state 54bb26aaecb077ba3e2e6489da6ab5e0888be40e95b33c433d9769f978f88fc9\n",
+        ),
+        (
+            "50",
+            "7",
+            498,
+            b"epochs 3 squashes 0 steps 118 sent 4 end exit 0 state 1f39427757a0375ae7bd34075433fc2b70ba680863558ea3909164f6ff9c854a\n",
+        ),
+        (
+            "1",
+            "1000",
+            2702,
+            b"epochs 118 squashes 0 steps 118 sent 4 end exit 0 state 1f39427757a0375ae7bd34075433fc2b70ba680863558ea3909164f6ff9c854a\n",
+        ),
+        (
+            "17",
+            "9",
+            542,
+            b"epochs 7 squashes 0 steps 111 sent 4 end exit 0 state 705030897a1f067c8df53979f8de4116101387087717289519419acb8b20d4c4\n",
+        ),
+        (
+            "30",
+            "3",
+            694,
+            b"epochs 5 squashes 0 steps 132 sent 4 end exit 0 state f597601dced1e4d9aab7fc839ea42881b78a5096134d8a98150feb1c418b99d7\n",
+        ),
+    ];
+    for (epoch, slice, len, note) in cases {
+        let came = recorded(&rt, &PRODUCER_AND_CONSUMER, epoch, slice, b"abc\n", note)?;
+        assert_eq!(rt;
+            came,
+            (Status::Ok, Status::Ok, len),
+            "epoch {epoch} slice {slice}"
+        );
+    }
+    Ok(())
+}
+
+#[test]
+fn a_deadlock(rt: HostRuntime) -> Result<(), Fail> {
+    // steps of an epoch and of a slice at most; the journal's bytes, and the note
+    let cases: [(&str, &str, usize, &[u8]); 4] = [
+        (
+            "20000",
+            "1000",
+            240,
+            b"epochs 1 squashes 0 steps 23 sent 2 end deadlock state a6bd1c530bb19501acfe9cd87f85a482174a148925d8ebaadd002eaa53fca632\n",
+        ),
+        (
+            "1",
+            "1000",
+            674,
+            b"epochs 23 squashes 0 steps 23 sent 2 end deadlock state a6bd1c530bb19501acfe9cd87f85a482174a148925d8ebaadd002eaa53fca632\n",
+        ),
+        (
+            "17",
+            "9",
+            266,
+            b"epochs 2 squashes 0 steps 23 sent 2 end deadlock state a6bd1c530bb19501acfe9cd87f85a482174a148925d8ebaadd002eaa53fca632\n",
+        ),
+        (
+            "30",
+            "3",
+            276,
+            b"epochs 1 squashes 0 steps 23 sent 2 end deadlock state a6bd1c530bb19501acfe9cd87f85a482174a148925d8ebaadd002eaa53fca632\n",
+        ),
+    ];
+    for (epoch, slice, len, note) in cases {
+        let came = recorded(&rt, &DEADLOCKED, epoch, slice, b"x\n", note)?;
+        assert_eq!(rt;
+            came,
+            (Status::Ok, Status::Ok, len),
+            "epoch {epoch} slice {slice}"
+        );
+    }
+    Ok(())
+}
+
+#[test]
+fn a_wait_that_nobody_ends(rt: HostRuntime) -> Result<(), Fail> {
+    let note =
+        b"epochs 1 squashes 0 steps 3 sent 0 end deadlock state 1601e67ec84ac914eba86160b97697b9bd23ec162f55374b236a88d9e8bc977a\n";
+    let came = recorded(&rt, &WAITS_ALONE, "20000", "1000", b"", note)?;
+    assert_eq!(rt; came, (Status::Ok, Status::Ok, 126));
+    Ok(())
+}
