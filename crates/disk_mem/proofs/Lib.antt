@@ -2,3 +2,5 @@ pub mod Filled
 pub mod Keeps
 pub mod Named
 pub mod Spans
+pub mod PiecesGiven
+pub mod Readings

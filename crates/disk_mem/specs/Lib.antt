@@ -4,3 +4,4 @@ pub mod Replay
 pub mod Recording
 pub mod MemoryWorld
 pub mod MemoryFiles
+pub mod MemoryInput

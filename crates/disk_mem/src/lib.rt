@@ -1,9 +1,11 @@
-//! The outside of a recorder and of a replayer in memory: `MemWorld` is a disk and two output streams, `MemFiles` are files by name.
+//! The outside of a recorder and of a replayer in memory: `MemWorld` is a disk and two output streams, `MemFiles` are files by name,
+//! `MemInlet` is an input in pieces, and a clock.
 //!
 //! Promises: a call on a `MemWorld` fails only by its number, as the `Fails` of its kind says, or with `allocation_failed`
-//! true from then on. A fetch fails only by its number or at a name that no file has, or it answers `OutOfMemory`. What
-//! stands after each call is known exactly, also after one that fails. A `MemWorld` keeps a record of all its calls, and its
-//! history is the replay of that record. Stands on `disk_model` for the traits that these meet, and on `dp_base`.
+//! true from then on. A fetch fails only by its number or at a name that no file has, or it answers `OutOfMemory`. A
+//! take from a `MemInlet` fails only by its number. What stands after each call is known exactly, also after one that fails.
+//! A `MemWorld` keeps a record of all its calls, and its history is the replay of that record. Stands on `disk_model` for the
+//! traits that these meet, and on `dp_base`.
 //!
 //! ```text
 //! let disk = Fails::At(CallNumbers::from_vec(numbers));      // the numbers are 3
@@ -21,8 +23,10 @@ mod contents;
 mod counter;
 mod fails;
 mod mem_files;
+mod mem_inlet;
 mod mem_world;
 mod named_file;
+mod pieces;
 #[cfg(test)]
 mod tests;
 #[cfg(test)]
@@ -31,5 +35,6 @@ mod worked_calls;
 pub use call::Call;
 pub use fails::{CallNumbers, Fails};
 pub use mem_files::MemFiles;
+pub use mem_inlet::MemInlet;
 pub use mem_world::MemWorld;
 pub use named_file::NamedFile;

@@ -1,6 +1,8 @@
 // Worked examples of the definitions: what each clause says is computed.
 ghost use Rattle.std.specs.Prelude.{◌≡◌, ◌∷◌, [], true, false};
 ghost use Rattle.disk_model.specs.declared.world.Stream.TheVariants.{Out, Note};
+ghost use Rattle.disk_model.specs.Input.{is_at_end, left_after, taken, took};
+ghost use Rattle.disk_mem.specs.MemoryInput.{noted, reading_at};
 ghost use Rattle.disk_mem.specs.declared.call.Call.TheVariants.{Write, Cut, Sync, Emit};
 ghost use Rattle.disk_mem.specs.declared.fails.Fails.TheVariants.{Never, At, From};
 ghost use Rattle.disk_mem.specs.Counted.{counted};
@@ -46,4 +48,33 @@ fn streams()
     ensures apart { (after_call (Emit Out (1 ∷ 2 ∷ 3 ∷ []) 2 true) (start [])).noted ≡ [] }
     ensures noted { (after_call (Emit Note (1 ∷ 2 ∷ 3 ∷ []) 2 true) (start [])).noted ≡ 1 ∷ 2 ∷ [] }
     ensures not_sent { (after_call (Emit Out (1 ∷ 2 ∷ 3 ∷ []) 0 false) (start [])).sent ≡ [] }
+{}
+
+// What takes into buffers of several sizes give, and leave.
+fn takes()
+    ensures part { taken 1 ((7 ∷ 8 ∷ []) ∷ []) ≡ 7 ∷ [] }
+    ensures rest { left_after 1 ((7 ∷ 8 ∷ []) ∷ (9 ∷ []) ∷ []) ≡ (8 ∷ []) ∷ (9 ∷ []) ∷ [] }
+    ensures whole { taken 4 ((7 ∷ 8 ∷ []) ∷ (9 ∷ []) ∷ []) ≡ 7 ∷ 8 ∷ [] }
+    ensures gone { left_after 2 ((7 ∷ 8 ∷ []) ∷ (9 ∷ []) ∷ []) ≡ (9 ∷ []) ∷ [] }
+    ensures no_room { left_after 0 ((7 ∷ []) ∷ []) ≡ (7 ∷ []) ∷ [] }
+    ensures end { taken 4 [] ≡ [] }
+    ensures empty_piece { taken 4 ([] ∷ (9 ∷ []) ∷ []) ≡ [] }
+    ensures for_good { left_after 4 ([] ∷ (9 ∷ []) ∷ []) ≡ [] ∷ (9 ∷ []) ∷ [] }
+    ensures no_end { is_at_end ((7 ∷ []) ∷ []) ≡ false }
+{}
+
+fn ends()
+    ensures seen { (took 1 (record { given = 7 ∷ []; left = []; ended = false; readings = [] })).ended ≡ true }
+    ensures not_seen { (took 0 (record { given = 7 ∷ []; left = []; ended = false; readings = [] })).ended ≡ false }
+    ensures stays { (took 1 (record { given = 7 ∷ []; left = []; ended = true; readings = [] })).ended ≡ true }
+    ensures given { (took 1 (record { given = 7 ∷ []; left = (8 ∷ []) ∷ []; ended = false; readings = [] })).given ≡ 7 ∷ 8 ∷ [] }
+{}
+
+// Readings of a clock: past the list the last one again.
+fn clocks()
+    ensures first { reading_at (5 ∷ 7 ∷ []) 0 ≡ 5 }
+    ensures last { reading_at (5 ∷ 7 ∷ []) 1 ≡ 7 }
+    ensures past { reading_at (5 ∷ 7 ∷ []) 4 ≡ 7 }
+    ensures none { reading_at [] 1 ≡ 0 }
+    ensures noted { noted 7 (5 ∷ []) ≡ 5 ∷ 7 ∷ [] }
 {}

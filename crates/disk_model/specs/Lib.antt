@@ -3,3 +3,4 @@ pub mod History
 pub mod Known
 pub mod Steps
 pub mod Directory
+pub mod Input

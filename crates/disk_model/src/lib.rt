@@ -1,8 +1,10 @@
-//! The outside of a recorder and of a replayer, as traits: `World` is one disk and two output streams, `Files` are files by name.
+//! The outside of a recorder and of a replayer, as traits: `World` is one disk and two output streams, `Files` are files by name,
+//! `Inlet` is the input of a guest, in pieces, and a clock.
 //!
 //! Promises: a call fails only where its own count of faults rises, or is at its greatest value; where the history of a
 //! world is known, each call extends it by exactly one step of `specs/Steps.antt`, whatever the call answers. What a crash
-//! may leave on a disk is in `specs/History.antt`. Stands on `dp_base`.
+//! may leave on a disk is in `specs/History.antt`. Where an input is known, a take gives exactly what `specs/Input.antt`
+//! says, and one that fails loses nothing. Stands on `dp_base`.
 //!
 //! ```text
 //! world.attach("journal", true)?;
@@ -14,7 +16,9 @@
 #![tactic(auto)]
 
 mod files;
+mod inlet;
 mod world;
 
 pub use files::{FetchFault, Files, MAX_FETCH_BYTES};
+pub use inlet::Inlet;
 pub use world::{Failed, Stream, World};

@@ -1,0 +1,43 @@
+// Worked examples of the definitions: what each clause says is computed.
+ghost use Rattle.std.specs.Prelude.{◌≡◌, ◌∷◌, [], true, false, Some, None};
+ghost use Rattle.supply.specs.Supplied.{answer_at, empty, refilled, unfilled};
+ghost use Rattle.supply.specs.Windows.{bytes_left};
+
+use crate::MAX_ROOM;
+
+fn limits()
+    ensures { MAX_ROOM ≡ 65536 }
+{}
+
+// A window of the bytes 7 and 8 at place 5.
+fn answers()
+    ensures before { answer_at 4 9 (record { window = 7 ∷ 8 ∷ []; place = 5; ended = false; stamp = 0; room = 2 }) ≡ None }
+    ensures first { answer_at 5 9 (record { window = 7 ∷ 8 ∷ []; place = 5; ended = false; stamp = 0; room = 2 }) ≡ Some (7 ∷ 8 ∷ []) }
+    ensures few { answer_at 5 1 (record { window = 7 ∷ 8 ∷ []; place = 5; ended = false; stamp = 0; room = 2 }) ≡ Some (7 ∷ []) }
+    ensures last { answer_at 6 9 (record { window = 7 ∷ 8 ∷ []; place = 5; ended = false; stamp = 0; room = 2 }) ≡ Some (8 ∷ []) }
+    ensures nothing { answer_at 6 0 (record { window = 7 ∷ 8 ∷ []; place = 5; ended = false; stamp = 0; room = 2 }) ≡ Some [] }
+    ensures behind { answer_at 7 9 (record { window = 7 ∷ 8 ∷ []; place = 5; ended = false; stamp = 0; room = 2 }) ≡ None }
+{}
+
+// The end of the input at place 5.
+fn ends()
+    ensures there { answer_at 5 9 (record { window = []; place = 5; ended = true; stamp = 0; room = 2 }) ≡ Some [] }
+    ensures before { answer_at 4 9 (record { window = []; place = 5; ended = true; stamp = 0; room = 2 }) ≡ None }
+    ensures behind { answer_at 6 9 (record { window = []; place = 5; ended = true; stamp = 0; room = 2 }) ≡ None }
+    ensures not_seen { answer_at 5 9 (record { window = []; place = 5; ended = false; stamp = 0; room = 2 }) ≡ None }
+{}
+
+// Refills of an empty window, of one behind it, and one that fails.
+fn refills()
+    ensures first { (refilled (7 ∷ []) (empty 4)).place ≡ 0 }
+    ensures next { (refilled (8 ∷ 9 ∷ []) (refilled (7 ∷ []) (empty 4))).place ≡ 1 }
+    ensures going { (refilled (7 ∷ []) (empty 4)).ended ≡ false }
+    ensures end { (refilled [] (empty 4)).ended ≡ true }
+    ensures fault { unfilled (refilled (7 ∷ 8 ∷ []) (empty 4)) ≡ record { window = []; place = 2; ended = false; stamp = 0; room = 4 } }
+{}
+
+// All bytes up to an empty piece.
+#[tactic(auto, unfolding(crate::specs::Windows::bytes_left))]
+fn lefts()
+    ensures { bytes_left ((7 ∷ 8 ∷ []) ∷ (9 ∷ []) ∷ [] ∷ (6 ∷ []) ∷ []) ≡ 7 ∷ 8 ∷ 9 ∷ [] }
+{}
