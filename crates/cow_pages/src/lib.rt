@@ -1,6 +1,6 @@
 //! The memory of a guest: a table of pages, seen as the list of its pages in rising order of number.
 //!
-//! Promises: each access of a hart (`Mem`) is exact; a range is read exactly where each of its bytes may be; mapping and
+//! Promises: each access of a hart (`Mem`) is exact; a range is read or written exactly where each of its bytes may be; mapping and
 //! unmapping keep the order and change no other page; a heap whose end moves keeps the pages that it has; a shared table
 //! is an equal one. Stands on `dp_base` for `Mem` and the definitions of memory (`specs/Memory.antt`), and
 //! on `byteorder` for numbers in bytes.

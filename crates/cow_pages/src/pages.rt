@@ -319,7 +319,7 @@ impl Pages {
 
     // Writes the byte at an address, where its page is mapped.
     #[tactic(auto, using(crate::proofs::Writes::put_some, crate::proofs::Writes::put_none))]
-    fn put_byte(&mut self, address: u64, byte: u8)
+    pub(crate) fn put_byte(&mut self, address: u64, byte: u8)
         requires { address < 2 ^ 33 }
         ensures { self.new ≡ put_byte address byte self.old }
     {

@@ -1,7 +1,7 @@
 // Ranges of a guest's memory, page by page.
-ghost use Rattle.std.specs.Prelude.{◌≡◌, ◌+◌, ◌%◌, ◌^◌, ◌<◌, ◌≤◌, IfOk, is_some};
+ghost use Rattle.std.specs.Prelude.{◌≡◌, ◌+◌, ◌%◌, ◌^◌, ◌<◌, ◌≤◌, IfOk, if◌then◌else◌, is_some, length};
 ghost use Rattle.std.specs.Option.{option_copied, option_map};
-ghost use Rattle.dp_base.specs.Memory.{bytes_with};
+ghost use Rattle.dp_base.specs.Memory.{bytes_with, put_bytes};
 
 use crate::Pages;
 use dp_base::OutOfMemory;
@@ -54,6 +54,32 @@ impl Pages {
         ensures { result ≡ is_some (bytes_with 2 self.now address count) }
     {
         self.may_use_range(2, address, count)
+    }
+
+    /// Writes bytes over those of a range, if each of them may be written, and returns whether they were. Else nothing is
+    /// changed. A range doesn't wrap: no byte lies past the last address.
+    pub fn write_range(&mut self, address: u32, bytes: &[u8]) -> bool
+        requires { length bytes.now < 2 ^ 32 }
+        ensures answer { result ≡ is_some (bytes_with 2 self.old address (length bytes.now)) }
+        ensures written { self.new ≡ (if result then put_bytes address bytes.now self.old else self.old) }
+    {
+        if !self.may_use_range(2, address, bytes.len() as u32) {
+            return false;
+        }
+        self.put_bytes(u64::from(address), bytes);
+        true
+    }
+
+    // Writes bytes from an address on, where their pages are mapped.
+    fn put_bytes(&mut self, address: u64, bytes: &[u8])
+        requires { address + length bytes.now < 2 ^ 33 }
+        ensures { self.new ≡ put_bytes address bytes.now self.old }
+    {
+        let mut address = address;
+        'bytes: for byte in bytes {
+            self.put_byte(address, *byte);
+            address += 1;
+        }
     }
 
     // Whether each byte of a range lies on a page that has the flag.

@@ -365,6 +365,34 @@ fn writable_ranges(rt: HostRuntime) -> Result<(), Fail> {
     Ok(())
 }
 
+// Whether three bytes were written, and the word at an address behind that.
+fn behind_range(
+    alloc: Global,
+    address: u32,
+    bytes: [u8; 3],
+    at: u32,
+) -> Result<(bool, Access<u32>), OutOfMemory> {
+    let mut pages = bordered(alloc)?;
+    let done = pages.write_range(address, &bytes);
+    Ok((done, pages.load(at, Width::Four)))
+}
+
+#[test]
+fn written_ranges(rt: HostRuntime) -> Result<(), Fail> {
+    let cases = [
+        (0x0001_0fff, 0x0001_0ffe, (true, Access::Done(0x6362_6101))),
+        (0x0001_0ffe, 0x0001_0ffe, (true, Access::Done(0x0463_6261))),
+        (0xffff_effd, 0xffff_effc, (true, Access::Done(0x6362_612f))),
+        (0xffff_effe, 0xffff_effc, (false, Access::Done(0x3231_302f))),
+        (0x0001_5fff, 0x0001_6000, (false, Access::Done(0))),
+    ];
+    for (address, at, expected) in cases {
+        let found = behind_range(rt.alloc(), address, *b"abc", at)?;
+        assert_eq!(rt; found, expected, "{address:08x}");
+    }
+    Ok(())
+}
+
 // The number and flags of the page at a place, and its first byte.
 fn placed(alloc: Global, place: usize) -> Result<Option<(u32, u8, Option<u8>)>, OutOfMemory> {
     let mut pages = two_pages(alloc, 6, 4)?;

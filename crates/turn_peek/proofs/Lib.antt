@@ -1,0 +1,2 @@
+mod Reservations
+mod ReadTurns

@@ -1,0 +1,3 @@
+pub mod Arguments
+pub mod ReadCall
+pub mod Peek

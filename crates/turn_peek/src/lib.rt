@@ -1,0 +1,31 @@
+//! What a hart's next turn is, seen before it is taken: an instruction that its thread does by itself, one that other threads
+//! may wait for, or a call that takes an answer from outside.
+//!
+//! Promises: `peek_thread` tells the next turn of a thread by its memory and by how much of the input the guest has read
+//! (`specs/Peek.antt`), and changes nothing; `read_at_once` tells the answer of a read that takes no input
+//! (`specs/ReadCall.antt`). `laws` says what follows from the definitions alone. Stands on `dp_base`, on `cow_pages` for
+//! `Pages`, on `rv_step` for the instructions, and on `guest_state` for harts and threads.
+//!
+//! ```text
+//! match peek_thread(&thread, &pages, input) {
+//!     Peek::NotRunnable => ..,
+//!     Peek::Plain => ..,
+//!     Peek::Sync | Peek::Sc => ..,
+//!     Peek::Read { place, max } => ..,
+//!     Peek::Clock => ..,
+//! }
+//! ```
+#![tactic(auto)]
+
+pub mod arguments;
+pub mod laws;
+mod peek;
+mod read_call;
+
+pub use peek::{Peek, peek_thread};
+pub use read_call::read_at_once;
+
+#[cfg(test)]
+mod worked_arguments;
+#[cfg(test)]
+mod worked_peeks;
