@@ -7,3 +7,4 @@ mod PageLists
 mod Turning
 mod Running
 mod Starting
+mod Written

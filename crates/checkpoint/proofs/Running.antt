@@ -1,15 +1,17 @@
 -- Runs and chains from a state that has an encoding, and the state in which a guest starts.
-use Rattle.std.proofs.Common.{◌≡◌, ℕ, zero, suc, ◌+◌, ◌-◌, ◌^◌, ◌<◌, ◌≤◌, Bool, true, false, cond, List, [], ◌∷◌, ◌++◌, length, slice_get, Option, Some, None, Result, Ok, Err, refl, ap, subst, ◌∙◌, arith}
+use Rattle.std.proofs.Common.{◌≡◌, ◌⊎◌, inl, inr, ℕ, zero, suc, ◌+◌, ◌-◌, ◌^◌, ◌<◌, ◌≤◌, Bool, true, false, cond, List, [], ◌∷◌, ◌++◌, length, slice_get, Option, Some, None, Result, Ok, Err, refl, sym, ap, subst, ◌∙◌, arith}
 use Rattle.std.specs.Prelude.{◌==◌}
 use Rattle.dp_base.specs.declared.answer.Answer.{Answer}
 use Rattle.dp_base.specs.declared.slice.Slice.{Slice}
 use Rattle.dp_base.specs.declared.tid.Tid.{Tid}
-use Rattle.dp_base.specs.Journal.{Epoch}
+use Rattle.std.specs.List.{AllByRecursion}
+use Rattle.dp_base.specs.Journal.{Epoch, IsAnswer}
 use Rattle.guest_state.specs.declared.hart.Hart.{Hart}
 use Rattle.guest_state.specs.declared.thread.Thread.{Thread}
 use Rattle.guest_state.specs.declared.thread.Thread.TheVariants.{Runs, Waits, Gone}
 use Rattle.guest_state.specs.Checkpoint.{IsFreeHart, IsThread}
 use Rattle.guest_kernel.specs.declared.state.State.{State}
+use Rattle.guest_kernel.specs.Answers.{bytes_read}
 use Rattle.guest_kernel.specs.Call.{After}
 use Rattle.guest_kernel.specs.Slices.{Stop, at, chain, either, joined, run, slice_ended, slices, turns, used_up}
 use Rattle.guest_kernel.specs.State.{dropping, unreserved, without_reservation}
@@ -71,9 +73,35 @@ abbrev Counts : Type 0
 Counts = (s : State) (tid : Tid) (log : List Answer) (after : After) → turn s tid log ≡ Ok after → after.state.steps ≡ s.steps + 1
 
 abbrev TurnKeeps : Type 0
-TurnKeeps = (s : State) (tid : Tid) (log : List Answer) (after : After) → IsEncodable (without_reservation s tid) → turn s tid log ≡ Ok after → after.state.steps < 2 ^ 64 → IsEncodable (without_reservation after.state tid)
+TurnKeeps = (s : State) (tid : Tid) (log : List Answer) (after : After) → IsEncodable (without_reservation s tid) → AllByRecursion IsAnswer log → turn s tid log ≡ Ok after → after.state.steps < 2 ^ 64 → after.state.input < 2 ^ 64
+    → IsEncodable (without_reservation after.state tid)
 
-module _ (counts : Counts) (turn_keeps : TurnKeeps) where
+-- the input's place grows by what is taken of the log, and what is left of it is its end
+abbrev Grows : Type 0
+Grows = (s : State) (tid : Tid) (log : List Answer) (after : After) → turn s tid log ≡ Ok after → after.state.input + length (bytes_read after.rest) ≡ s.input + length (bytes_read log)
+
+abbrev Leaves : Type 0
+Leaves = (s : State) (tid : Tid) (log : List Answer) (after : After) → turn s tid log ≡ Ok after → (after.rest ≡ log) ⊎ ((a : Answer) × (log ≡ a ∷ after.rest))
+
+-- the place and the log, as far as they count together
+abbrev reach : After → ℕ
+reach here = here.state.input + length (bytes_read here.rest)
+
+-- what is left of answers is answers
+left_are : (log rest : List Answer) → (rest ≡ log) ⊎ ((a : Answer) × (log ≡ a ∷ rest)) → AllByRecursion IsAnswer log → AllByRecursion IsAnswer rest
+left_are log rest (inl same) are = subst (AllByRecursion IsAnswer) (sym same) are
+left_are log rest (inr taken) are = let all : AllByRecursion IsAnswer (taken.0 ∷ rest) = subst (AllByRecursion IsAnswer) taken.1 are in all.1
+
+same_input : (s : State) (tid : Tid) (o : Option Thread) → (dropping s tid o).input ≡ s.input
+same_input s tid None = refl
+same_input s tid (Some (Runs hart clear)) = refl
+same_input s tid (Some (Waits addr hart clear)) = refl
+same_input s tid (Some (Gone code)) = refl
+
+module _ (counts : Counts) (grows : Grows) (leaves : Leaves) (turn_keeps : TurnKeeps) where
+  rest_are : (s : State) (tid : Tid) (log : List Answer) (after : After) → turn s tid log ≡ Ok after → AllByRecursion IsAnswer log → AllByRecursion IsAnswer after.rest
+  rest_are s tid log after is are = left_are log after.rest (leaves s tid log after is) are
+
   turns_steps : (left taken : ℕ) (tid : Tid) (here there : After) → turns taken left tid here ≡ Ok there → here.state.steps ≤ there.state.steps
   unfolding turns
   turns_steps zero taken tid here there ran = let same = ap (λ (r : Result After (ℕ × After)). end_of here r) ran in omega (arith, ap (λ (a : After). a.state.steps) same)
@@ -83,14 +111,28 @@ module _ (counts : Counts) (turn_keeps : TurnKeeps) where
       let more = turns_steps left (taken + 1) tid (joined here a.0) there a.2 in
       omega (arith, one, more)
 
-  turns_keep : (left taken : ℕ) (tid : Tid) (here there : After) → turns taken left tid here ≡ Ok there → IsEncodable (without_reservation here.state tid) → there.state.steps < 2 ^ 64 → IsEncodable (without_reservation there.state tid)
+  -- what runs of turns keep
+  record Kept (here there : After) : Type 0 where
+    are : AllByRecursion IsAnswer there.rest
+    reach_is : reach there ≡ reach here
+
+  turns_kept : (left taken : ℕ) (tid : Tid) (here there : After) → turns taken left tid here ≡ Ok there → AllByRecursion IsAnswer here.rest → Kept here there
   unfolding turns
-  turns_keep zero taken tid here there ran is few = subst (λ (a : After). IsEncodable (without_reservation a.state tid)) (ap (λ (r : Result After (ℕ × After)). end_of here r) ran) is
-  turns_keep (suc left) taken tid here there ran is few =
+  turns_kept zero taken tid here there ran are = subst (Kept here) (ap (λ (r : Result After (ℕ × After)). end_of here r) ran) (record { are = are; reach_is = refl })
+  turns_kept (suc left) taken tid here there ran are =
+      let a = taken_from (turn here.state tid here.rest) (λ refusal. (taken, here)) (λ after. turns (taken + 1) left tid (joined here after)) there ran in
+      let more = turns_kept left (taken + 1) tid (joined here a.0) there a.2 (rest_are here.state tid here.rest a.0 a.1 are) in
+      record { are = more.are; reach_is = more.reach_is ∙ grows here.state tid here.rest a.0 a.1 }
+
+  turns_keep : (left taken : ℕ) (tid : Tid) (here there : After) → turns taken left tid here ≡ Ok there → AllByRecursion IsAnswer here.rest → reach here < 2 ^ 64 → IsEncodable (without_reservation here.state tid) → there.state.steps < 2 ^ 64 → IsEncodable (without_reservation there.state tid)
+  unfolding turns
+  turns_keep zero taken tid here there ran are little is few = subst (λ (a : After). IsEncodable (without_reservation a.state tid)) (ap (λ (r : Result After (ℕ × After)). end_of here r) ran) is
+  turns_keep (suc left) taken tid here there ran are little is few =
       let a = taken_from (turn here.state tid here.rest) (λ refusal. (taken, here)) (λ after. turns (taken + 1) left tid (joined here after)) there ran in
       let more = turns_steps left (taken + 1) tid (joined here a.0) there a.2 in
-      let next_ = turn_keeps here.state tid here.rest a.0 is a.1 (omega (arith, more, few)) in
-      turns_keep left (taken + 1) tid (joined here a.0) there a.2 next_ few
+      let grown = grows here.state tid here.rest a.0 a.1 in
+      let next_ = turn_keeps here.state tid here.rest a.0 is are a.1 (omega (arith, more, few)) (omega (arith, grown, little)) in
+      turns_keep left (taken + 1) tid (joined here a.0) there a.2 (rest_are here.state tid here.rest a.0 a.1 are) (omega (arith, grown, little)) next_ few
 
   slices_steps : (xs : List Slice) (done : ℕ) (here there : After) → slices done xs here ≡ Ok there → here.state.steps ≤ there.state.steps
   unfolding slices
@@ -101,15 +143,27 @@ module _ (counts : Counts) (turn_keeps : TurnKeeps) where
       let more = slices_steps xs (done + 1) (slice_ended x.tid a.0) there a.2 in
       omega (arith, one, more, same_steps a.0.state x.tid (thread_at a.0.state.threads x.tid))
 
-  slices_keep : (xs : List Slice) (done : ℕ) (here there : After) → slices done xs here ≡ Ok there → IsEncodable here.state → there.state.steps < 2 ^ 64 → IsEncodable there.state
+  slices_kept : (xs : List Slice) (done : ℕ) (here there : After) → slices done xs here ≡ Ok there → AllByRecursion IsAnswer here.rest → Kept here there
   unfolding slices
-  slices_keep [] done here there ran is few = subst (λ (a : After). IsEncodable a.state) (ap (λ (r : Result After (Stop × After)). stop_of here r) ran) is
-  slices_keep (x ∷ xs) done here there ran is few =
+  slices_kept [] done here there ran are = subst (Kept here) (ap (λ (r : Result After (Stop × After)). stop_of here r) ran) (record { are = are; reach_is = refl })
+  slices_kept (x ∷ xs) done here there ran are =
+      let a = taken_from (turns 0 x.steps x.tid here) (λ stop. (record { slice = done; step = stop.0 }, stop.1)) (λ after. slices (done + 1) xs (slice_ended x.tid after)) there ran in
+      let one = turns_kept x.steps 0 x.tid here a.0 a.1 are in
+      let more = slices_kept xs (done + 1) (slice_ended x.tid a.0) there a.2 one.are in
+      let same = same_input a.0.state x.tid (thread_at a.0.state.threads x.tid) in
+      record { are = more.are; reach_is = omega (arith, more.reach_is, same, one.reach_is) }
+
+  slices_keep : (xs : List Slice) (done : ℕ) (here there : After) → slices done xs here ≡ Ok there → AllByRecursion IsAnswer here.rest → reach here < 2 ^ 64 → IsEncodable here.state → there.state.steps < 2 ^ 64 → IsEncodable there.state
+  unfolding slices
+  slices_keep [] done here there ran are little is few = subst (λ (a : After). IsEncodable a.state) (ap (λ (r : Result After (Stop × After)). stop_of here r) ran) is
+  slices_keep (x ∷ xs) done here there ran are little is few =
       let a = taken_from (turns 0 x.steps x.tid here) (λ stop. (record { slice = done; step = stop.0 }, stop.1)) (λ after. slices (done + 1) xs (slice_ended x.tid after)) there ran in
       let more = slices_steps xs (done + 1) (slice_ended x.tid a.0) there a.2 in
       let same = same_steps a.0.state x.tid (thread_at a.0.state.threads x.tid) in
-      let turned = turns_keep x.steps 0 x.tid here a.0 a.1 (dropped here.state x.tid is) (omega (arith, more, same, few)) in
-      slices_keep xs (done + 1) (slice_ended x.tid a.0) there a.2 turned few
+      let one = turns_kept x.steps 0 x.tid here a.0 a.1 are in
+      let place = same_input a.0.state x.tid (thread_at a.0.state.threads x.tid) in
+      let turned = turns_keep x.steps 0 x.tid here a.0 a.1 are little (dropped here.state x.tid is) (omega (arith, more, same, few)) in
+      slices_keep xs (done + 1) (slice_ended x.tid a.0) there a.2 one.are (omega (arith, one.reach_is, place, little)) turned few
 
   no_answer_left : (count : ℕ) (here there : After) (rest : List Answer) → used_up count here rest ≡ Ok there → here ≡ there
   no_answer_left count here there [] e = ap (λ (r : Result After (Stop × After)). stop_of here r) e
@@ -120,8 +174,24 @@ module _ (counts : Counts) (turn_keeps : TurnKeeps) where
       let a = taken_from (slices 0 xs here) (λ stop. stop) (λ after. used_up (length xs) after after.rest) there ran in
       a.1 ∙ ap (λ (x : After). Ok x) (no_answer_left (length xs) a.0 there a.0.rest a.2)
 
-  pub run_keeps : (s : State) (xs : List Slice) (log : List Answer) (there : After) → IsEncodable s → run xs (at s [] log) ≡ Ok there → there.state.steps < 2 ^ 64 → IsEncodable there.state
-  run_keeps s xs log there is ran few = slices_keep xs 0 (at s [] log) there (ran_to xs (at s [] log) there ran) is few
+  -- a run uses its log up
+  none_left : (count : ℕ) (here there : After) (rest : List Answer) → used_up count here rest ≡ Ok there → rest ≡ []
+  none_left count here there [] e = refl
+  none_left count here there (x ∷ rest) e = absurd cc
+
+  used_up_by : (xs : List Slice) (here there : After) → run xs here ≡ Ok there → there.rest ≡ []
+  used_up_by xs here there ran =
+      let a = taken_from (slices 0 xs here) (λ stop. stop) (λ after. used_up (length xs) after after.rest) there ran in
+      ap (λ (x : After). x.rest) (sym (no_answer_left (length xs) a.0 there a.0.rest a.2)) ∙ none_left (length xs) a.0 there a.0.rest a.2
+
+  run_reach : (s : State) (xs : List Slice) (log : List Answer) (there : After) → AllByRecursion IsAnswer log → run xs (at s [] log) ≡ Ok there → there.state.input ≡ s.input + length (bytes_read log)
+  run_reach s xs log there are ran =
+      let kept = slices_kept xs 0 (at s [] log) there (ran_to xs (at s [] log) there ran) are in
+      omega (arith, kept.reach_is, ap (λ (l : List Answer). length (bytes_read l)) (used_up_by xs (at s [] log) there ran))
+
+  pub run_keeps : (s : State) (xs : List Slice) (log : List Answer) (there : After) → IsEncodable s → AllByRecursion IsAnswer log → run xs (at s [] log) ≡ Ok there → there.state.steps < 2 ^ 64 → there.state.input < 2 ^ 64 → IsEncodable there.state
+  run_keeps s xs log there is are ran few little =
+      slices_keep xs 0 (at s [] log) there (ran_to xs (at s [] log) there ran) are (omega (arith, run_reach s xs log there are ran, little)) is few
 
   run_steps : (s : State) (xs : List Slice) (log : List Answer) (there : After) → run xs (at s [] log) ≡ Ok there → s.steps ≤ there.state.steps
   run_steps s xs log there ran = slices_steps xs 0 (at s [] log) there (ran_to xs (at s [] log) there ran)
@@ -145,15 +215,29 @@ module _ (counts : Counts) (turn_keeps : TurnKeeps) where
       let more = chain_steps p.0.state epochs p.2 p.3 in
       omega (arith, one, more, ap (λ (t : State). t.steps) p.4)
 
-  chain_keeps : (s : State) (epochs : List Epoch) (end : State × List ℕ) → IsEncodable s → chain s epochs ≡ Ok end → end.0.steps < 2 ^ 64 → IsEncodable end.0
+  abbrev AreAnswered : List Epoch → Type 0
+  AreAnswered epochs = AllByRecursion (λ (e : Epoch). AllByRecursion IsAnswer e.answers) epochs
+
+  chain_input : (s : State) (epochs : List Epoch) (end : State × List ℕ) → AreAnswered epochs → chain s epochs ≡ Ok end → s.input ≤ end.0.input
   unfolding chain
-  chain_keeps s [] end is chained few = subst IsEncodable (ap (λ (r : Result (State × List ℕ) ℕ). state_of s r) chained) is
-  chain_keeps s (e ∷ epochs) end is chained few =
+  chain_input s [] end are chained = omega (arith, ap (λ (r : Result (State × List ℕ) ℕ). (state_of s r).input) chained)
+  chain_input s (e ∷ epochs) end are chained =
+      let p = chain_parts s e epochs end chained in
+      let one = run_reach s e.slices e.answers p.0 are.0 p.1 in
+      let more = chain_input p.0.state epochs p.2 are.1 p.3 in
+      omega (arith, one, more, ap (λ (t : State). t.input) p.4)
+
+  chain_keeps : (s : State) (epochs : List Epoch) (end : State × List ℕ) → IsEncodable s → AreAnswered epochs → chain s epochs ≡ Ok end → end.0.steps < 2 ^ 64 → end.0.input < 2 ^ 64 → IsEncodable end.0
+  unfolding chain
+  chain_keeps s [] end is are chained few little = subst IsEncodable (ap (λ (r : Result (State × List ℕ) ℕ). state_of s r) chained) is
+  chain_keeps s (e ∷ epochs) end is are chained few little =
       let p = chain_parts s e epochs end chained in
       let more = chain_steps p.0.state epochs p.2 p.3 in
+      let further = chain_input p.0.state epochs p.2 are.1 p.3 in
       let same = ap (λ (t : State). t.steps) p.4 in
-      let here = run_keeps s e.slices e.answers p.0 is p.1 (omega (arith, more, same, few)) in
-      subst IsEncodable p.4 (chain_keeps p.0.state epochs p.2 here p.3 (omega (arith, same, few)))
+      let place = ap (λ (t : State). t.input) p.4 in
+      let here = run_keeps s e.slices e.answers p.0 is are.0 p.1 (omega (arith, more, same, few)) (omega (arith, further, place, little)) in
+      subst IsEncodable p.4 (chain_keeps p.0.state epochs p.2 here are.1 p.3 (omega (arith, same, few)) (omega (arith, place, little)))
 
-  pub chain_keeps_at : (s : State) (epochs : List Epoch) (end : State) (output : List ℕ) → IsEncodable s → chain s epochs ≡ Ok (end, output) → end.steps < 2 ^ 64 → IsEncodable end
-  chain_keeps_at s epochs end output is chained few = chain_keeps s epochs (end, output) is chained few
+  pub chain_keeps_at : (s : State) (epochs : List Epoch) (end : State) (output : List ℕ) → IsEncodable s → AreAnswered epochs → chain s epochs ≡ Ok (end, output) → end.steps < 2 ^ 64 → end.input < 2 ^ 64 → IsEncodable end
+  chain_keeps_at s epochs end output is are chained few little = chain_keeps s epochs (end, output) is are chained few little

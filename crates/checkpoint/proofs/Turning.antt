@@ -1,5 +1,5 @@
 -- A turn of a thread, behind which the state has an encoding again once the thread's reservation is dropped.
-use Rattle.std.proofs.Common.{◌≡◌, ℕ, zero, suc, ◌+◌, ◌-◌, ◌%◌, ◌^◌, ◌<◌, ◌≤◌, Bool, true, false, cond, not, List, [], ◌∷◌, ◌++◌, length, count_by, min, replicate, take, slice_get, Option, Some, None, Result, Ok, Err, refl, sym, ap, subst, ◌∙◌, arith}
+use Rattle.std.proofs.Common.{◌≡◌, ℕ, zero, suc, ◌+◌, ◌-◌, ◌/◌, ◌%◌, ◌^◌, ◌<◌, ◌≤◌, Bool, true, false, cond, not, List, [], ◌∷◌, ◌++◌, length, count_by, min, replicate, take, slice_get, Option, Some, None, Result, Ok, Err, refl, sym, ap, subst, ◌∙◌, arith}
 use Rattle.std.specs.Prelude.{◌==◌, ◌&&◌, nat_lt, slice_set, slice_index}
 use Rattle.std.specs.List.{AllByRecursion, list_any}
 use Rattle.std.proofs.Math.Nat.{min-le_right}
@@ -9,6 +9,8 @@ use Rattle.std.proofs.lemmas.Option.{slice_get_within}
 use Rattle.dp_base.specs.declared.access.Width.{Width}
 use Rattle.dp_base.specs.declared.access.Width.TheVariants.{Four}
 use Rattle.dp_base.specs.declared.answer.Answer.{Answer}
+use Rattle.dp_base.specs.declared.answer.Answer.TheVariants.{Clock, Read}
+use Rattle.dp_base.specs.Journal.{IsAnswer}
 use Rattle.dp_base.specs.declared.limits.TheConstants.{MAX_CALL_BYTES, MAX_PAGES, PAGE_NUMBERS}
 use Rattle.dp_base.specs.declared.tid.Tid.{Tid}
 use Rattle.guest_state.specs.declared.end.End.{End}
@@ -18,12 +20,14 @@ use Rattle.guest_state.specs.declared.thread.Thread.{Thread}
 use Rattle.guest_state.specs.declared.thread.Thread.TheVariants.{Runs, Waits, Gone}
 use Rattle.guest_state.specs.Checkpoint.{HEAP_END, IsEnd, IsFreeHart, IsThread, IsWord, is_alive, is_heap, traps_within}
 use Rattle.guest_state.proofs.Codes.{bounds_of}
-use Rattle.dp_base.specs.Memory.{ArePages, Memory, bytes_with, loaded, stored}
+use Rattle.dp_base.specs.Memory.{ArePages, Memory, bytes_with, loaded, put_bytes, stored}
 use Rattle.guest_state.specs.Register.{register, with_register, next}
 use Rattle.cow_pages.specs.Heap.{with_heap}
 use Rattle.guest_kernel.specs.declared.state.State.{State}
 use Rattle.guest_kernel.specs.Break.{may_move_break, page_from, with_break}
-use Rattle.guest_kernel.specs.Call.{After, Refusal, Written, a0, a1, a2, a3, a7, answered, begins_to_wait, bytes_written, called, cleared, end_of_exit, end_of_waiting, exits, exits_all, is_cleared, may_spawn, minus, moved, sets_break, silent, spawned_hart, spawns, waits, waits_by, wakes, written, written_by, EAGAIN, EFAULT, EINVAL, ENOSYS}
+use Rattle.guest_kernel.specs.Call.{After, Refusal, Written, answered, begins_to_wait, bytes_written, called, cleared, end_of_exit, end_of_waiting, exits, exits_all, is_cleared, may_spawn, sets_break, silent, spawned_hart, spawns, waits, waits_by, wakes, written, written_by, EAGAIN, EINVAL, ENOSYS, called_alone, has_clock, has_read}
+use Rattle.turn_peek.specs.Arguments.{a0, a1, a2, a3, minus, moved, EFAULT}
+use Rattle.guest_kernel.proofs.Turns.{called_alone_by_row, called_by_row}
 use Rattle.guest_kernel.specs.State.{counted, dropping, has_ended, unreserved, with_thread, without_reservation}
 use Rattle.guest_kernel.specs.Threads.{AreFew, awake, is_running, thread_at, waits_on, woken}
 use Rattle.guest_kernel.specs.Turn.{turn, by_effect, by_thread}
@@ -34,6 +38,7 @@ use Rattle.checkpoint.specs.State.{IsEncodable, checkpoint_of}
 use Rattle.checkpoint.proofs.Keeping.{PagesFit, RestFits, all_at, all_set, built, bytes_of, live_set, pages_alike, pages_fit, set_at, set_twice}
 use Rattle.checkpoint.proofs.Lists.{each_append, each_woken, set_append, set_woken}
 use Rattle.checkpoint.proofs.PageLists.{contents, pages_rise, risen_pages}
+use Rattle.checkpoint.proofs.Written.{put_bytes_bytes, put_bytes_shape}
 
 -- ---- harts
 
@@ -128,14 +133,14 @@ pub record Fits (s left : State) (tid : Tid) : Type 0 where
   pub each : AllByRecursion IsThread (without_reservation left tid).threads
   pub some : 0 < length (without_reservation left tid).threads
   pub pages : PagesFit (without_reservation left tid).pages
-  pub rest : left.steps < 2 ^ 64 → RestFits (without_reservation left tid) s.heap
+  pub rest : left.steps < 2 ^ 64 → left.input < 2 ^ 64 → RestFits (without_reservation left tid) s.heap
 
 abbrev Keeps : State → Tid → Result After Refusal → Type 0
 Keeps s tid (Ok after) = Fits s after.state tid
 Keeps s tid (Err refusal) = Unit {0}
 
 -- the state before the turn, whose thread runs
-module _ (laws : TurnLaws) (s : State) (tid : Tid) (hart : Hart) (clear : ℕ) (log : List Answer) (is : IsEncodable (without_reservation s tid)) (there : thread_at s.threads tid ≡ Some (Runs hart clear)) where
+module _ (laws : TurnLaws) (s : State) (tid : Tid) (hart : Hart) (clear : ℕ) (log : List Answer) (answers_are : AllByRecursion IsAnswer log) (is : IsEncodable (without_reservation s tid)) (there : thread_at s.threads tid ≡ Some (Runs hart clear)) where
   not_none : (b : Bool) (o : Option Thread) → cond b None o ≡ Some (Runs hart clear) → o ≡ Some (Runs hart clear)
   not_none true o e = absurd cc
   not_none false o e = e
@@ -189,7 +194,6 @@ module _ (laws : TurnLaws) (s : State) (tid : Tid) (hart : Hart) (clear : ℕ) (
 
   -- what it leaves, whatever its threads
   pub record Leaves (left : State) (threads : List Thread) : Type 0 where
-    pub input : left.input ≡ s.input
     pub heap : left.heap ≡ s.heap
     pub brk : is_heap s.heap left.brk ≡ true
     pub end : IsEnd left.end
@@ -201,9 +205,9 @@ module _ (laws : TurnLaws) (s : State) (tid : Tid) (hart : Hart) (clear : ℕ) (
     each = subst (λ (t : State). AllByRecursion IsThread t.threads) (sym dropped) each;
     some = subst (λ (t : State). 0 < length t.threads) (sym dropped) some;
     pages = subst (λ (t : State). PagesFit t.pages) (sym dropped) leaves.pages;
-    rest = λ few. subst (λ (t : State). RestFits t s.heap) (sym dropped) (record {
+    rest = λ few little. subst (λ (t : State). RestFits t s.heap) (sym dropped) (record {
       steps = few;
-      input = subst (λ n. n < 2 ^ 64) (sym leaves.input) before.input;
+      input = little;
       start = leaves.heap;
       word = before.heap;
       brk = leaves.brk;
@@ -227,15 +231,15 @@ module _ (laws : TurnLaws) (s : State) (tid : Tid) (hart : Hart) (clear : ℕ) (
       get_set (x ∷ xs) (suc i) y lt = get_set xs i y (omega (arith, lt))
 
   -- it goes on, with nothing changed but these
-  went : (left : State) (h : Hart) → left.threads ≡ slice_set s.threads (tid.0 - 1) (Runs h clear) → HasWords h → left.input ≡ s.input → left.heap ≡ s.heap → is_heap s.heap left.brk ≡ true → IsEnd left.end
+  went : (left : State) (h : Hart) → left.threads ≡ slice_set s.threads (tid.0 - 1) (Runs h clear) → HasWords h → left.heap ≡ s.heap → is_heap s.heap left.brk ≡ true → IsEnd left.end
       → traps_within (length s.threads) left.end ≡ true → PagesFit left.pages → Fits s left tid
-  went left h are words input heap brk end trap pages =
+  went left h are words heap brk end trap pages =
       let size = length-set s.threads (tid.0 - 1) (Runs (unreserved h) clear) in
       fits_by left (slice_set s.threads (tid.0 - 1) (Runs (unreserved h) clear)) (dropped_running left s.threads h clear are inside) (each_set (Runs (unreserved h) clear) (to_free h words, old_is.1)) (omega (arith, size, some_threads))
-      (record { input = input; heap = heap; brk = brk; end = end; traps = ap (λ n. traps_within n left.end) size ∙ trap; pages = pages })
+      (record { heap = heap; brk = brk; end = end; traps = ap (λ n. traps_within n left.end) size ∙ trap; pages = pages })
 
   answer_is : (value : ℕ) → IsWord value → Fits s (counted (answered s tid hart clear value)) tid
-  answer_is value fits = went (counted (answered s tid hart clear value)) (next (with_register hart 10 value)) refl (next_is (with_register hart 10 value) (with_word hart 10 value hart_is fits)) refl refl heap_is end_is within_is pages_are
+  answer_is value fits = went (counted (answered s tid hart clear value)) (next (with_register hart 10 value)) refl (next_is (with_register hart 10 value) (with_word hart 10 value hart_is fits)) refl heap_is end_is within_is pages_are
 
   bytes_word : (count : ℕ) (bytes : Option (List ℕ)) → count ≤ MAX_CALL_BYTES → IsWord (bytes_written count bytes).answer
   bytes_word count None few = omega arith
@@ -275,7 +279,6 @@ module _ (laws : TurnLaws) (s : State) (tid : Tid) (hart : Hart) (clear : ℕ) (
     pub each : AllByRecursion IsThread left.threads
     pub some : 0 < length left.threads
     pub pages : PagesFit left.pages
-    pub input : left.input ≡ s.input
     pub heap : left.heap ≡ s.heap
     pub brk : left.brk ≡ s.brk
 
@@ -285,7 +288,6 @@ module _ (laws : TurnLaws) (s : State) (tid : Tid) (hart : Hart) (clear : ℕ) (
     each = each_set (Gone (a0 hart)) code_is;
     some = omega (arith, some_threads, length-set s.threads (tid.0 - 1) (Gone (a0 hart)));
     pages = pages_are;
-    input = refl;
     heap = refl;
     brk = refl;
   }
@@ -297,7 +299,6 @@ module _ (laws : TurnLaws) (s : State) (tid : Tid) (hart : Hart) (clear : ℕ) (
         each = each_woken awake_is clear (length (with_thread s tid (Gone (a0 hart))).threads) (with_thread s tid (Gone (a0 hart))).threads left_gone.each;
         some = omega (arith, left_gone.some, laws.wake_length clear (length (with_thread s tid (Gone (a0 hart))).threads) (with_thread s tid (Gone (a0 hart))).threads);
         pages = pages_alike s.pages (stored Four clear 0 s.pages) pages_are (laws.stored_bytes Four clear 0 s.pages bytes_are) (laws.stored_shape Four clear 0 s.pages);
-        input = refl;
         heap = refl;
         brk = refl;
       })
@@ -309,7 +310,6 @@ module _ (laws : TurnLaws) (s : State) (tid : Tid) (hart : Hart) (clear : ℕ) (
       let behind = counted (exits s tid hart clear) in
       fits_by behind left.threads (ap (λ (o : Option Thread). dropping behind tid o) (placed left.threads (Gone (a0 hart)) left_cleared.here)) left_cleared.each left_cleared.some
       (record {
-        input = left_cleared.input;
         heap = left_cleared.heap;
         brk = ap (λ b. is_heap s.heap b) left_cleared.brk ∙ heap_is;
         end = exit_end (a0 hart) left.threads code_is;
@@ -353,7 +353,7 @@ module _ (laws : TurnLaws) (s : State) (tid : Tid) (hart : Hart) (clear : ℕ) (
       (each_append IsThread (slice_set s.threads (tid.0 - 1) t) (new ∷ []) (each_set t (to_free h words, old_is.1))
       ((spawned_is (a0 hart) (a1 hart) (a2 hart) (register_is_word hart 10 hart_is) (register_is_word hart 11 hart_is) (register_is_word hart 12 hart_is), register_is_word hart 13 hart_is), tt)))
       (omega (arith, all, size))
-      (record { input = refl; heap = refl; brk = heap_is; end = end_is; traps = traps_more (length s.threads) (length (slice_set threads (tid.0 - 1) t)) s.end (omega (arith, all, size)) within_is; pages = pages_are })
+      (record { heap = refl; brk = heap_is; end = end_is; traps = traps_more (length s.threads) (length (slice_set threads (tid.0 - 1) t)) s.end (omega (arith, all, size)) within_is; pages = pages_are })
 
   spawns_is : Keeps s tid (silent (spawns s tid hart clear) log)
   spawns_is = cond_both (may_spawn s.threads) _ _ (λ (left : State). Fits s (counted left) tid) (λ _. spawned_fits) (λ _. answer_is (minus EAGAIN) (omega arith))
@@ -369,7 +369,7 @@ module _ (laws : TurnLaws) (s : State) (tid : Tid) (hart : Hart) (clear : ℕ) (
       ap (λ (o : Option Thread). dropping left tid o) (placed threads (Waits addr h clear) (set_at s.threads (tid.0 - 1) (Runs hart clear) (Waits addr h clear) at_i))
       ∙ ap (λ l. record left { threads = l }) (set_twice s.threads (tid.0 - 1) (Waits addr h clear) t) in
       fits_by left (slice_set s.threads (tid.0 - 1) t) dropped (each_set t (fits, to_free h (next_is hart hart_is), old_is.1)) (omega (arith, all, some_threads))
-      (record { input = refl; heap = refl; brk = heap_is; end = waiting_end threads; traps = waiting_traps (length (slice_set s.threads (tid.0 - 1) t)) threads; pages = pages_are })
+      (record { heap = refl; brk = heap_is; end = waiting_end threads; traps = waiting_traps (length (slice_set s.threads (tid.0 - 1) t)) threads; pages = pages_are })
 
   waits_by_is : (addr expected : ℕ) (word : Option ℕ) → IsWord addr → Fits s (counted (waits_by s tid hart clear addr expected word)) tid
   waits_by_is addr expected None fits = answer_is (minus EFAULT) (omega arith)
@@ -398,7 +398,7 @@ module _ (laws : TurnLaws) (s : State) (tid : Tid) (hart : Hart) (clear : ℕ) (
       (subst (AllByRecursion IsThread) (sym (set_woken (a0 hart) (a1 hart) s.threads (tid.0 - 1) (Runs hart clear) t at_i refl refl))
       (each_woken awake_is (a0 hart) (a1 hart) (slice_set s.threads (tid.0 - 1) t) (each_set t (to_free h words, old_is.1))))
       (omega (arith, all, size, some_threads))
-      (record { input = refl; heap = refl; brk = heap_is; end = end_is; traps = ap (λ n. traps_within n s.end) (all ∙ size) ∙ within_is; pages = pages_are })
+      (record { heap = refl; brk = heap_is; end = end_is; traps = ap (λ n. traps_within n s.end) (all ∙ size) ∙ within_is; pages = pages_are })
 
   -- ---- brk
 
@@ -421,7 +421,7 @@ module _ (laws : TurnLaws) (s : State) (tid : Tid) (hart : Hart) (clear : ℕ) (
   sets_break_is = cond_both (may_move_break s (a0 hart)) _ _ (λ (left : State). Fits s (counted left) tid)
       (λ may.
       let fit = heap_fits (a0 hart) may in
-      went (counted (answered (record s { pages = with_break s (a0 hart); brk = a0 hart }) tid hart clear (a0 hart))) (next (with_register hart 10 (a0 hart))) refl (answered_hart (a0 hart) fit.2) refl refl fit.0 end_is within_is fit.1)
+      went (counted (answered (record s { pages = with_break s (a0 hart); brk = a0 hart }) tid hart clear (a0 hart))) (next (with_register hart 10 (a0 hart))) refl (answered_hart (a0 hart) fit.2) refl fit.0 end_is within_is fit.1)
       (λ _. answer_is s.brk before.brk)
 
   -- ---- the table
@@ -429,18 +429,32 @@ module _ (laws : TurnLaws) (s : State) (tid : Tid) (hart : Hart) (clear : ℕ) (
   tid_is : IsWord tid.0
   tid_is = omega (arith, inside, few_threads)
 
+  called_alone_keeps : Keeps s tid (called_alone s tid hart clear log)
+  called_alone_keeps = called_alone_by_row (Keeps s tid) s tid hart clear log
+      exits_is (went (counted (exits_all s tid hart clear)) (next hart) refl (next_is hart hart_is) refl heap_is (register_is_word hart 10 hart_is) refl pages_are)
+      (answer_is (written_by s.pages hart).answer (written_word s.pages (a0 hart) (a1 hart) (a2 hart))) spawns_is waits_is wakes_is (answer_is 0 (omega arith)) sets_break_is (answer_is tid.0 tid_is) (answer_is (minus ENOSYS) (omega arith))
+
+  -- a read took bytes
+  read_keeps : (bytes : List ℕ) (rest : List Answer) → log ≡ Read bytes ∷ rest → length bytes ≤ MAX_CALL_BYTES → Fits s (counted (has_read s tid hart clear bytes)) tid
+  read_keeps bytes rest is_ few =
+      let fits : AllByRecursion IsAnswer (Read bytes ∷ rest) = subst (AllByRecursion IsAnswer) is_ answers_are in
+      went (counted (has_read s tid hart clear bytes)) (next (with_register hart 10 (length bytes))) refl
+      (next_is (with_register hart 10 (length bytes)) (with_word hart 10 (length bytes) hart_is (omega (arith, few)))) refl heap_is end_is within_is
+      (pages_alike s.pages (put_bytes (a1 hart) bytes s.pages) pages_are (put_bytes_bytes (a1 hart) bytes s.pages bytes_are fits.0.1) (put_bytes_shape (a1 hart) bytes s.pages))
+
+  -- the clock was read
+  clock_keeps : (reading : ℕ) (rest : List Answer) → log ≡ Clock reading ∷ rest → Fits s (counted (has_clock s tid hart clear reading)) tid
+  clock_keeps reading rest is_ =
+      let fits : AllByRecursion IsAnswer (Clock reading ∷ rest) = subst (AllByRecursion IsAnswer) is_ answers_are in
+      let small : reading < 2 ^ 64 = fits.0 in
+      let h = with_register (with_register hart 10 (reading % 2 ^ 32)) 11 (reading / 2 ^ 32) in
+      went (counted (has_clock s tid hart clear reading)) (next h) refl
+      (next_is h (with_word (with_register hart 10 (reading % 2 ^ 32)) 11 (reading / 2 ^ 32) (with_word hart 10 (reading % 2 ^ 32) hart_is (omega arith)) (omega (arith, small)))) refl heap_is end_is within_is pages_are
+
   called_keeps : Keeps s tid (called s tid hart clear log)
-  called_keeps =
-      cond_both (a7 hart == 0) _ _ (Keeps s tid) (λ _. exits_is)
-      (λ _. cond_both (a7 hart == 1) _ _ (Keeps s tid) (λ _. went (counted (exits_all s tid hart clear)) (next hart) refl (next_is hart hart_is) refl refl heap_is (register_is_word hart 10 hart_is) refl pages_are)
-      (λ _. cond_both (a7 hart == 2) _ _ (Keeps s tid) (λ _. answer_is (written_by s.pages hart).answer (written_word s.pages (a0 hart) (a1 hart) (a2 hart)))
-      (λ _. cond_both (a7 hart == 4) _ _ (Keeps s tid) (λ _. spawns_is)
-      (λ _. cond_both (a7 hart == 5) _ _ (Keeps s tid) (λ _. waits_is)
-      (λ _. cond_both (a7 hart == 6) _ _ (Keeps s tid) (λ _. wakes_is)
-      (λ _. cond_both (a7 hart == 7) _ _ (Keeps s tid) (λ _. answer_is 0 (omega arith))
-      (λ _. cond_both (a7 hart == 9) _ _ (Keeps s tid) (λ _. sets_break_is)
-      (λ _. cond_both (a7 hart == 10) _ _ (Keeps s tid) (λ _. answer_is tid.0 tid_is)
-      (λ _. answer_is (minus ENOSYS) (omega arith))))))))))
+  called_keeps = called_by_row (Keeps s tid) s tid hart clear log
+      (record { at_once = λ value small. answer_is value small; bytes = λ bytes rest is_ few. read_keeps bytes rest is_ few; reading = λ reading rest is_. clock_keeps reading rest is_; refused = λ refusal. tt })
+      called_alone_keeps
 
   -- ---- steps
 
@@ -455,11 +469,11 @@ module _ (laws : TurnLaws) (s : State) (tid : Tid) (hart : Hart) (clear : ℕ) (
       let t = Runs (unreserved hart) clear in
       let size = length-set s.threads (tid.0 - 1) t in
       fits_by left (slice_set s.threads (tid.0 - 1) t) (ap (λ (o : Option Thread). dropping left tid o) there) (each_set t old_is) (omega (arith, size, some_threads))
-      (record { input = refl; heap = refl; brk = heap_is; end = (omega (arith, inside, few_threads), small, fits); traps = ap (λ n. traps_within n (ends.Trap tid cause value)) size ∙ trap_within cause value; pages = pages_are })
+      (record { heap = refl; brk = heap_is; end = (omega (arith, inside, few_threads), small, fits); traps = ap (λ n. traps_within n (ends.Trap tid cause value)) size ∙ trap_within cause value; pages = pages_are })
 
   effect_keeps : (e : Effect) → IsGood s.pages e → Keeps s tid (by_effect s tid hart clear log e)
   effect_keeps (goes after left) good =
-      went (counted (record (with_thread s tid (Runs after clear)) { pages = left })) after refl good.0 refl refl heap_is end_is within_is (pages_alike s.pages left pages_are good.1 good.2)
+      went (counted (record (with_thread s tid (Runs after clear)) { pages = left })) after refl good.0 refl heap_is end_is within_is (pages_alike s.pages left pages_are good.1 good.2)
   effect_keeps calls good = called_keeps
   effect_keeps (traps cause value) good = trapped cause value good.0 good.1
 
@@ -481,15 +495,17 @@ with_few : (s : State) (tid : Tid) (r : Result After Refusal) → AreFew s.threa
 with_few s tid (Ok after) few keeps = (keeps, few)
 with_few s tid (Err refusal) few keeps = tt
 
-thread_keeps : (laws : TurnLaws) (s : State) (tid : Tid) (log : List Answer) (o : Option Thread) → IsEncodable (without_reservation s tid) → thread_at s.threads tid ≡ o → KeepsAll s tid (by_thread s tid log o)
-thread_keeps laws s tid log None is there = tt
-thread_keeps laws s tid log (Some (Runs hart clear)) is there = with_few s tid (by_effect s tid hart clear log (effect hart s.pages)) (few_before laws s tid hart clear log is there) (runs_keeps laws s tid hart clear log is there)
-thread_keeps laws s tid log (Some (Waits addr hart clear)) is there = tt
-thread_keeps laws s tid log (Some (Gone code)) is there = tt
+thread_keeps : (laws : TurnLaws) (s : State) (tid : Tid) (log : List Answer) (o : Option Thread) → AllByRecursion IsAnswer log → IsEncodable (without_reservation s tid) → thread_at s.threads tid ≡ o → KeepsAll s tid (by_thread s tid log o)
+thread_keeps laws s tid log None answers_are is there = tt
+thread_keeps laws s tid log (Some (Runs hart clear)) answers_are is there =
+    with_few s tid (by_effect s tid hart clear log (effect hart s.pages)) (few_before laws s tid hart clear log answers_are is there) (runs_keeps laws s tid hart clear log answers_are is there)
+thread_keeps laws s tid log (Some (Waits addr hart clear)) answers_are is there = tt
+thread_keeps laws s tid log (Some (Gone code)) answers_are is there = tt
 
-pub turn_keeps : TurnLaws → (s : State) (tid : Tid) (log : List Answer) (after : After) → IsEncodable (without_reservation s tid) → turn s tid log ≡ Ok after → after.state.steps < 2 ^ 64 → IsEncodable (without_reservation after.state tid)
+pub turn_keeps : TurnLaws → (s : State) (tid : Tid) (log : List Answer) (after : After) → IsEncodable (without_reservation s tid) → AllByRecursion IsAnswer log → turn s tid log ≡ Ok after → after.state.steps < 2 ^ 64 → after.state.input < 2 ^ 64
+    → IsEncodable (without_reservation after.state tid)
 unfolding turn
-turn_keeps laws s tid log after is taken steps =
-    let kept = subst (KeepsAll s tid) taken (cond_both (has_ended s.end) _ _ (KeepsAll s tid) (λ _. tt) (λ _. thread_keeps laws s tid log (thread_at s.threads tid) is refl)) in
+turn_keeps laws s tid log after is answers_are taken steps input =
+    let kept = subst (KeepsAll s tid) taken (cond_both (has_ended s.end) _ _ (KeepsAll s tid) (λ _. tt) (λ _. thread_keeps laws s tid log (thread_at s.threads tid) answers_are is refl)) in
     let few = laws.slice_few after.state tid (laws.few s tid log after taken kept.1) in
-    built (without_reservation after.state tid) s.heap (record { each = kept.0.each; some = kept.0.some; few = few.made; alive = few.alive }) kept.0.pages (kept.0.rest steps)
+    built (without_reservation after.state tid) s.heap (record { each = kept.0.each; some = kept.0.some; few = few.made; alive = few.alive }) kept.0.pages (kept.0.rest steps input)

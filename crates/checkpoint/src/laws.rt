@@ -6,7 +6,8 @@ ghost use Rattle.dp_base.specs.declared.answer.Answer.{Answer};
 ghost use Rattle.dp_base.specs.declared.slice.Slice.{Slice};
 ghost use Rattle.dp_base.specs.declared.tid.Tid.{Tid};
 ghost use Rattle.dp_base.specs.Field.{AreBytes};
-ghost use Rattle.dp_base.specs.Journal.{Epoch};
+ghost use Rattle.dp_base.specs.Journal.{Epoch, IsAnswer};
+ghost use Rattle.std.specs.List.{AllByRecursion};
 ghost use Rattle.guest_kernel.specs.declared.state.State.{State};
 ghost use Rattle.guest_kernel.specs.Call.{After};
 ghost use Rattle.guest_kernel.specs.Slices.{at, run, chain};
@@ -25,10 +26,11 @@ pub fn a_start_state_is_encodable()
 }
 
 /// Behind a turn a state has an encoding once the reservation of the thread whose turn it was is dropped, if it was so
-/// before. Step counts are below 2^64.
+/// before and its answers have encodings. Step counts and input places are below 2^64.
 pub fn a_turn_keeps_a_state_encodable()
     ensures { (s : State) (tid : Tid) (log : List Answer) (after : After) → IsEncodable (without_reservation s tid) →
-        turn s tid log ≡ Ok after → after.state.steps < 2 ^ 64 → IsEncodable (without_reservation after.state tid) }
+        AllByRecursion IsAnswer log → turn s tid log ≡ Ok after → after.state.steps < 2 ^ 64 →
+        after.state.input < 2 ^ 64 → IsEncodable (without_reservation after.state tid) }
 {
     rv_step::laws::a_step_leaves_words();
     rv_step::laws::a_trap_has_a_cause();
@@ -38,20 +40,28 @@ pub fn a_turn_keeps_a_state_encodable()
     guest_kernel::laws::a_wake_is_of_the_lowest();
 }
 
-/// A run of slices from a state that has an encoding ends in one, if it has fewer than 2^64 steps.
+/// A run of slices from a state that has an encoding ends in one, if its answers have encodings and it has fewer than 2^64
+/// steps and bytes of input.
 pub fn a_run_keeps_a_state_encodable()
     ensures { (s : State) (slices : List Slice) (log : List Answer) (there : After) → IsEncodable s →
-        run slices (at s [] log) ≡ Ok there → there.state.steps < 2 ^ 64 → IsEncodable there.state }
+        AllByRecursion IsAnswer log → run slices (at s [] log) ≡ Ok there → there.state.steps < 2 ^ 64 →
+        there.state.input < 2 ^ 64 → IsEncodable there.state }
 {
     guest_kernel::laws::a_turn_is_one_step();
+    guest_kernel::laws::the_place_grows_by_what_is_read();
+    guest_kernel::laws::a_turn_goes_by_its_peek();
     a_turn_keeps_a_state_encodable();
 }
 
-/// A chain of epochs from a state that has an encoding ends in one, if it has fewer than 2^64 steps.
+/// A chain of epochs from a state that has an encoding ends in one, if their answers have encodings and it has fewer than 2^64
+/// steps and bytes of input.
 pub fn a_chain_keeps_a_state_encodable()
     ensures { (s : State) (epochs : List Epoch) (end : State) (output : List ℕ) → IsEncodable s →
-        chain s epochs ≡ Ok (end, output) → end.steps < 2 ^ 64 → IsEncodable end }
+        AllByRecursion (λ e. AllByRecursion IsAnswer e.answers) epochs → chain s epochs ≡ Ok (end, output) →
+        end.steps < 2 ^ 64 → end.input < 2 ^ 64 → IsEncodable end }
 {
     guest_kernel::laws::a_turn_is_one_step();
+    guest_kernel::laws::the_place_grows_by_what_is_read();
+    guest_kernel::laws::a_turn_goes_by_its_peek();
     a_turn_keeps_a_state_encodable();
 }

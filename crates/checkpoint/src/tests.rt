@@ -44,8 +44,8 @@ fn ended(alloc: Global) -> Result<State, Fail>
     }];
     let mut out = Vec::new(alloc);
     match state.run_slices(alloc, &slices, &[], &mut out)? {
-        SliceRun::Whole if state.steps == 3 => Ok(state),
-        _ => Err("the guest takes three steps".into()),
+        SliceRun::Whole if state.steps == 3 && state.input == 0 => Ok(state),
+        _ => Err("the guest takes three steps and reads nothing".into()),
     }
 }
 

@@ -277,9 +277,9 @@ module _ (reading : Reading) (first now : Option History) (p : Progress) (is : I
 
 pub epoch_bounded : (file : List ℕ) (p : Progress) (s : State) (sent next : ℕ) (e : Epoch) → length file ≤ MAX_JOURNAL_BYTES → IsBounded file p → p.at < next → next ≤ length file
     → steps_of e.slices ≤ MAX_EPOCH_STEPS → s.steps ≡ p.state.steps + steps_of e.slices → s.input ≤ p.state.input + MAX_CALL_BYTES * steps_of e.slices → sent ≤ MAX_CALL_BYTES * steps_of e.slices
-    → (s.steps < 2 ^ 64 → IsEncodable s) → IsBounded file (record { state = s; at = next; number = p.number + 1; epochs = p.epochs + 1; sent = p.sent + sent })
+    → (s.steps < 2 ^ 64 → s.input < 2 ^ 64 → IsEncodable s) → IsBounded file (record { state = s; at = next; number = p.number + 1; epochs = p.epochs + 1; sent = p.sent + sent })
 epoch_bounded file p s sent next e read is further within few counts reads writes encodable = record {
-  encodable = encodable (omega (arith, is.few_steps, is.few_epochs, is.few, is.within, read, counts, few));
+  encodable = encodable (omega (arith, is.few_steps, is.few_epochs, is.few, is.within, read, counts, few)) (omega (arith, is.little_input, is.few_epochs, is.few, is.within, read, reads, few));
   few_steps = omega (arith, is.few_steps, counts, few);
   little_input = omega (arith, is.little_input, reads, few);
   little_sent = omega (arith, is.little_sent, writes, few);

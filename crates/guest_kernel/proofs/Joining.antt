@@ -9,7 +9,7 @@ use Rattle.guest_kernel.specs.declared.state.State.{State}
 use Rattle.guest_kernel.specs.Call.{After, Refusal}
 use Rattle.guest_kernel.specs.Turn.{turn}
 use Rattle.guest_kernel.specs.Slices.{Stop, at, either, turns, slices, slice_ended, one_slice, joined, run, used_up, chain, onto, chained}
-use Rattle.guest_kernel.proofs.Turns.{relogged, turn-log}
+use Rattle.guest_kernel.proofs.Turns.{turn_longer}
 use Rattle.guest_kernel.proofs.SliceRuns.{either-either, either-alike, slices-append, run-one_slice}
 
 -- what went well first, where all did
@@ -21,19 +21,13 @@ either_ok (Err d) f g y fails e = let q = fails d in let never = q.1 in absurd c
 abbrev pub shifted : List ℕ → List Answer → After → After
 shifted prefix more here = record { state = here.state; output = prefix ++ here.output; rest = here.rest ++ more }
 
-turn_shifted : (s : State) (tid : Tid) (log more : List Answer) (after : After) → turn s tid log ≡ Ok after → turn s tid (log ++ more) ≡ Ok (record after { rest = after.rest ++ more })
-turn_shifted s tid log more after is =
-    let same : Ok after ≡ relogged log (Ok after) = sym is ∙ turn-log s tid log log ∙ ap (relogged log) is in
-    let rest : after.rest ≡ log = cc in
-    turn-log s tid (log ++ more) log ∙ ap (relogged (log ++ more)) is ∙ ap (λ (l : List Answer). Ok (record after { rest = l ++ more })) (sym rest)
-
 pub turns_shifted : (prefix : List ℕ) (more : List Answer) (taken left : ℕ) (tid : Tid) (here there : After) → turns taken left tid here ≡ Ok there → turns taken left tid (shifted prefix more here) ≡ Ok (shifted prefix more there)
 unfolding turns
 turns_shifted prefix more taken zero tid here there is = ap (λ (r : Result After (ℕ × After)). either r Err (λ x. Ok (shifted prefix more x))) is
 turns_shifted prefix more taken (suc left) tid here there is =
     let step = either_ok (turn here.state tid here.rest) (λ refusal. Err (taken, here)) (λ after. turns (taken + 1) left tid (joined here after)) there (λ refusal. ((taken, here), refl)) is in
     let after = step.0 in
-    let turned = turn_shifted here.state tid here.rest more after step.1 in
+    let turned = turn_longer more here.state tid here.rest after step.1 in
     let regrouped : joined (shifted prefix more here) (record after { rest = after.rest ++ more }) ≡ shifted prefix more (joined here after) =
     ap (λ (o : List ℕ). at after.state o (after.rest ++ more)) (append_assoc prefix here.output after.output) in
     ap (λ (r : Result After Refusal). either r (λ refusal. Err (taken, shifted prefix more here)) (λ b. turns (taken + 1) left tid (joined (shifted prefix more here) b))) turned
@@ -89,10 +83,15 @@ run-append s xs ys first second mid end first_ran second_ran =
     })
 
 -- one slice more behind a run
-pub run-one_more : (s : State) (xs : List Slice) (tid : Tid) (steps : ℕ) (mid there : After) → run xs (at s [] []) ≡ Ok mid → turns 0 steps tid (at mid.state [] []) ≡ Ok there → there.rest ≡ []
-    → run (xs ++ one_slice tid steps) (at s [] []) ≡ Ok (joined mid (slice_ended tid there))
-run-one_more s xs tid steps mid there ran turned empty =
-    run-append s xs (one_slice tid steps) [] [] mid (slice_ended tid there) ran (run-one_slice tid steps (at mid.state [] []) there turned empty)
+pub run-one_more : (s : State) (xs : List Slice) (tid : Tid) (steps : ℕ) (first second : List Answer) (mid there : After) → run xs (at s [] first) ≡ Ok mid → turns 0 steps tid (at mid.state [] second) ≡ Ok there → there.rest ≡ []
+    → run (xs ++ one_slice tid steps) (at s [] (first ++ second)) ≡ Ok (joined mid (slice_ended tid there))
+run-one_more s xs tid steps first second mid there ran turned empty =
+    run-append s xs (one_slice tid steps) first second mid (slice_ended tid there) ran (run-one_slice tid steps (at mid.state [] second) there turned empty)
+
+-- turns with more answers behind their log
+pub turns-longer : (more : List Answer) (taken left : ℕ) (tid : Tid) (s : State) (out : List ℕ) (log : List Answer) (there : After) → turns taken left tid (at s out log) ≡ Ok there
+    → turns taken left tid (at s out (log ++ more)) ≡ Ok (record there { rest = there.rest ++ more })
+turns-longer more taken left tid s out log there is = turns_shifted [] more taken left tid (at s out log) there is
 
 -- ---- chains
 

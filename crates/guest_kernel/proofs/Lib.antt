@@ -1,6 +1,6 @@
 mod Range
 mod StartPages
-mod Turns
+pub mod Turns
 mod SliceRuns
 mod Stretches
 mod TurnTaken
@@ -12,3 +12,4 @@ mod Calls
 mod ThreadLists
 mod Running
 mod Reaching
+mod InputBytes

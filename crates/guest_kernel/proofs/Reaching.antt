@@ -16,7 +16,8 @@ use Rattle.guest_state.specs.declared.thread.Thread.TheVariants.{Runs, Waits, Go
 use Rattle.rv_step.specs.Effect.{Effect, goes, calls, traps}
 use Rattle.rv_step.specs.Step.{effect}
 use Rattle.guest_kernel.specs.declared.state.State.{State}
-use Rattle.guest_kernel.specs.Call.{After, Refusal, a0, a1, a2, a3, called, cleared, exits, is_cleared, may_spawn, sets_break, silent, spawned_hart, spawns, waits, waits_by, wakes}
+use Rattle.turn_peek.specs.Arguments.{a0, a1, a2, a3}
+use Rattle.guest_kernel.specs.Call.{After, Refusal, called, cleared, exits, is_cleared, may_spawn, sets_break, silent, spawned_hart, spawns, waits, waits_by, wakes}
 use Rattle.guest_kernel.specs.Slices.{at, joined, run, slice_ended, slices, turns}
 use Rattle.guest_kernel.specs.Break.{may_move_break}
 use Rattle.guest_kernel.specs.State.{dropping, has_ended, unreserved, with_thread, without_reservation}
@@ -25,7 +26,7 @@ use Rattle.guest_kernel.specs.Turn.{by_effect, turn}
 use Rattle.guest_kernel.proofs.Joining.{either_ok, whole_run}
 use Rattle.guest_kernel.proofs.Running.{slice_end_runs, turn_of_thread, turn_on}
 use Rattle.guest_kernel.proofs.ThreadLists.{Evolves, evolves_none, evolves_then, get_append, made_at, place_of, push_evolves, set_evolves, woken_at, woken_evolves}
-use Rattle.guest_kernel.proofs.Turns.{called_by_row}
+use Rattle.guest_kernel.proofs.Turns.{called_alone_by_row, called_by_row}
 
 -- ---- a turn
 
@@ -71,7 +72,9 @@ module _ (s : State) (tid : Tid) (hart : Hart) (clear : ℕ) (there : thread_at 
   sets_break_evolves = cond_both (may_move_break s (a0 hart)) _ _ (λ (left : State). Evolves s.threads left.threads) (λ _. set _) (λ _. set _)
 
   called_evolves : (log : List Answer) → ThreadsEvolve s (called s tid hart clear log)
-  called_evolves log = called_by_row (ThreadsEvolve s) s tid hart clear log exits_evolves (set _) (set _) spawns_evolves waits_evolves wakes_evolves (set _) sets_break_evolves (set _) (set _)
+  called_evolves log = called_by_row (ThreadsEvolve s) s tid hart clear log
+      (record { at_once = λ value small. set _; bytes = λ bytes rest is few. set _; reading = λ reading rest is. set _; refused = λ refusal. tt })
+      (called_alone_by_row (ThreadsEvolve s) s tid hart clear log exits_evolves (set _) (set _) spawns_evolves waits_evolves wakes_evolves (set _) sets_break_evolves (set _) (set _))
 
   effect_evolves : (log : List Answer) (e : Effect) → ThreadsEvolve s (by_effect s tid hart clear log e)
   effect_evolves log (goes after memory) = set (Runs after clear)

@@ -18,13 +18,14 @@ use Rattle.guest_state.specs.declared.thread.Thread.TheVariants.{Runs, Waits, Go
 use Rattle.rv_step.specs.Effect.{Effect, goes, calls, traps}
 use Rattle.rv_step.specs.Step.{effect}
 use Rattle.guest_kernel.specs.declared.state.State.{State}
-use Rattle.guest_kernel.specs.Call.{After, Refusal, not_runnable, a0, a1, called, cleared, end_of_waiting, exits, may_spawn, sets_break, silent, spawns, waits, waits_by}
+use Rattle.turn_peek.specs.Arguments.{a0, a1}
+use Rattle.guest_kernel.specs.Call.{After, Refusal, not_runnable, called, cleared, end_of_waiting, exits, may_spawn, sets_break, silent, spawns, waits, waits_by}
 use Rattle.guest_kernel.specs.Break.{may_move_break}
 use Rattle.guest_kernel.specs.State.{dropping, has_ended, unreserved, with_thread, without_reservation}
 use Rattle.guest_kernel.specs.Threads.{is_running, runs_at, runs_by, thread_at}
 use Rattle.guest_kernel.specs.Turn.{turn, by_thread, by_effect}
 use Rattle.guest_kernel.proofs.ThreadLists.{any_same, any_set, inside_of, place_of}
-use Rattle.guest_kernel.proofs.Turns.{called_by_row}
+use Rattle.guest_kernel.proofs.Turns.{called_alone_by_row, called_by_row}
 use Rattle.guest_kernel.proofs.Waking.{length-woken}
 
 -- ---- a turn is of a thread that runs
@@ -53,31 +54,6 @@ turn_of_thread s tid log after is = turn_by_end s tid log after (has_ended s.end
 
 pub turn_runs : (s : State) (tid : Tid) (log : List Answer) (after : After) → turn s tid log ≡ Ok after → runs_at s.threads tid ≡ true
 turn_runs s tid log after is = ap runs_by (turn_of_thread s tid log after is).there
-
--- ---- a thread that runs has a turn
-
-abbrev pub HasTurn : List Answer → Result After Refusal → Type 0
-HasTurn log r = (after : After) × (r ≡ Ok after) × (after.rest ≡ log)
-
-called_has : (s : State) (tid : Tid) (hart : Hart) (clear : ℕ) (log : List Answer) → HasTurn log (called s tid hart clear log)
-called_has s tid hart clear log = called_by_row (HasTurn log) s tid hart clear log
-    (_, refl, refl) (_, refl, refl) (_, refl, refl) (_, refl, refl) (_, refl, refl) (_, refl, refl) (_, refl, refl) (_, refl, refl) (_, refl, refl) (_, refl, refl)
-
-effect_has : (s : State) (tid : Tid) (hart : Hart) (clear : ℕ) (log : List Answer) (e : Effect) → HasTurn log (by_effect s tid hart clear log e)
-effect_has s tid hart clear log (goes after memory) = (_, refl, refl)
-effect_has s tid hart clear log calls = called_has s tid hart clear log
-effect_has s tid hart clear log (traps cause value) = (_, refl, refl)
-
-thread_has : (s : State) (tid : Tid) (log : List Answer) (t : Option Thread) → runs_by t ≡ true → HasTurn log (by_thread s tid log t)
-thread_has s tid log None runs = absurd cc
-thread_has s tid log (Some (Runs hart clear)) runs = effect_has s tid hart clear log (effect hart s.pages)
-thread_has s tid log (Some (Waits addr hart clear)) runs = absurd cc
-thread_has s tid log (Some (Gone code)) runs = absurd cc
-
-pub runs_has : (s : State) (tid : Tid) (log : List Answer) → has_ended s.end ≡ false → runs_at s.threads tid ≡ true → HasTurn log (turn s tid log)
-unfolding turn
-runs_has s tid log going runs =
-    subst (λ (b : Bool). HasTurn log (cond b (Err not_runnable) (by_thread s tid log (thread_at s.threads tid)))) (sym going) (thread_has s tid log (thread_at s.threads tid) runs)
 
 -- ---- behind a turn some thread runs, or the guest has ended
 
@@ -153,9 +129,16 @@ module _ (s : State) (tid : Tid) (hart : Hart) (clear : ℕ) (going : has_ended 
 
   called_on : (log : List Answer) → RunsOnBehind (called s tid hart clear log)
   called_on log = called_by_row RunsOnBehind s tid hart clear log
+      (record {
+        at_once = λ value small. goes_on _ _ refl s.threads refl (omega arith) refl;
+        bytes = λ bytes rest is few. goes_on _ _ refl s.threads refl (omega arith) refl;
+        reading = λ reading rest is. goes_on _ _ refl s.threads refl (omega arith) refl;
+        refused = λ refusal. tt;
+      })
+      (called_alone_by_row RunsOnBehind s tid hart clear log
       exits_on (runs_on _ (still_runs s.threads (Runs (next hart) clear) (omega arith) refl) (λ dead. cc)) (goes_on _ _ refl s.threads refl (omega arith) refl) spawns_on
       waits_on_ (goes_on _ _ refl _ refl (omega (arith, length-woken (a0 hart) (a1 hart) s.threads)) refl)
-      (goes_on _ _ refl s.threads refl (omega arith) refl) sets_break_on (goes_on _ _ refl s.threads refl (omega arith) refl) (goes_on _ _ refl s.threads refl (omega arith) refl)
+      (goes_on _ _ refl s.threads refl (omega arith) refl) sets_break_on (goes_on _ _ refl s.threads refl (omega arith) refl) (goes_on _ _ refl s.threads refl (omega arith) refl))
 
   effect_on : (log : List Answer) (e : Effect) → RunsOnBehind (by_effect s tid hart clear log e)
   effect_on log (goes after memory) = goes_on _ _ refl s.threads refl (omega arith) refl

@@ -1,11 +1,11 @@
 -- The kernel's calls (environment calls: RISC-V Unprivileged ISA 20191213, 2.8; their numbers and meanings are this
--- machine's own). Register a7 (x17) has the call's number, a0 to a3 (x10 to x13) its arguments, and a0 its answer. A
--- row for each call.
-use Rattle.std.specs.Prelude.{◌-◌, ◌+◌, ◌%◌, ◌^◌, ℕ, Bool, min, not, length, count_by, replicate, nat_lt, List, [], ◌∷◌, ◌++◌, Option, Some, None, Result, Ok, ◌==◌, ◌&&◌, if◌then◌else◌}
+-- machine's own), a row for each.
+use Rattle.std.specs.Prelude.{◌+◌, ◌/◌, ◌%◌, ◌^◌, ℕ, Bool, min, not, length, count_by, replicate, nat_lt, nat_le, List, [], ◌∷◌, ◌++◌, Option, Some, None, Result, Ok, Err, ◌==◌, ◌&&◌, if◌then◌else◌}
 use Rattle.std.specs.List.{list_any}
 use Rattle.dp_base.specs.declared.answer.Answer.{Answer}
+use Rattle.dp_base.specs.declared.answer.Answer.TheVariants.{Read, Clock}
 use Rattle.dp_base.specs.declared.access.Width.TheVariants.{Four}
-use Rattle.dp_base.specs.declared.limits.TheConstants.{MAX_CALL_BYTES, MAX_LIVE_THREADS, MAX_THREADS}
+use Rattle.dp_base.specs.declared.limits.TheConstants.{MAX_LIVE_THREADS, MAX_THREADS}
 use Rattle.dp_base.specs.declared.tid.Tid.{Tid}
 use Rattle.guest_state.specs.declared.hart.Hart.{Hart}
 use Rattle.guest_state.specs.declared.thread.Thread.{Thread}
@@ -14,11 +14,13 @@ use Rattle.guest_kernel.specs.declared.state.State.{State}
 use Rattle.guest_state.specs.declared.end.End.{End}
 use Rattle.guest_state.specs.declared.end.End.TheVariants as ends
 use Rattle.guest_state.specs.Checkpoint.{is_alive, live}
-use Rattle.dp_base.specs.Memory.{Memory, bytes_with, loaded, may_store, stored}
-use Rattle.guest_state.specs.Register.{register, with_register, next}
+use Rattle.dp_base.specs.Memory.{Memory, bytes_with, loaded, may_store, put_bytes, stored}
+use Rattle.guest_state.specs.Register.{with_register, next}
 use Rattle.guest_kernel.specs.Break.{may_move_break, with_break}
 use Rattle.guest_kernel.specs.State.{with_thread, counted}
 use Rattle.guest_kernel.specs.Threads.{is_running, waits_on, woken}
+use Rattle.turn_peek.specs.Arguments.{a0, a1, a2, a3, a7, minus, moved, EBADF, EFAULT}
+use Rattle.turn_peek.specs.ReadCall.{read_at_once}
 
 -- what a turn leaves: the state, the bytes that it wrote, and the rest of the log of answers
 pub record After : Type 0 where
@@ -40,37 +42,11 @@ writing s output log = Ok (record { state = counted s; output = output; rest = l
 abbrev pub silent : State → List Answer → Result After Refusal
 silent s log = writing s [] log
 
--- ---- a call's arguments, number and answer
-
-abbrev pub a0 : Hart → ℕ
-a0 hart = register hart 10
-
-abbrev pub a1 : Hart → ℕ
-a1 hart = register hart 11
-
-abbrev pub a2 : Hart → ℕ
-a2 hart = register hart 12
-
-abbrev pub a3 : Hart → ℕ
-a3 hart = register hart 13
-
-abbrev pub a7 : Hart → ℕ
-a7 hart = register hart 17
-
-abbrev pub minus : ℕ → ℕ
-minus n = 2 ^ 32 - n
-
--- bad file descriptor
-abbrev pub EBADF : ℕ
-EBADF = 9
+-- ---- a call's answer
 
 -- try again
 abbrev pub EAGAIN : ℕ
 EAGAIN = 11
-
--- bad address
-abbrev pub EFAULT : ℕ
-EFAULT = 14
 
 -- invalid argument
 abbrev pub EINVAL : ℕ
@@ -127,10 +103,6 @@ nothing_written answer = record { answer = answer; output = [] }
 abbrev pub bytes_written : ℕ → Option (List ℕ) → Written
 bytes_written count None = nothing_written (minus EFAULT)
 bytes_written count (Some bytes) = record { answer = count; output = bytes }
-
--- how many of the bytes that are asked for one call moves
-abbrev pub moved : ℕ → ℕ
-moved len = min len MAX_CALL_BYTES
 
 -- by memory and the call's arguments
 abbrev pub written : Memory → (fd addr len : ℕ) → Written
@@ -200,8 +172,9 @@ tells_number s tid hart clear = answered s tid hart clear tid.0
 abbrev pub unknown : State → Tid → Hart → ℕ → State
 unknown s tid hart clear = answered s tid hart clear (minus ENOSYS)
 
-abbrev pub called : State → Tid → Hart → ℕ → List Answer → Result After Refusal
-called s tid hart clear log =
+-- the calls that take no answer from the log
+abbrev pub called_alone : State → Tid → Hart → ℕ → List Answer → Result After Refusal
+called_alone s tid hart clear log =
     if a7 hart == 0 then silent (exits s tid hart clear) log
     else if a7 hart == 1 then silent (exits_all s tid hart clear) log
     else if a7 hart == 2 then writes s tid hart clear log
@@ -212,3 +185,42 @@ called s tid hart clear log =
     else if a7 hart == 9 then silent (sets_break s tid hart clear) log
     else if a7 hart == 10 then silent (tells_number s tid hart clear) log
     else silent (unknown s tid hart clear) log
+
+-- ---- the calls that take an answer
+
+-- these bytes of the input were read: they are stored from addr on, and the input's place moves on
+abbrev pub has_read : State → Tid → Hart → ℕ → List ℕ → State
+has_read s tid hart clear bytes =
+    answered (record s { pages = put_bytes (a1 hart) bytes s.pages; input = s.input + length bytes }) tid hart clear (length bytes)
+
+abbrev pub takes_bytes : State → Tid → Hart → ℕ → List Answer → Result After Refusal
+takes_bytes s tid hart clear [] = Err needs_answer
+takes_bytes s tid hart clear (Read bytes ∷ rest) =
+    if nat_le (length bytes) (moved (a2 hart)) then silent (has_read s tid hart clear bytes) rest else Err wrong_answer
+takes_bytes s tid hart clear (Clock reading ∷ rest) = Err wrong_answer
+
+abbrev pub reads_by : State → Tid → Hart → ℕ → List Answer → Option ℕ → Result After Refusal
+reads_by s tid hart clear log (Some answer) = silent (answered s tid hart clear answer) log
+reads_by s tid hart clear log None = takes_bytes s tid hart clear log
+
+-- 3, read(fd, addr, len): where it doesn't answer at once, it takes bytes, at most as many as one call moves; none are the end of
+-- the input
+abbrev pub reads : State → Tid → Hart → ℕ → List Answer → Result After Refusal
+reads s tid hart clear log = reads_by s tid hart clear log (read_at_once s.pages hart)
+
+-- the low word of a reading is in a0, the high word in a1
+abbrev pub has_clock : State → Tid → Hart → ℕ → (reading : ℕ) → State
+has_clock s tid hart clear reading =
+    with_thread s tid (Runs (next (with_register (with_register hart 10 (reading % 2 ^ 32)) 11 (reading / 2 ^ 32))) clear)
+
+-- 8, clock: it takes a reading of the clock
+abbrev pub tells_clock : State → Tid → Hart → ℕ → List Answer → Result After Refusal
+tells_clock s tid hart clear [] = Err needs_answer
+tells_clock s tid hart clear (Read bytes ∷ rest) = Err wrong_answer
+tells_clock s tid hart clear (Clock reading ∷ rest) = silent (has_clock s tid hart clear reading) rest
+
+abbrev pub called : State → Tid → Hart → ℕ → List Answer → Result After Refusal
+called s tid hart clear log =
+    if a7 hart == 3 then reads s tid hart clear log
+    else if a7 hart == 8 then tells_clock s tid hart clear log
+    else called_alone s tid hart clear log

@@ -1,7 +1,8 @@
-// The kernel's calls, a row for each.
+// The kernel's calls that take no answer, a row for each.
 ghost use Rattle.std.specs.Prelude.{◌≡◌, ◌<◌, ◌≤◌, ◌-◌, ◌++◌, ◌==◌, if◌then◌else◌, List, IfOk, OnOk, OnErr, length};
 ghost use Rattle.dp_base.specs.declared.answer.Answer.{Answer};
-ghost use Rattle.guest_kernel.specs.Call.{a0, a1, a2, a7, answered, begins_to_wait, called, end_of_waiting, exits, exits_all, is_cleared, spawned_hart, spawns, waits, wakes, written_by};
+ghost use Rattle.guest_kernel.specs.Call.{answered, begins_to_wait, called_alone, end_of_waiting, exits, exits_all, is_cleared, spawned_hart, spawns, waits, wakes, written_by};
+ghost use Rattle.turn_peek.specs.Arguments.{a0, a1, a2, a7};
 ghost use Rattle.guest_kernel.specs.State.{counted};
 ghost use Rattle.guest_kernel.specs.Turn.{state_after, output_after};
 ghost use Rattle.dp_base.specs.Memory.{stored};
@@ -13,17 +14,7 @@ use dp_base::limits::{MAX_CALL_BYTES, MAX_LIVE_THREADS, MAX_THREADS};
 use dp_base::{Access, Mem, OutOfMemory, Tid, Width};
 use guest_state::{End, Hart, Thread};
 use std::alloc::Global;
-
-// The registers of a call: its arguments, the first of which becomes its answer, and its number.
-pub(crate) const A0: u8 = 10;
-
-const A1: u8 = 11;
-
-const A2: u8 = 12;
-
-const A3: u8 = 13;
-
-const A7: u8 = 17;
+use turn_peek::arguments::{A0, A1, A2, A3, A7, EBADF, EFAULT};
 
 const STACK_POINTER: u8 = 2;
 
@@ -49,13 +40,8 @@ const BRK: u32 = 9;
 
 const GETTID: u32 = 10;
 
-// The answers of calls that fail: -9, bad file descriptor; -11, try again; -14, bad address; -22, invalid argument; -38, no such
-// call.
-const EBADF: u32 = 0xffff_fff7;
-
+// The answers of calls that fail: -11, try again; -22, invalid argument; -38, no such call.
 const EAGAIN: u32 = 0xffff_fff5;
-
-const EFAULT: u32 = 0xffff_fff2;
 
 const EINVAL: u32 = 0xffff_ffea;
 
@@ -69,8 +55,8 @@ pub(crate) fn is_yield(hart: &Hart) -> bool
 }
 
 impl State {
-    // Does the call at which a thread stands, and leaves the step to be counted. An `Err` changes nothing.
-    pub(crate) fn call(
+    // Does a call that takes no answer, and leaves the step to be counted. An `Err` changes nothing.
+    pub(crate) fn call_alone(
         &mut self,
         alloc: Global,
         tid: Tid,
@@ -81,9 +67,9 @@ impl State {
         requires made { tid.0 ≤ length self.old.threads }
         requires numbered { 0 < tid.0 }
         ensures state { OnOk result ((log : List Answer) →
-            counted self.new ≡ state_after self.old (called self.old tid hart clear log)) }
+            counted self.new ≡ state_after self.old (called_alone self.old tid hart clear log)) }
         ensures output { OnOk result ((log : List Answer) →
-            out.new.items ≡ output_after out.old.items (called self.old tid hart clear log)) }
+            out.new.items ≡ output_after out.old.items (called_alone self.old tid hart clear log)) }
         ensures steps { OnOk result (self.new.steps ≡ self.old.steps) }
         ensures err { OnErr result (self.new ≡ self.old) }
         ensures err_output { OnErr result (out.new.items ≡ out.old.items) }

@@ -1,7 +1,7 @@
 // The break, each move worked out by hand.
 use super::*;
+use crate::input_tests::map;
 use crate::tests::started;
-use crate::worked_peeks::map;
 use dp_base::{Access, Mem, Tid, Width};
 use std::alloc::Global;
 use std::test::Fail;

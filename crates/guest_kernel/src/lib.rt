@@ -2,8 +2,8 @@
 //!
 //! Promises: `start` makes the start state of an image (`specs/Start.antt`), and each turn and each run of slices is the one
 //! of the definitions (`specs/Turn.antt`, `specs/Slices.antt`); `laws` says what follows from the definitions alone. Stands
-//! on `dp_base`, on `elf_image` for `load`, on `cow_pages` for `Pages`, on `rv_step` for the instructions, and on `guest_state`
-//! for harts and threads.
+//! on `dp_base`, on `elf_image` for `load`, on `cow_pages` for `Pages`, on `rv_step` for the instructions, on `turn_peek` for what a turn
+//! is before it is taken, and on `guest_state` for harts and threads.
 //!
 //! ```text
 //! let mut state = start_from_file(alloc, file)?;
@@ -18,9 +18,9 @@
 
 mod call;
 mod heap;
+mod input;
 mod kernel;
 pub mod laws;
-mod peek;
 mod slices;
 mod start_state;
 mod state;
@@ -31,11 +31,11 @@ pub use cow_pages::Pages;
 pub use elf_image::{Image, ImageFault, Segment, Segments, load};
 pub use guest_state::{End, Hart, Thread};
 pub use kernel::Turn;
-pub use peek::Peek;
 pub use slices::SliceRun;
 pub use start_state::{start, start_from_file};
 pub use state::State;
 pub use threads::Threads;
+pub use turn_peek::Peek;
 
 #[cfg(test)]
 mod call_tests;
@@ -44,6 +44,8 @@ mod futex_tests;
 #[cfg(test)]
 mod heap_tests;
 #[cfg(test)]
+mod input_tests;
+#[cfg(test)]
 mod start_tests;
 #[cfg(test)]
 mod tests;
@@ -51,5 +53,3 @@ mod tests;
 mod thread_tests;
 #[cfg(test)]
 mod worked_chains;
-#[cfg(test)]
-mod worked_peeks;

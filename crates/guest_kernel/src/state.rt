@@ -1,5 +1,6 @@
 // A guest between two turns.
 ghost use Rattle.std.specs.Prelude.{◌≡◌, IfOk};
+ghost use Rattle.guest_kernel.specs.Peek.{peeked};
 ghost use Rattle.guest_kernel.specs.State.{has_ended, without_reservation};
 
 use crate::threads::Threads;
@@ -7,6 +8,7 @@ use cow_pages::Pages;
 use dp_base::{OutOfMemory, Tid};
 use guest_state::{End, Thread};
 use std::alloc::Global;
+use turn_peek::{Peek, peek_thread};
 
 /// A guest: its memory, its threads, and how far it is.
 #[derive(Drop)]
@@ -48,6 +50,19 @@ impl State {
             steps: self.steps,
             end: self.end,
         })
+    }
+
+    /// Returns what a thread's next turn is.
+    pub fn peek(&self, tid: Tid) -> Peek
+        ensures { result ≡ peeked self.now tid }
+    {
+        if self.ended() {
+            return Peek::NotRunnable;
+        }
+        match self.threads.get(tid) {
+            Some(thread) => peek_thread(thread, &self.pages, self.input),
+            None => Peek::NotRunnable,
+        }
     }
 
     /// Drops a thread's reservation, as a slice's end does. All else stays.

@@ -1,5 +1,6 @@
-ghost use Rattle.std.specs.Prelude.{◌≡◌, ◌<◌, ◌^◌, IfOk};
+ghost use Rattle.std.specs.Prelude.{◌≡◌, ◌<◌, ◌^◌, IfOk, length};
 ghost use Rattle.dp_base.specs.Journal.{steps_of};
+ghost use Rattle.guest_kernel.specs.Answers.{bytes_read};
 
 use super::*;
 use dp_base::{Answer, Slice, Tid};
@@ -153,7 +154,8 @@ fn registers(rt: HostRuntime) -> Result<(), Fail> {
 
 // What a run of slices of the guest that exits with 7 comes to, and its step count behind it.
 fn ran(alloc: Global, slices: &[Slice], answers: &[Answer]) -> Result<(SliceRun, u64), Fail>
-    requires { steps_of slices.now < 2 ^ 62 }
+    requires few_steps { steps_of slices.now < 2 ^ 62 }
+    requires few_bytes { length (bytes_read answers.now) < 2 ^ 62 }
 {
     let mut state = started(alloc, &EXIT_SEVEN)?;
     let mut out = Vec::new(alloc);

@@ -68,7 +68,7 @@ returns-else-is_err-clause-bounded g c =
     let length_is : c.len.result ≡ length c.in-Some.out.items = omega (arith, c.len.ensures) in
     epoch_bounded file p c.play_epoch.new.state c.len.result c.in-Epoch.next e c.requires.few c.requires.bounded f.1.further f.1.within f.1.record_is.0.steps
     counts (law.reads p.state e.slices e.answers there r.1) (omega (arith, length_is, law.writes p.state e.slices e.answers there r.1))
-    (λ few. c.a_run_keeps_a_state_encodable.ensures p.state e.slices e.answers there c.requires.bounded.encodable r.1 few)
+    (λ few little. c.a_run_keeps_a_state_encodable.ensures p.state e.slices e.answers there c.requires.bounded.encodable f.1.record_is.0.answers r.1 few little)
 
 pub returns-else-not-branch-clause-played : goal.returns-else-not-branch-clause-played
 returns-else-not-branch-clause-played g c = λ reading first so_far.

@@ -6,6 +6,7 @@ use Rattle.dp_base.specs.declared.slice.Slice.{Slice}
 use Rattle.guest_kernel.specs.declared.state.State.{State}
 use Rattle.guest_kernel.specs.Slices.{at, slices}
 use Rattle.guest_kernel.specs.Stops.{at_step}
+use Rattle.guest_kernel.proofs.RunBounds.{slices_ahead}
 use Rattle.guest_kernel.proofs.SliceRuns.{split_at, slice_done, slice_stops, answers_left, without_reservation-steps}
 use Rattle.guest_kernel.proofs.state.State.run_slices.Goals as goal
 
@@ -19,6 +20,13 @@ loop-index-init c = record { within = omega arith; so_far = refl; steps = omega 
 
 pub run_slice-requires-clause-few_steps : goal.run_slice-requires-clause-few_steps
 run_slice-requires-clause-few_steps c = omega (arith, sum_by_more_le (λ (s : Slice). s.steps) c.args.slices.now c.loop-index.index none c.loop-index-test.true)
+
+pub run_slice-requires-clause-little_input : goal.run_slice-requires-clause-little_input
+run_slice-requires-clause-little_input c =
+    let start = at c.args.self.now c.args.out.now.items c.args.answers.now in
+    let here = at c.loop-index.self c.loop-index.out.items (drop c.loop-index.taken c.args.answers.now) in
+    let place = (slices_ahead 0 (take c.loop-index.index c.args.slices.now) start here c.loop-index.invariant.so_far).place in
+    omega (arith, place, c.requires.little_input, c.requires.few_bytes)
 
 pub returns-in_err-step-clause-err : goal.returns-in_err-step-clause-err
 returns-in_err-step-clause-err c =
