@@ -1,9 +1,13 @@
 mod Kernel
+mod AnswerLists
+mod Readiness
 mod Nexts
 mod Courses
 mod Reservations
 mod CourseRuns
 mod Stretch
 mod Slicing
-mod Epochs
 mod Choosing
+mod Epochs
+mod Waiting
+mod Supplies

@@ -1,39 +1,63 @@
--- What the end of a slice changes: no thread runs or stops by it.
-use Rattle.std.proofs.Common.{◌≡◌, ◌+◌, ◌-◌, ℕ, zero, suc, Bool, true, false, cond, List, [], ◌∷◌, Option, Some, None, refl, sym, ap, ◌∙◌, arith}
+-- What the end of a slice changes: no thread can step or stops by it.
+use Rattle.std.proofs.Common.{◌≡◌, ◌+◌, ◌-◌, ℕ, zero, suc, Bool, true, false, cond, not, ◌&&◌, List, [], ◌∷◌, Option, Some, None, refl, sym, ap, ◌∙◌, arith}
 use Rattle.std.specs.Prelude.{◌==◌, slice_get, slice_set}
 use Rattle.std.proofs.lemmas.List.Sums.{sum_by_push}
 use Rattle.dp_base.specs.declared.slice.Slice.{Slice}
 use Rattle.dp_base.specs.declared.tid.Tid.{Tid}
 use Rattle.dp_base.specs.Journal.{steps_of}
+use Rattle.guest_state.specs.declared.hart.Hart.{Hart}
 use Rattle.guest_state.specs.declared.thread.Thread.{Thread}
 use Rattle.guest_state.specs.declared.thread.Thread.TheVariants.{Runs, Waits, Gone}
 use Rattle.guest_kernel.specs.declared.state.State.{State}
 use Rattle.guest_kernel.specs.State.{dropping, unreserved}
-use Rattle.guest_kernel.specs.Threads.{is_running, runs_at, runs_by, thread_at}
+use Rattle.guest_kernel.specs.Threads.{is_running, thread_at}
+use Rattle.epoch_runner.specs.Answering.{is_ready, is_unanswered, ready_at, ready_by}
 use Rattle.epoch_runner.specs.Schedule.{Course, closed_by}
+use Rattle.epoch_runner.proofs.Kernel.{ReservationLaw}
+use Rattle.supply.specs.Supplied.{Supplied}
+use Rattle.turn_peek.specs.Peek.{thread_peeked}
 
-runs_set : (xs : List Thread) (i j : ℕ) (x y : Thread) → slice_get xs i ≡ Some x → is_running y ≡ is_running x → runs_by (slice_get (slice_set xs i y) j) ≡ runs_by (slice_get xs j)
-runs_set [] i j x y there same = refl
-runs_set (z ∷ zs) zero zero x y there same = let is : z ≡ x = cc in same ∙ ap is_running (sym is)
-runs_set (z ∷ zs) zero (suc j) x y there same = refl
-runs_set (z ∷ zs) (suc i) zero x y there same = refl
-runs_set (z ∷ zs) (suc i) (suc j) x y there same = runs_set zs i j x y there same
+ready_set : (s : State) (w : Supplied) (xs : List Thread) (i j : ℕ) (x y : Thread) → slice_get xs i ≡ Some x → is_ready s w y ≡ is_ready s w x → ready_by s w (slice_get (slice_set xs i y) j) ≡ ready_by s w (slice_get xs j)
+ready_set s w [] i j x y there same = refl
+ready_set s w (z ∷ zs) zero zero x y there same = let is : z ≡ x = cc in same ∙ ap (is_ready s w) (sym is)
+ready_set s w (z ∷ zs) zero (suc j) x y there same = refl
+ready_set s w (z ∷ zs) (suc i) zero x y there same = refl
+ready_set s w (z ∷ zs) (suc i) (suc j) x y there same = ready_set s w zs i j x y there same
 
 found : (b : Bool) (o : Option Thread) (x : Thread) → cond b None o ≡ Some x → o ≡ Some x
 found true o x e = absurd cc
 found false o x e = e
 
-runs_at_set : (xs : List Thread) (t tid : Tid) (x y : Thread) → thread_at xs t ≡ Some x → is_running y ≡ is_running x → runs_at (slice_set xs (t.0 - 1) y) tid ≡ runs_at xs tid
-runs_at_set xs t tid x y there same =
-    let stands = found (t.0 == 0) (slice_get xs (t.0 - 1)) x there in
-    elim (tid.0 == 0) as (λ (b : Bool). runs_by (cond b None (slice_get (slice_set xs (t.0 - 1) y) (tid.0 - 1))) ≡ runs_by (cond b None (slice_get xs (tid.0 - 1))))
-    [ true ↦ refl | false ↦ runs_set xs (t.0 - 1) (tid.0 - 1) x y stands same ]
+ready_at_set : (s : State) (w : Supplied) (t tid : Tid) (x y : Thread) → thread_at s.threads t ≡ Some x → is_ready s w y ≡ is_ready s w x → ready_by s w (thread_at (slice_set s.threads (t.0 - 1) y) tid) ≡ ready_at s w tid
+ready_at_set s w t tid x y there same =
+    let stands = found (t.0 == 0) (slice_get s.threads (t.0 - 1)) x there in
+    elim (tid.0 == 0) as (λ (b : Bool). ready_by s w (cond b None (slice_get (slice_set s.threads (t.0 - 1) y) (tid.0 - 1))) ≡ ready_by s w (cond b None (slice_get s.threads (tid.0 - 1))))
+    [ true ↦ refl | false ↦ ready_set s w s.threads (t.0 - 1) (tid.0 - 1) x y stands same ]
 
-dropping_runs : (s : State) (t tid : Tid) (o : Option Thread) → thread_at s.threads t ≡ o → runs_at (dropping s t o).threads tid ≡ runs_at s.threads tid
-dropping_runs s t tid None there = refl
-dropping_runs s t tid (Some (Runs hart clear)) there = runs_at_set s.threads t tid (Runs hart clear) (Runs (unreserved hart) clear) there refl
-dropping_runs s t tid (Some (Waits addr hart clear)) there = runs_at_set s.threads t tid (Waits addr hart clear) (Waits addr (unreserved hart) clear) there refl
-dropping_runs s t tid (Some (Gone code)) there = refl
+-- by the state only its threads count, its memory and the place of its input
+same_parts : (s t : State) (w : Supplied) (o : Option Thread) → t.pages ≡ s.pages → t.input ≡ s.input → ready_by t w o ≡ ready_by s w o
+same_parts s t w None pages input = refl
+same_parts s t w (Some x) pages input =
+    ap (λ m. is_running x && not (is_unanswered w (thread_peeked m t.input (Some x)))) pages
+    ∙ ap (λ i. is_running x && not (is_unanswered w (thread_peeked s.pages i (Some x)))) input
+
+module _ (reserved : ReservationLaw) where
+  ready_unreserved : (s : State) (w : Supplied) (hart : Hart) (clear : ℕ) → is_ready s w (Runs (unreserved hart) clear) ≡ is_ready s w (Runs hart clear)
+  ready_unreserved s w hart clear = ap not (reserved (is_unanswered w) hart s.pages s.input refl refl)
+
+  dropping_ready : (s : State) (w : Supplied) (t tid : Tid) (o : Option Thread) → thread_at s.threads t ≡ o → ready_at (dropping s t o) w tid ≡ ready_at s w tid
+  dropping_ready s w t tid None there = refl
+  dropping_ready s w t tid (Some (Runs hart clear)) there =
+      same_parts s (dropping s t (Some (Runs hart clear))) w (thread_at (dropping s t (Some (Runs hart clear))).threads tid) refl refl
+      ∙ ready_at_set s w t tid (Runs hart clear) (Runs (unreserved hart) clear) there (ready_unreserved s w hart clear)
+  dropping_ready s w t tid (Some (Waits addr hart clear)) there =
+      same_parts s (dropping s t (Some (Waits addr hart clear))) w (thread_at (dropping s t (Some (Waits addr hart clear))).threads tid) refl refl
+      ∙ ready_at_set s w t tid (Waits addr hart clear) (Waits addr (unreserved hart) clear) there refl
+  dropping_ready s w t tid (Some (Gone code)) there = refl
+
+  pub closed_ready : (c : Course) (w : Supplied) (last : Option Tid) (tid : Tid) → ready_at (closed_by c last).state w tid ≡ ready_at c.state w tid
+  closed_ready c w None tid = refl
+  closed_ready c w (Some t) tid = dropping_ready c.state w t tid (thread_at c.state.threads t) refl
 
 dropping_end : (s : State) (t : Tid) (o : Option Thread) → (dropping s t o).end ≡ s.end
 dropping_end s t None = refl
@@ -47,11 +71,13 @@ dropping_steps s t (Some (Runs hart clear)) = refl
 dropping_steps s t (Some (Waits addr hart clear)) = refl
 dropping_steps s t (Some (Gone code)) = refl
 
--- ---- where a slice is closed
+dropping_input : (s : State) (t : Tid) (o : Option Thread) → (dropping s t o).input ≡ s.input
+dropping_input s t None = refl
+dropping_input s t (Some (Runs hart clear)) = refl
+dropping_input s t (Some (Waits addr hart clear)) = refl
+dropping_input s t (Some (Gone code)) = refl
 
-pub closed_runs : (c : Course) (last : Option Tid) (tid : Tid) → runs_at (closed_by c last).state.threads tid ≡ runs_at c.state.threads tid
-closed_runs c None tid = refl
-closed_runs c (Some t) tid = dropping_runs c.state t tid (thread_at c.state.threads t) refl
+-- ---- where a slice is closed
 
 pub closed_end : (c : Course) (last : Option Tid) → (closed_by c last).state.end ≡ c.state.end
 closed_end c None = refl
@@ -64,6 +90,14 @@ closed_counts c (Some t) = dropping_steps c.state t (thread_at c.state.threads t
 pub closed_output : (c : Course) (last : Option Tid) → (closed_by c last).output ≡ c.output
 closed_output c None = refl
 closed_output c (Some t) = refl
+
+pub closed_answers : (c : Course) (last : Option Tid) → (closed_by c last).answers ≡ c.answers
+closed_answers c None = refl
+closed_answers c (Some t) = refl
+
+pub closed_input : (c : Course) (last : Option Tid) → (closed_by c last).state.input ≡ c.state.input
+closed_input c None = refl
+closed_input c (Some t) = dropping_input c.state t (thread_at c.state.threads t)
 
 pub closed_turns : (c : Course) (last : Option Tid) → steps_of (closed_by c last).done + (closed_by c last).in_slice ≡ steps_of c.done + c.in_slice
 closed_turns c None = refl

@@ -1,24 +1,30 @@
 -- Turns of a thread within its slice are a course.
 use Rattle.std.proofs.Common.{◌≡◌, ◌+◌, ◌<◌, ◌≤◌, ℕ, zero, suc, Bool, true, false, List, [], ◌∷◌, ◌++◌, length, Some, Result, Ok, Err, refl, sym, ap, subst, ◌∙◌, arith}
+use Rattle.std.specs.List.{AllByRecursion}
 use Rattle.std.proofs.lemmas.List.{append-nil, length-append}
+use Rattle.dp_base.specs.declared.answer.Answer.{Answer}
 use Rattle.dp_base.specs.declared.limits.TheConstants.{EPOCH_END_BYTES}
 use Rattle.dp_base.specs.declared.slice.Slice.{Slice}
 use Rattle.dp_base.specs.declared.tid.Tid.{Tid}
-use Rattle.dp_base.specs.Journal.{steps_of}
+use Rattle.dp_base.specs.Journal.{IsAnswer, steps_of}
 use Rattle.guest_kernel.specs.declared.kernel.Turn.{Turn}
 use Rattle.guest_kernel.specs.declared.kernel.Turn.TheVariants as answers
 use Rattle.guest_kernel.specs.declared.state.State.{State}
+use Rattle.guest_kernel.specs.Answers.{bytes_read}
 use Rattle.guest_kernel.specs.Call.{After, Refusal}
 use Rattle.guest_kernel.specs.Slices.{at, either, joined, turns}
 use Rattle.guest_kernel.specs.State.{has_ended}
-use Rattle.guest_kernel.specs.Threads.{runs_at}
 use Rattle.guest_kernel.specs.Turn.{output_after, state_after, turn, turn_answer, yields}
 use Rattle.epoch_runner.specs.declared.bounds.Bounds.{Bounds}
+use Rattle.epoch_runner.specs.Answering.{answers_for, ready_at}
 use Rattle.epoch_runner.specs.Schedule.{Course, course, followed, progress, step, turned}
-use Rattle.epoch_runner.specs.SliceRun.{IsMoved, inside}
+use Rattle.epoch_runner.specs.SliceRun.{IsMoved, Traced, inside}
+use Rattle.epoch_runner.proofs.AnswerLists.{all_append, read_length}
 use Rattle.epoch_runner.proofs.Courses.{course-step}
 use Rattle.epoch_runner.proofs.Kernel.{TurnLaws}
 use Rattle.epoch_runner.proofs.Nexts.{same_next}
+use Rattle.epoch_runner.proofs.Readiness.{ready_some, ready_turn, silent_rest, silent_turn}
+use Rattle.supply.specs.Supplied.{Supplied}
 
 -- what went well first, where all did
 either_ok : {X E Y F : Type 0} (r : Result X E) (f : E → Result Y F) (g : X → Result Y F) (y : Y) → ((e : E) → (z : F) × (f e ≡ Err z)) → either r f g ≡ Ok y → (x : X) × (r ≡ Ok x) × (g x ≡ Ok y)
@@ -42,9 +48,9 @@ none_yet : (tid : Tid) (here : After) → turns 0 0 tid here ≡ Ok here
 unfolding turns
 none_yet tid here = refl
 
-one_course : (bounds : Bounds) (c : Course) → course 1 bounds c ≡ step bounds c
+one_course : (w : Supplied) (bounds : Bounds) (c : Course) → course 1 w bounds c ≡ step w bounds c
 unfolding course
-one_course bounds c = refl
+one_course w bounds c = refl
 
 -- where no turn was taken nothing has changed
 pub stayed : (steps : ℕ) (tid : Tid) (s there : State) → steps ≤ 0 → turns 0 steps tid (at s [] []) ≡ Ok (at there [] []) → there ≡ s
@@ -71,91 +77,137 @@ none_written [] few = refl
 none_written (x ∷ xs) few = absurd (omega (arith, few))
 
 -- what a slice and its epoch leave for so many steps more
-pub record HasRoom (bounds : Bounds) (output : List ℕ) (done : List Slice) (before steps : ℕ) : Type 0 where
+pub record HasRoom (bounds : Bounds) (t : Traced) (done : List Slice) (before steps : ℕ) : Type 0 where
   pub slice : before + steps ≤ bounds.slice
   pub epoch : (steps_of done + before) + steps ≤ bounds.steps
-  pub little : length output < EPOCH_END_BYTES
+  pub little : length t.output < EPOCH_END_BYTES
+  pub little_read : length (bytes_read t.answers) < EPOCH_END_BYTES
+
+-- what is traced behind a turn
+abbrev pub traced_more : Traced → List ℕ → List Answer → Traced
+traced_more t output answers = record { output = t.output ++ output; answers = t.answers ++ answers }
+
+nothing_more : (t : Traced) (output : List ℕ) (answers : List Answer) → output ≡ [] → answers ≡ [] → traced_more t output answers ≡ t
+nothing_more t output answers silent alone =
+    ap (λ o. record { output = t.output ++ o; answers = t.answers ++ answers }) silent ∙ ap (λ a. record { output = t.output ++ []; answers = t.answers ++ a }) alone
+    ∙ ap (λ o. record { output = o; answers = t.answers ++ [] }) (append-nil t.output) ∙ ap (λ a. record { output = t.output; answers = a }) (append-nil t.answers)
 
 module _ (laws : TurnLaws) where
   -- one turn within a slice
-  pub one_step : (bounds : Bounds) (s : State) (output : List ℕ) (done : List Slice) (tid : Tid) (before : ℕ) (after : After) → HasRoom bounds output done before 1 → turn s tid [] ≡ Ok after
-      → step bounds (inside s output done tid before false) ≡ Some (inside after.state (output ++ after.output) done tid (before + 1) (yields s tid))
-  one_step bounds s output done tid before after room is =
-      let c = inside s output done tid before false in
-      let runs = laws.runs s tid [] after is in
-      ap (followed c) (same_next s bounds (progress c) tid (record { alive = laws.going s tid [] after is; some = laws.some s tid runs; few = omega (arith, room.epoch); little = room.little }) refl runs refl (omega (arith, room.slice)))
-      ∙ ap (turned c tid) is
+  pub one_step : (w : Supplied) (bounds : Bounds) (s : State) (t : Traced) (done : List Slice) (tid : Tid) (before : ℕ) (after : After) → HasRoom bounds t done before 1 → ready_at s w tid ≡ true
+      → turn s tid (answers_for s w tid) ≡ Ok after
+      → step w bounds (inside s t done tid before false) ≡ Some (inside after.state (traced_more t after.output (answers_for s w tid)) done tid (before + 1) (yields s tid))
+  one_step w bounds s t done tid before after room ready is =
+      let c = inside s t done tid before false in
+      let more = answers_for s w tid in
+      ap (followed w c) (same_next s w bounds (progress c) tid
+      (record { alive = laws.going s tid more after is; some = ready_some s w tid ready; few = omega (arith, room.epoch); little = room.little; little_read = room.little_read }) refl ready refl (omega (arith, room.slice)))
+      ∙ ap (turned c tid more) is
 
-  no_rest : (s : State) (tid : Tid) (after : After) → turn s tid [] ≡ Ok after → after.rest ≡ []
-  no_rest s tid after is =
-      let has = laws.has_turn s tid [] (laws.going s tid [] after is) (laws.runs s tid [] after is) in
-      let same : Ok after ≡ Ok has.0 = sym is ∙ has.1 in
-      let one : after ≡ has.0 = cc in
-      ap (λ (a : After). a.rest) one ∙ has.2
-
-  -- turns that write nothing, of which none is a yield
-  pub stretch : (n taken : ℕ) (bounds : Bounds) (s there : State) (output : List ℕ) (done : List Slice) (tid : Tid) (before : ℕ) → HasRoom bounds output done before n
+  -- turns that write nothing and take nothing, of which none is a yield
+  pub stretch : (n taken : ℕ) (w : Supplied) (bounds : Bounds) (s there : State) (t : Traced) (done : List Slice) (tid : Tid) (before : ℕ) → HasRoom bounds t done before n
       → turns taken n tid (at s [] []) ≡ Ok (at there [] []) → ((count : ℕ) (mid : After) → count < n → turns 0 count tid (at s [] []) ≡ Ok mid → yields mid.state tid ≡ false)
-      → course n bounds (inside s output done tid before false) ≡ Some (inside there output done tid (before + n) false)
+      → course n w bounds (inside s t done tid before false) ≡ Some (inside there t done tid (before + n) false)
   unfolding course
-  stretch zero taken bounds s there output done tid before room is no_yield =
+  stretch zero taken w bounds s there t done tid before room is no_yield =
       let same = no_turns taken tid (at s [] []) (at there [] []) is in
       let none : before ≡ before + zero = omega arith in
-      ap (λ (x : After). Some (inside x.state output done tid before false)) same ∙ ap (λ n. Some (inside there output done tid n false)) none
-  stretch (suc n) taken bounds s there output done tid before room is no_yield =
+      ap (λ (x : After). Some (inside x.state t done tid before false)) same ∙ ap (λ n. Some (inside there t done tid n false)) none
+  stretch (suc n) taken w bounds s there t done tid before room is no_yield =
       let one = first_turn taken n tid (at s [] []) (at there [] []) is in
       let after = one.0 in
       let silent : after.output ≡ [] = none_written after.output (turns_write n (taken + 1) tid (joined (at s [] []) after) (at there [] []) one.2) in
-      let rest = no_rest s tid after one.1 in
-      let here : joined (at s [] []) after ≡ at after.state [] [] = ap (λ o. at after.state o after.rest) silent ∙ ap (at after.state []) rest in
+      let alone = silent_turn laws s w tid after one.1 in
+      let here : joined (at s [] []) after ≡ at after.state [] [] = ap (λ o. at after.state o after.rest) silent ∙ ap (at after.state []) alone.2 in
       let others : turns (taken + 1) n tid (at after.state [] []) ≡ Ok (at there [] []) = ap (turns (taken + 1) n tid) (sym here) ∙ one.2 in
       let no_yield_now : yields s tid ≡ false = no_yield 0 (at s [] []) (omega arith) (none_yet tid (at s [] [])) in
-      let stepped : step bounds (inside s output done tid before false) ≡ Some (inside after.state output done tid (before + 1) false) =
-      one_step bounds s output done tid before after (record { slice = omega (arith, room.slice); epoch = omega (arith, room.epoch); little = room.little }) one.1
-      ∙ ap (λ o. Some (inside after.state o done tid (before + 1) (yields s tid))) (ap (λ o. output ++ o) silent ∙ append-nil output)
-      ∙ ap (λ y. Some (inside after.state output done tid (before + 1) y)) no_yield_now in
+      let taken_so : turn s tid (answers_for s w tid) ≡ Ok after = ap (turn s tid) alone.0 ∙ one.1 in
+      let stepped : step w bounds (inside s t done tid before false) ≡ Some (inside after.state t done tid (before + 1) false) =
+      one_step w bounds s t done tid before after (record { slice = omega (arith, room.slice); epoch = omega (arith, room.epoch); little = room.little; little_read = room.little_read }) alone.1 taken_so
+      ∙ ap (λ o. Some (inside after.state o done tid (before + 1) (yields s tid))) (nothing_more t after.output (answers_for s w tid) silent alone.0)
+      ∙ ap (λ y. Some (inside after.state t done tid (before + 1) y)) no_yield_now in
       let count : (before + 1) + n ≡ before + suc n = omega arith in
-      course-step n bounds (inside s output done tid before false) (inside after.state output done tid (before + 1) false) stepped
-      ∙ stretch n (taken + 1) bounds after.state there output done tid (before + 1) (record { slice = omega (arith, room.slice); epoch = omega (arith, room.epoch); little = room.little }) others
+      course-step n w bounds (inside s t done tid before false) (inside after.state t done tid (before + 1) false) stepped
+      ∙ stretch n (taken + 1) w bounds after.state there t done tid (before + 1) (record { slice = omega (arith, room.slice); epoch = omega (arith, room.epoch); little = room.little; little_read = room.little_read }) others
       (λ k mid below ran. no_yield (suc k) mid (omega (arith, below)) (turn_first 0 k tid (at s [] []) after one.1 ∙ ap (turns (0 + 1) k tid) here ∙ turns_taken k 0 (0 + 1) tid (at after.state [] []) mid ran))
-      ∙ ap (λ m. Some (inside there output done tid m false)) count
+      ∙ ap (λ m. Some (inside there t done tid m false)) count
 
   -- a stretch of plain steps
-  pub stretch_moved : (tid : Tid) (limit steps : ℕ) (s there : State) (output : List ℕ) → length output < EPOCH_END_BYTES → 0 < steps → steps ≤ limit → there.steps ≡ s.steps + steps
+  pub stretch_moved : (w : Supplied) (tid : Tid) (limit steps : ℕ) (s there : State) (t : Traced) → length t.output < EPOCH_END_BYTES → length (bytes_read t.answers) < EPOCH_END_BYTES → 0 < steps → steps ≤ limit
+      → there.steps ≡ s.steps + steps
       → turns 0 steps tid (at s [] []) ≡ Ok (at there [] []) → ((count : ℕ) (mid : After) → count < steps → turns 0 count tid (at s [] []) ≡ Ok mid → yields mid.state tid ≡ false)
-      → IsMoved tid limit s output steps false there output
-  stretch_moved tid limit steps s there output little some few counted is no_yield = record {
+      → IsMoved w tid limit s t steps false there t
+  stretch_moved w tid limit steps s there t little little_read some few counted is no_yield = record {
     some = some;
     few = few;
     counted = counted;
-    went = λ bounds done before slice epoch. stretch steps 0 bounds s there output done tid before (record { slice = slice; epoch = epoch; little = little }) is no_yield;
+    few_answers = omega arith;
+    are_answers = λ are. are;
+    went = λ bounds done before slice epoch. stretch steps 0 w bounds s there t done tid before (record { slice = slice; epoch = epoch; little = little; little_read = little_read }) is no_yield;
   }
 
-  -- one turn of any kind
-  pub turn_moved : (tid : Tid) (limit : ℕ) (s there : State) (output written : List ℕ) (used yielded : Bool) → length output < EPOCH_END_BYTES → 0 < limit → has_ended s.end ≡ false → runs_at s.threads tid ≡ true
-      → answers.Stepped used yielded ≡ turn_answer (yields s tid) [] (turn s tid []) → there ≡ state_after s (turn s tid []) → written ≡ output_after output (turn s tid [])
-      → IsMoved tid limit s output 1 yielded there written
-  turn_moved tid limit s there output written used yielded little some alive runs answer there_is written_is =
-      let has = laws.has_turn s tid [] alive runs in
+  -- none of them moves the place of the input
+  pub stretch_place : (n taken : ℕ) (tid : Tid) (s there : State) → turns taken n tid (at s [] []) ≡ Ok (at there [] []) → there.input ≡ s.input
+  stretch_place zero taken tid s there is = let same = no_turns taken tid (at s [] []) (at there [] []) is in ap (λ (x : After). x.state.input) (sym same)
+  stretch_place (suc n) taken tid s there is =
+      let one = first_turn taken n tid (at s [] []) (at there [] []) is in
+      let after = one.0 in
+      let silent : after.output ≡ [] = none_written after.output (turns_write n (taken + 1) tid (joined (at s [] []) after) (at there [] []) one.2) in
+      let rest : after.rest ≡ [] = silent_rest laws s tid after one.1 in
+      let here : joined (at s [] []) after ≡ at after.state [] [] = ap (λ o. at after.state o after.rest) silent ∙ ap (at after.state []) rest in
+      let others : turns (taken + 1) n tid (at after.state [] []) ≡ Ok (at there [] []) = ap (turns (taken + 1) n tid) (sym here) ∙ one.2 in
+      let place = laws.place s tid [] after one.1 in
+      let none : length (bytes_read after.rest) ≡ 0 = ap (λ r. length (bytes_read r)) rest in
+      omega (arith, place, none, stretch_place n (taken + 1) tid after.state there others)
+
+  -- one turn of any kind, which takes what the supply answers
+  pub turn_moved : (w : Supplied) (tid : Tid) (limit : ℕ) (s there : State) (t behind : Traced) (log : List Answer) (used yielded : Bool) → length t.output < EPOCH_END_BYTES → length (bytes_read t.answers) < EPOCH_END_BYTES → 0 < limit
+      → has_ended s.end ≡ false → ready_at s w tid ≡ true → log ≡ answers_for s w tid → length log ≤ 1 → AllByRecursion IsAnswer log
+      → answers.Stepped used yielded ≡ turn_answer (yields s tid) log (turn s tid log) → there ≡ state_after s (turn s tid log)
+      → behind.output ≡ output_after t.output (turn s tid log) → behind.answers ≡ t.answers ++ log
+      → IsMoved w tid limit s t 1 yielded there behind
+  turn_moved w tid limit s there t behind log used yielded little little_read some alive ready log_is one_answer is_answer answer there_is written_is answers_are =
+      let has = ready_turn laws s w tid alive ready in
       let after = has.0 in
-      let state_is : there ≡ after.state = there_is ∙ ap (state_after s) has.1 in
-      let output_is : written ≡ output ++ after.output = written_is ∙ ap (output_after output) has.1 in
-      let told = answer ∙ ap (turn_answer (yields s tid) []) has.1 in
+      let is : turn s tid log ≡ Ok after = ap (turn s tid) log_is ∙ has.1 in
+      let state_is : there ≡ after.state = there_is ∙ ap (state_after s) is in
+      let output_is : behind.output ≡ t.output ++ after.output = written_is ∙ ap (output_after t.output) is in
+      let told = answer ∙ ap (turn_answer (yields s tid) log) is in
       let yield_is : yielded ≡ yields s tid = cc in
+      let behind_is : traced_more t after.output (answers_for s w tid) ≡ behind =
+      ap (λ o. record { output = o; answers = t.answers ++ answers_for s w tid }) (sym output_is)
+      ∙ ap (λ a. record { output = behind.output; answers = t.answers ++ a }) (sym log_is)
+      ∙ ap (λ a. record { output = behind.output; answers = a }) (sym answers_are) in
+      let sums : length behind.answers ≡ length t.answers + length log = ap (λ a. length a) answers_are ∙ length-append t.answers log in
       record {
         some = omega arith;
         few = omega (arith, some);
-        counted = ap (λ (t : State). t.steps) state_is ∙ laws.counts s tid [] after has.1;
+        counted = ap (λ (t : State). t.steps) state_is ∙ laws.counts s tid log after is;
+        few_answers = omega (arith, sums, one_answer);
+        are_answers = λ are. subst (AllByRecursion IsAnswer) (sym answers_are) (all_append IsAnswer t.answers log are is_answer);
         went = λ bounds done before slice epoch.
-            one_course bounds (inside s output done tid before false)
-            ∙ one_step bounds s output done tid before after (record { slice = slice; epoch = epoch; little = little }) has.1
-            ∙ ap (λ t. Some (inside t (output ++ after.output) done tid (before + 1) (yields s tid))) (sym state_is)
-            ∙ ap (λ o. Some (inside there o done tid (before + 1) (yields s tid))) (sym output_is)
-            ∙ ap (λ y. Some (inside there written done tid (before + 1) y)) (sym yield_is);
+            one_course w bounds (inside s t done tid before false)
+            ∙ one_step w bounds s t done tid before after (record { slice = slice; epoch = epoch; little = little; little_read = little_read }) ready has.1
+            ∙ ap (λ x. Some (inside x (traced_more t after.output (answers_for s w tid)) done tid (before + 1) (yields s tid))) (sym state_is)
+            ∙ ap (λ b. Some (inside there b done tid (before + 1) (yields s tid))) behind_is
+            ∙ ap (λ y. Some (inside there behind done tid (before + 1) y)) (sym yield_is);
       }
 
-  -- a thread that runs has a turn, so it is answered so
-  pub turn_taken : (tid : Tid) (s : State) (answer : Turn) → has_ended s.end ≡ false → runs_at s.threads tid ≡ true → answer ≡ turn_answer (yields s tid) [] (turn s tid []) → ((used yielded : Bool) → answer ≡ answers.Stepped used yielded → ⊥) → ⊥
-  turn_taken tid s answer alive runs is other =
-      let has = laws.has_turn s tid [] alive runs in
-      other _ (yields s tid) (is ∙ ap (turn_answer (yields s tid) []) has.1)
+  -- the input's place moves on by what it has read
+  pub turn_place : (w : Supplied) (tid : Tid) (s there : State) (t behind : List Answer) (log : List Answer) → has_ended s.end ≡ false → ready_at s w tid ≡ true → log ≡ answers_for s w tid
+      → there ≡ state_after s (turn s tid log) → behind ≡ t ++ log → there.input + length (bytes_read t) ≡ s.input + length (bytes_read behind)
+  turn_place w tid s there t behind log alive ready log_is there_is answers_are =
+      let has = ready_turn laws s w tid alive ready in
+      let after = has.0 in
+      let is : turn s tid log ≡ Ok after = ap (turn s tid) log_is ∙ has.1 in
+      let state_is : there.input ≡ after.state.input = ap (λ (x : State). x.input) (there_is ∙ ap (state_after s) is) in
+      let none : length (bytes_read after.rest) ≡ 0 = ap (λ r. length (bytes_read r)) has.2 in
+      let sums : length (bytes_read behind) ≡ length (bytes_read t) + length (bytes_read log) = ap (λ a. length (bytes_read a)) answers_are ∙ read_length t log in
+      omega (arith, laws.place s tid log after is, state_is, none, sums)
+
+  -- a thread that can step has a turn, so it is answered so
+  pub turn_taken : (w : Supplied) (tid : Tid) (s : State) (log : List Answer) (answer : Turn) → has_ended s.end ≡ false → ready_at s w tid ≡ true → log ≡ answers_for s w tid → answer ≡ turn_answer (yields s tid) log (turn s tid log)
+      → ((used yielded : Bool) → answer ≡ answers.Stepped used yielded → ⊥) → ⊥
+  turn_taken w tid s log answer alive ready log_is is other =
+      let has = ready_turn laws s w tid alive ready in
+      other _ (yields s tid) (is ∙ ap (turn_answer (yields s tid) log) (ap (turn s tid) log_is ∙ has.1))

@@ -1,29 +1,28 @@
--- Whose turn it is in an epoch: the threads of a guest take slices on one processor, by round robin. This machine's own.
+-- Whose turn it is in an epoch: the threads of a guest take slices on one processor, by round robin, and a supply answers their
+-- reads and their calls for the clock. This machine's own.
 use Rattle.std.specs.Prelude.{◌≡◌, ◌+◌, ◌-◌, ℕ, zero, suc, Bool, true, false, not, ◌&&◌, ◌||◌, nat_le, nat_lt, if◌then◌else◌, List, [], ◌∷◌, ◌++◌, length, drop, position, Option, Some, None, Result, Ok, Err}
-use Rattle.std.specs.List.{list_any}
 use Rattle.std.specs.Option.{option_map, option_or}
+use Rattle.dp_base.specs.declared.answer.Answer.{Answer}
 use Rattle.dp_base.specs.declared.limits.TheConstants.{EPOCH_END_BYTES}
 use Rattle.dp_base.specs.declared.slice.Slice.{Slice}
 use Rattle.dp_base.specs.declared.tid.Tid.{Tid}
 use Rattle.dp_base.specs.Field.{◌>>=◌}
-use Rattle.dp_base.specs.Journal.{steps_of}
+use Rattle.dp_base.specs.Journal.{Epoch, steps_of}
 use Rattle.guest_state.specs.declared.thread.Thread.{Thread}
 use Rattle.guest_kernel.specs.declared.state.State.{State}
 use Rattle.guest_kernel.specs.Call.{After, Refusal}
-use Rattle.guest_kernel.specs.State.{has_ended, without_reservation}
-use Rattle.guest_kernel.specs.Threads.{is_running, runs_at}
+use Rattle.guest_kernel.specs.Answers.{bytes_read}
+use Rattle.guest_kernel.specs.State.{without_reservation}
 use Rattle.guest_kernel.specs.Turn.{turn, yields}
 use Rattle.epoch_runner.specs.declared.bounds.Bounds.{Bounds}
-
--- a guest can step: it hasn't ended, and a thread runs
-abbrev pub can_step : State → Bool
-can_step s = not (has_ended s.end) && list_any is_running s.threads
+use Rattle.epoch_runner.specs.Answering.{answers_for, can_step, is_ready, ready_at}
+use Rattle.supply.specs.Supplied.{Supplied}
 
 -- ---- who is next
 
--- the lowest thread that runs and has at least this number
-abbrev pub lowest_from : ℕ → List Thread → Option Tid
-lowest_from least threads = option_map (λ i. record { 0 = (least - 1) + i + 1 }) (position is_running (drop (least - 1) threads))
+-- the lowest thread that passes a test and has at least this number
+abbrev pub lowest_from : (Thread → Bool) → ℕ → List Thread → Option Tid
+lowest_from passes least threads = option_map (λ i. record { 0 = (least - 1) + i + 1 }) (position passes (drop (least - 1) threads))
 
 -- how far an epoch is, beside its state
 pub record Progress : Type 0 where
@@ -35,36 +34,39 @@ pub record Progress : Type 0 where
   pub in_slice : ℕ
   -- the steps of the epoch so far
   pub turns : ℕ
-  -- the bytes of its output so far
+  -- the bytes of its output so far, and of what its reads took
   pub output : ℕ
+  pub read : ℕ
 
 -- what comes next: the turn of a thread, with which a slice begins or doesn't; or the epoch's end
 pub data Next : Type 0 where
   turn_of : (tid : Tid) (begins : Bool) → Next
   ends : Next
 
--- An epoch ends where no thread can step, at its bound of steps, and behind the step at which its output is long enough.
-abbrev pub ends_epoch : State → Bounds → Progress → Bool
-ends_epoch s bounds p = not (can_step s) || nat_le bounds.steps p.turns || nat_le EPOCH_END_BYTES p.output
+-- An epoch ends where no thread can step, at its bound of steps, and behind the step at which its output is long enough, or what it
+-- has read.
+abbrev pub ends_epoch : State → Supplied → Bounds → Progress → Bool
+ends_epoch s w bounds p = not (can_step s w) || nat_le bounds.steps p.turns || nat_le EPOCH_END_BYTES p.output || nat_le EPOCH_END_BYTES p.read
 
 -- a slice begins, of this thread if there is one
 abbrev pub begins_with : Option Tid → Next
 begins_with (Some tid) = turn_of tid true
 begins_with None = ends
 
--- a slice begins: of the lowest thread that runs from a number on, or else of the lowest of all
-abbrev pub begins_from : List Thread → ℕ → Next
-begins_from threads least = begins_with (option_or (lowest_from least threads) (lowest_from 1 threads))
+-- a slice begins: of the lowest thread that can step from a number on, or else of the lowest of all
+abbrev pub begins_from : State → Supplied → ℕ → Next
+begins_from s w least = begins_with (option_or (lowest_from (is_ready s w) least s.threads) (lowest_from (is_ready s w) 1 s.threads))
 
--- The thread that ran last goes on while it runs, hasn't yielded, and its slice has steps left. Before the first turn nothing goes on.
-abbrev pub by_last : State → Bounds → Progress → Option Tid → Next
-by_last s bounds p None = begins_from s.threads bounds.first
-by_last s bounds p (Some tid) =
-    if runs_at s.threads tid && not p.yielded && nat_lt p.in_slice bounds.slice then turn_of tid false
-    else begins_from s.threads (tid.0 + 1)
+-- The thread that ran last goes on while it can step, hasn't yielded, and its slice has steps left. Before the first turn nothing
+-- goes on.
+abbrev pub by_last : State → Supplied → Bounds → Progress → Option Tid → Next
+by_last s w bounds p None = begins_from s w bounds.first
+by_last s w bounds p (Some tid) =
+    if ready_at s w tid && not p.yielded && nat_lt p.in_slice bounds.slice then turn_of tid false
+    else begins_from s w (tid.0 + 1)
 
-unfoldable pub next : State → Bounds → Progress → Next
-next s bounds p = if ends_epoch s bounds p then ends else by_last s bounds p p.last
+unfoldable pub next : State → Supplied → Bounds → Progress → Next
+next s w bounds p = if ends_epoch s w bounds p then ends else by_last s w bounds p p.last
 
 -- ---- a run by it
 
@@ -72,6 +74,8 @@ next s bounds p = if ends_epoch s bounds p then ends else by_last s bounds p p.l
 pub record Course : Type 0 where
   pub state : State
   pub output : List ℕ
+  -- the answers that its turns took
+  pub answers : List Answer
   -- the slices that are over
   pub done : List Slice
   -- the thread of the slice that isn't, how many steps it has, and whether the last of them was a yield
@@ -80,10 +84,17 @@ pub record Course : Type 0 where
   pub yielded : Bool
 
 abbrev pub progress : Course → Progress
-progress c = record { last = c.last; yielded = c.yielded; in_slice = c.in_slice; turns = steps_of c.done + c.in_slice; output = length c.output }
+progress c = record {
+  last = c.last;
+  yielded = c.yielded;
+  in_slice = c.in_slice;
+  turns = steps_of c.done + c.in_slice;
+  output = length c.output;
+  read = length (bytes_read c.answers);
+}
 
 abbrev pub starting : State → Course
-starting s = record { state = s; output = []; done = []; last = None; in_slice = 0; yielded = false }
+starting s = record { state = s; output = []; answers = []; done = []; last = None; in_slice = 0; yielded = false }
 
 abbrev pub closed_by : Course → Option Tid → Course
 closed_by c None = c
@@ -93,31 +104,43 @@ closed_by c (Some tid) = record c { state = without_reservation c.state tid; don
 abbrev pub closed : Course → Course
 closed c = closed_by c c.last
 
--- one turn of a thread
-abbrev pub turned : Course → Tid → Result After Refusal → Option Course
-turned c tid (Ok after) = Some (record c { state = after.state; output = c.output ++ after.output; last = Some tid; in_slice = c.in_slice + 1; yielded = yields c.state tid })
-turned c tid (Err refusal) = None
+-- behind one turn of a thread that took these answers
+abbrev pub turned : Course → Tid → List Answer → Result After Refusal → Option Course
+turned c tid answers (Ok after) = Some (record c {
+  state = after.state;
+  output = c.output ++ after.output;
+  answers = c.answers ++ answers;
+  last = Some tid;
+  in_slice = c.in_slice + 1;
+  yielded = yields c.state tid;
+})
+turned c tid answers (Err refusal) = None
 
-abbrev pub followed : Course → Next → Option Course
-followed c (turn_of tid true) = turned (closed c) tid (turn (closed c).state tid [])
-followed c (turn_of tid false) = turned c tid (turn c.state tid [])
-followed c ends = None
+-- one turn of a thread, which takes what the supply answers
+abbrev pub takes_turn : Supplied → Course → Tid → Option Course
+takes_turn w c tid = turned c tid (answers_for c.state w tid) (turn c.state tid (answers_for c.state w tid))
+
+abbrev pub followed : Supplied → Course → Next → Option Course
+followed w c (turn_of tid true) = takes_turn w (closed c) tid
+followed w c (turn_of tid false) = takes_turn w c tid
+followed w c ends = None
 
 -- the turn that is next
-abbrev pub step : Bounds → Course → Option Course
-step bounds c = followed c (next c.state bounds (progress c))
+abbrev pub step : Supplied → Bounds → Course → Option Course
+step w bounds c = followed w c (next c.state w bounds (progress c))
 
 -- so many turns, each the one that is next
-unfoldable pub course : ℕ → Bounds → Course → Option Course
-course zero bounds c = Some c
-course (suc n) bounds c = course n bounds c >>= step bounds
+unfoldable pub course : ℕ → Supplied → Bounds → Course → Option Course
+course zero w bounds c = Some c
+course (suc n) w bounds c = course n w bounds c >>= step w bounds
 
 -- A run of an epoch by the schedule: each turn is the one that is next, and it stops where the epoch first ends.
-pub record IsScheduled (start : State) (bounds : Bounds) (slices : List Slice) (output : List ℕ) (end : State) : Type 0 where
+pub record IsScheduled (start : State) (w : Supplied) (bounds : Bounds) (e : Epoch) (output : List ℕ) (end : State) : Type 0 where
   pub turns : ℕ
   pub last : Course
-  pub went : course turns bounds (starting start) ≡ Some last
-  pub stops : next last.state bounds (progress last) ≡ ends
-  pub slices_are : slices ≡ (closed last).done
+  pub went : course turns w bounds (starting start) ≡ Some last
+  pub stops : next last.state w bounds (progress last) ≡ ends
+  pub slices_are : e.slices ≡ (closed last).done
+  pub answers_are : e.answers ≡ last.answers
   pub output_is : output ≡ last.output
   pub end_is : end ≡ (closed last).state

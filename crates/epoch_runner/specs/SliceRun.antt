@@ -1,39 +1,54 @@
 -- A slice, and parts of one, as they are run. These serve the contracts of this crate's own steps. This machine's own.
 use Rattle.std.specs.Prelude.{◌≡◌, ◌+◌, ◌-◌, ◌<◌, ◌≤◌, ℕ, Bool, false, not, ◌==◌, ◌||◌, nat_le, if◌then◌else◌, List, length, Some}
+use Rattle.std.specs.List.{AllByRecursion}
+use Rattle.dp_base.specs.declared.answer.Answer.{Answer}
 use Rattle.dp_base.specs.declared.limits.TheConstants.{EPOCH_END_BYTES}
 use Rattle.dp_base.specs.declared.slice.Slice.{Slice}
 use Rattle.dp_base.specs.declared.tid.Tid.{Tid}
-use Rattle.dp_base.specs.Journal.{steps_of}
+use Rattle.dp_base.specs.Journal.{IsAnswer, steps_of}
+use Rattle.guest_kernel.specs.Answers.{bytes_read}
 use Rattle.guest_kernel.specs.declared.state.State.{State}
 use Rattle.epoch_runner.specs.declared.bounds.Bounds.{Bounds}
-use Rattle.epoch_runner.specs.Schedule.{Course, Next, begins_from, can_step, course, ends, next, progress}
+use Rattle.epoch_runner.specs.Answering.{can_step}
+use Rattle.epoch_runner.specs.Schedule.{Course, Next, begins_from, course, ends, next, progress}
+use Rattle.supply.specs.Supplied.{Supplied}
 
--- what comes next where a slice is over, when the epoch may have so many steps more
-abbrev pub next_slice : State → (output left least : ℕ) → Next
-next_slice s output left least =
-    if not (can_step s) || (left == 0) || nat_le EPOCH_END_BYTES output then ends else begins_from s.threads least
+-- what an epoch has written and taken so far
+pub record Traced : Type 0 where
+  pub output : List ℕ
+  pub answers : List Answer
+
+-- what comes next where a slice is over, when the epoch has written and read so many bytes and may have so many steps more
+abbrev pub next_slice : State → Supplied → (output read left least : ℕ) → Next
+next_slice s w output read left least =
+    if not (can_step s w) || (left == 0) || nat_le EPOCH_END_BYTES output || nat_le EPOCH_END_BYTES read then ends else begins_from s w least
 
 -- in a slice of a thread, behind so many steps of it
-abbrev pub inside : State → List ℕ → List Slice → Tid → ℕ → Bool → Course
-inside s output done tid in_slice yielded =
-    record { state = s; output = output; done = done; last = Some tid; in_slice = in_slice; yielded = yielded }
+abbrev pub inside : State → Traced → List Slice → Tid → ℕ → Bool → Course
+inside s t done tid in_slice yielded =
+    record { state = s; output = t.output; answers = t.answers; done = done; last = Some tid; in_slice = in_slice; yielded = yielded }
 
--- Steps of a thread that runs, at most so many, whatever its slice and its epoch have done before: each is the one that is next.
-pub record IsMoved (tid : Tid) (limit : ℕ) (s : State) (output : List ℕ) (steps : ℕ) (yielded : Bool) (after : State) (written : List ℕ) : Type 0 where
+-- Steps of a thread that can step, at most so many, whatever its slice and its epoch have done before: each is the one that is next.
+pub record IsMoved (w : Supplied) (tid : Tid) (limit : ℕ) (s : State) (before : Traced) (steps : ℕ) (yielded : Bool) (after : State) (behind : Traced) : Type 0 where
   pub some : 0 < steps
   pub few : steps ≤ limit
   pub counted : after.steps ≡ s.steps + steps
-  pub went : (bounds : Bounds) (done : List Slice) (before : ℕ) → before + steps ≤ bounds.slice → (steps_of done + before) + steps ≤ bounds.steps
-      → course steps bounds (inside s output done tid before false) ≡ Some (inside after written done tid (before + steps) yielded)
+  pub few_answers : length behind.answers ≤ length before.answers + steps
+  pub are_answers : AllByRecursion IsAnswer before.answers → AllByRecursion IsAnswer behind.answers
+  pub went : (bounds : Bounds) (done : List Slice) (in_slice : ℕ) → in_slice + steps ≤ bounds.slice → (steps_of done + in_slice) + steps ≤ bounds.steps
+      → course steps w bounds (inside s before done tid in_slice false) ≡ Some (inside after behind done tid (in_slice + steps) yielded)
 
 -- A whole slice of a thread, whatever the epoch has done before, when it may have so many steps more: each step is the one that is
 -- next, and behind them the slice is over.
-pub record IsSliceRun (bounds : Bounds) (tid : Tid) (left : ℕ) (s : State) (output : List ℕ) (steps : ℕ) (after : State) (written : List ℕ) : Type 0 where
+pub record IsSliceRun (w : Supplied) (bounds : Bounds) (tid : Tid) (left : ℕ) (s : State) (before : Traced) (steps : ℕ) (after : State) (behind : Traced) : Type 0 where
   pub some : 0 < steps
   pub few : steps ≤ left
   pub counted : after.steps ≡ s.steps + steps
+  pub few_answers : length behind.answers ≤ length before.answers + steps
+  pub are_answers : AllByRecursion IsAnswer before.answers → AllByRecursion IsAnswer behind.answers
   pub yielded : Bool
   pub went : (done : List Slice) → steps_of done + left ≡ bounds.steps
-      → course steps bounds (inside s output done tid 0 false) ≡ Some (inside after written done tid steps yielded)
+      → course steps w bounds (inside s before done tid 0 false) ≡ Some (inside after behind done tid steps yielded)
   pub over : (done : List Slice) → steps_of done + left ≡ bounds.steps
-      → next after bounds (progress (inside after written done tid steps yielded)) ≡ next_slice after (length written) (left - steps) (tid.0 + 1)
+      → next after w bounds (progress (inside after behind done tid steps yielded))
+      ≡ next_slice after w (length behind.output) (length (bytes_read behind.answers)) (left - steps) (tid.0 + 1)

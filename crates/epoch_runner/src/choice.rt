@@ -1,58 +1,61 @@
 // Whose slice is next.
-ghost use Rattle.std.specs.Prelude.{◌≡◌, ◌≤◌, length, position};
-ghost use Rattle.dp_base.specs.declared.limits.TheConstants.{MAX_THREADS};
-ghost use Rattle.guest_kernel.specs.Threads.{is_running};
-ghost use Rattle.epoch_runner.specs.Schedule.{begins_with, can_step, lowest_from};
+ghost use Rattle.std.specs.Prelude.{◌≡◌, nat_le, position};
+ghost use Rattle.epoch_runner.specs.Answering.{is_ready};
+ghost use Rattle.epoch_runner.specs.Schedule.{begins_with, lowest_from};
 ghost use Rattle.epoch_runner.specs.SliceRun.{next_slice};
 
+use crate::answer::{can_step, is_ready};
 use dp_base::Tid;
 use dp_base::limits::EPOCH_END_BYTES;
 use guest_kernel::{State, Thread};
+use supply::Supply;
 
-/// Returns whether a guest can take a step: it hasn't ended, and a thread runs.
-pub fn can_step(state: &State) -> bool
-    ensures { result ≡ can_step state.now }
+// The thread of the next slice, when the epoch has written and read so many bytes and may have so many steps more: the lowest that
+// can step from a number on, or else the lowest of all. `None` where the epoch ends.
+pub(crate) fn next_thread(
+    state: &State,
+    supply: &Supply,
+    written: usize,
+    read: usize,
+    left: u32,
+    least: usize,
+) -> Option<Tid>
+    ensures { begins_with result ≡ next_slice state.now supply.now written read left least }
 {
-    !state.ended() && state.threads.any_running()
-}
-
-// The thread of the next slice, when the epoch has written so many bytes and may have so many steps more: the lowest that runs
-// from a number on, or else the lowest of all. `None` where the epoch ends.
-pub(crate) fn next_thread(state: &State, written: usize, left: u32, least: usize) -> Option<Tid>
-    ensures { begins_with result ≡ next_slice state.now written left least }
-{
-    if !can_step(state) || left == 0 || written >= EPOCH_END_BYTES as usize {
+    if !can_step(state, supply) || left == 0 || is_long(written) || is_long(read) {
         return None;
     }
-    let threads = state.threads.as_slice();
-    match lowest_from(threads, least) {
+    match lowest_from(state, supply, least) {
         Some(tid) => Some(tid),
-        None => lowest_from(threads, 1),
+        None => lowest_from(state, supply, 1),
     }
 }
 
-// The lowest thread that runs and has at least this number.
-fn lowest_from(threads: &[Thread], least: usize) -> Option<Tid>
-    requires { length threads.now ≤ MAX_THREADS }
-    ensures { result ≡ lowest_from least threads.now }
+// Whether an epoch ends that has written, or read, so many bytes.
+pub(crate) fn is_long(count: usize) -> bool
+    ensures { result ≡ nat_le EPOCH_END_BYTES count }
 {
+    count >= EPOCH_END_BYTES as usize
+}
+
+// The lowest thread that can step and has at least this number.
+fn lowest_from(state: &State, supply: &Supply, least: usize) -> Option<Tid>
+    ensures { result ≡ lowest_from (is_ready state.now supply.now) least state.now.threads }
+{
+    let threads = state.threads.as_slice();
     let before = least.saturating_sub(1);
     if before > threads.len() {
         return None;
     }
-    let index = first_running(&threads[before..])?;
+    let index = first_ready(state, supply, &threads[before..])?;
     Some(Tid((before + index + 1) as u16))
 }
 
-// The place of the first of them that runs.
-fn first_running(threads: &[Thread]) -> Option<usize>
-    ensures { result ≡ position is_running threads.now }
+// The place of the first of them that can step.
+fn first_ready(state: &State, supply: &Supply, threads: &[Thread]) -> Option<usize>
+    ensures { result ≡ position (is_ready state.now supply.now) threads.now }
 {
-    threads.iter().position(is_running)
-}
-
-fn is_running(thread: &Thread) -> bool
-    ensures { result ≡ is_running thread.now }
-{
-    matches!(thread, Thread::Runs { .. })
+    threads
+        .iter()
+        .position(|thread| is_ready(state, supply, thread))
 }

@@ -1,59 +1,101 @@
 //! What follows from the schedule's definitions alone. A call of such a function costs nothing, and hands the law to the
 //! caller's proof.
 
-ghost use Rattle.std.specs.Prelude.{◌≡◌, ◌⊎◌, ◌<◌, ◌≤◌, ◌+◌, ℕ, Bool, false, true, List, [], Ok, Some, length};
+ghost use Rattle.std.specs.Prelude.{◌≡◌, ◌⊎◌, ◌<◌, ◌≤◌, ◌+◌, ℕ, Bool, false, true, List, [], Ok, length};
+ghost use Rattle.std.specs.List.{list_any};
 ghost use Rattle.dp_base.specs.declared.limits.TheConstants.{EPOCH_END_BYTES, MAX_CALL_BYTES};
-ghost use Rattle.dp_base.specs.declared.slice.Slice.{Slice};
 ghost use Rattle.dp_base.specs.declared.tid.Tid.{Tid};
-ghost use Rattle.dp_base.specs.Journal.{steps_of};
+ghost use Rattle.dp_base.specs.Journal.{Epoch, steps_of};
+ghost use Rattle.guest_kernel.specs.Answers.{bytes_read};
 ghost use Rattle.guest_kernel.specs.declared.state.State.{State};
 ghost use Rattle.guest_kernel.specs.Slices.{at, run};
 ghost use Rattle.guest_kernel.specs.State.{has_ended};
-ghost use Rattle.guest_kernel.specs.Threads.{runs_at};
+ghost use Rattle.guest_kernel.specs.Threads.{is_running};
+ghost use Rattle.epoch_runner.specs.Answering.{can_step, input_due, ready_at};
 ghost use Rattle.epoch_runner.specs.declared.bounds.Bounds.{Bounds};
-ghost use Rattle.epoch_runner.specs.Schedule.{Course, IsScheduled, Progress, can_step, course, ends, next, progress, starting, turn_of};
+ghost use Rattle.epoch_runner.specs.Schedule.{IsScheduled, Progress, next, turn_of};
+ghost use Rattle.epoch_runner.specs.Supplying.{IsSuppliedBy};
+ghost use Rattle.supply.specs.Supplied.{IsSupply, Supplied, end_of, refilled};
 
-/// A state and bounds determine the epoch: its slices, its output and its end.
+/// A state, a supply and bounds determine the epoch: its slices, its answers, its output and its end.
 pub fn a_schedule_is_determined()
-    ensures { (start : State) (bounds : Bounds) (xs ys : List Slice) (output other : List ℕ) (end otherwise : State) →
-        IsScheduled start bounds xs output end → IsScheduled start bounds ys other otherwise →
-        (xs ≡ ys) × (output ≡ other) × (end ≡ otherwise) }
+    ensures { (start : State) (w : Supplied) (bounds : Bounds) (e f : Epoch) (output other : List ℕ) (end otherwise : State) →
+        IsScheduled start w bounds e output end → IsScheduled start w bounds f other otherwise →
+        (e ≡ f) × (output ≡ other) × (end ≡ otherwise) }
 {}
 
-/// A run by the schedule is the run of its slices.
+/// A run by the schedule is the run of its slices, which uses its answers up.
 pub fn a_scheduled_run_is_a_run()
-    ensures { (start : State) (bounds : Bounds) (xs : List Slice) (output : List ℕ) (end : State) →
-        IsScheduled start bounds xs output end → run xs (at start [] []) ≡ Ok (at end output []) }
+    ensures { (start : State) (w : Supplied) (bounds : Bounds) (e : Epoch) (output : List ℕ) (end : State) →
+        IsScheduled start w bounds e output end → run e.slices (at start [] e.answers) ≡ Ok (at end output []) }
 {
     guest_kernel::laws::a_turn_is_of_a_thread_that_runs();
-    guest_kernel::laws::a_thread_that_runs_has_a_turn();
+    guest_kernel::laws::a_turn_goes_by_its_peek();
     guest_kernel::laws::a_turn_is_one_step();
+    guest_kernel::laws::the_place_grows_by_what_is_read();
     guest_kernel::laws::a_turn_reads_and_writes_little();
+    guest_kernel::laws::a_longer_log_serves();
     guest_kernel::laws::turns_count_on();
     guest_kernel::laws::a_slice_more();
+    turn_peek::laws::a_reservation_asks_for_nothing();
 }
 
-/// The thread whose turn is next runs, and the guest hasn't ended.
-pub fn the_next_thread_runs()
-    ensures { (s : State) (bounds : Bounds) (p : Progress) (tid : Tid) (begins : Bool) →
-        next s bounds p ≡ turn_of tid begins → (has_ended s.end ≡ false) × (runs_at s.threads tid ≡ true) }
+/// The thread whose turn is next can step, and the guest hasn't ended.
+pub fn the_next_thread_can_step()
+    ensures { (s : State) (w : Supplied) (bounds : Bounds) (p : Progress) (tid : Tid) (begins : Bool) →
+        next s w bounds p ≡ turn_of tid begins → (has_ended s.end ≡ false) × (ready_at s w tid ≡ true) }
 {}
 
-/// An epoch ends where no thread can step, where it has as many steps as it may, or where it has written 65,536 bytes. It
-/// never has more, and never writes 69,632.
+/// An epoch ends where no thread can step, where it has as many steps as it may, or where it has written or read 65,536 bytes. It
+/// never has more steps, and never writes or reads 69,632 bytes.
 pub fn an_epoch_ends_by_a_rule()
-    ensures stops { (start : State) (bounds : Bounds) (xs : List Slice) (output : List ℕ) (end : State) →
-        (is : IsScheduled start bounds xs output end) →
-        (can_step is.last.state ≡ false) ⊎ ((is.turns ≡ bounds.steps) ⊎ (EPOCH_END_BYTES ≤ length output)) }
-    ensures few { (start : State) (bounds : Bounds) (xs : List Slice) (output : List ℕ) (end : State) →
-        IsScheduled start bounds xs output end → steps_of xs ≤ bounds.steps }
-    ensures writes { (start : State) (bounds : Bounds) (xs : List Slice) (output : List ℕ) (end : State) →
-        IsScheduled start bounds xs output end → length output < EPOCH_END_BYTES + MAX_CALL_BYTES }
+    ensures stops { (start : State) (w : Supplied) (bounds : Bounds) (e : Epoch) (output : List ℕ) (end : State) →
+        (is : IsScheduled start w bounds e output end) →
+        (can_step is.last.state w ≡ false) ⊎ ((is.turns ≡ bounds.steps)
+        ⊎ ((EPOCH_END_BYTES ≤ length output) ⊎ (EPOCH_END_BYTES ≤ length (bytes_read e.answers)))) }
+    ensures few { (start : State) (w : Supplied) (bounds : Bounds) (e : Epoch) (output : List ℕ) (end : State) →
+        IsScheduled start w bounds e output end → steps_of e.slices ≤ bounds.steps }
+    ensures writes { (start : State) (w : Supplied) (bounds : Bounds) (e : Epoch) (output : List ℕ) (end : State) →
+        IsScheduled start w bounds e output end → length output < EPOCH_END_BYTES + MAX_CALL_BYTES }
+    ensures reads { (start : State) (w : Supplied) (bounds : Bounds) (e : Epoch) (output : List ℕ) (end : State) →
+        IsScheduled start w bounds e output end → length (bytes_read e.answers) < EPOCH_END_BYTES + MAX_CALL_BYTES }
 {
     guest_kernel::laws::a_turn_is_of_a_thread_that_runs();
-    guest_kernel::laws::a_thread_that_runs_has_a_turn();
+    guest_kernel::laws::a_turn_goes_by_its_peek();
     guest_kernel::laws::a_turn_is_one_step();
+    guest_kernel::laws::the_place_grows_by_what_is_read();
     guest_kernel::laws::a_turn_reads_and_writes_little();
+    guest_kernel::laws::a_longer_log_serves();
     guest_kernel::laws::turns_count_on();
     guest_kernel::laws::a_slice_more();
+    turn_peek::laws::a_reservation_asks_for_nothing();
+}
+
+/// The answers that an epoch takes are the supply's: its reads take the bytes of the window from the state's place on, one after
+/// another; one that takes none is at the end of the input; and each reading of the clock is the stamp.
+pub fn an_epoch_is_supplied()
+    ensures { (start : State) (w : Supplied) (bounds : Bounds) (e : Epoch) (output : List ℕ) (end : State) →
+        IsScheduled start w bounds e output end → w.place ≤ start.input → start.input ≤ end_of w →
+        IsSuppliedBy w start.input end.input e.answers }
+{
+    guest_kernel::laws::a_turn_is_of_a_thread_that_runs();
+    guest_kernel::laws::a_turn_goes_by_its_peek();
+    guest_kernel::laws::a_turn_is_one_step();
+    guest_kernel::laws::the_place_grows_by_what_is_read();
+    turn_peek::laws::a_reservation_asks_for_nothing();
+    turn_peek::laws::a_read_starts_where_the_input_is();
+}
+
+/// While a thread of a guest runs, it can step or waits for input. Where input is due, the supply has no more of it and hasn't seen
+/// its end, and once it is refilled the guest can step.
+pub fn a_supply_lets_a_guest_step()
+    ensures ready { (s : State) (w : Supplied) → has_ended s.end ≡ false → list_any is_running s.threads ≡ true →
+        input_due s w ≡ false → can_step s w ≡ true }
+    ensures used_up { (s : State) (w : Supplied) → IsSupply w → w.place ≤ s.input → s.input ≤ end_of w →
+        input_due s w ≡ true → (s.input ≡ end_of w) × (w.ended ≡ false) }
+    ensures refilled { (s : State) (w : Supplied) (bytes : List ℕ) (stamp : ℕ) → w.place ≤ s.input → s.input ≤ end_of w →
+        input_due s w ≡ true → can_step s (record (refilled bytes w) { stamp = stamp }) ≡ true }
+    ensures stamped { (s : State) (w : Supplied) (stamp : ℕ) → can_step s (record w { stamp = stamp }) ≡ can_step s w }
+{
+    turn_peek::laws::a_read_starts_where_the_input_is();
 }

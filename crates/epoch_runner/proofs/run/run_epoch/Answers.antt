@@ -1,129 +1,210 @@
 use Rattle.std.proofs.Common.{◌≡◌, ◌+◌, ◌-◌, ◌++◌, ◌<◌, ◌^◌, ℕ, List, [], ◌∷◌, Option, Some, None, length, not, refl, sym, ap, ◌∙◌, subst, arith}
-use Rattle.dp_base.specs.declared.answer.Answer.{Answer}
 use Rattle.dp_base.specs.declared.slice.Slice.{Slice}
 use Rattle.dp_base.specs.declared.tid.Tid.{Tid}
 use Rattle.guest_kernel.specs.declared.state.State.{State}
+use Rattle.guest_kernel.specs.Answers.{bytes_read}
 use Rattle.epoch_runner.specs.Running.{IsRunOf}
 use Rattle.epoch_runner.specs.Schedule.{IsScheduled, begins_with}
-use Rattle.epoch_runner.specs.SliceRun.{next_slice}
-use Rattle.epoch_runner.proofs.Epochs.{EpochSoFar, idle, is_scheduled, opens, run_of, slice_more, starts}
+use Rattle.epoch_runner.specs.SliceRun.{Traced, next_slice}
+use Rattle.epoch_runner.specs.Trace.{traced}
+use Rattle.epoch_runner.proofs.Epochs.{EpochSoFar, idle, is_scheduled, opens, run_of, slice_more, starts, untraced}
 use Rattle.epoch_runner.proofs.Kernel.{RunLaws, TurnLaws}
 use Rattle.epoch_runner.proofs.run.run_epoch.Goals as goal
 
 pub returns-then-is_none : goal.returns-then-is_none
-returns-then-is_none c = idle c.args.start c.args.bounds c.next_thread-next.result (c.is_none.ensures ∙ ap not c.if-is_none.true) c.next_thread-next.ensures
+returns-then-is_none c = idle c.args.start c.args.supply.now c.args.bounds c.next_thread-next.result (c.is_none.ensures ∙ ap not c.if-is_none.true) c.next_thread-next.ensures
 
 pub slices-init : goal.slices-init
 slices-init c =
+    let w = c.args.supply.now in
     let next = c.next_thread-next.result in
-    subst (λ (xs : List Slice). EpochSoFar c.args.start c.args.bounds xs c.args.bounds.steps c.in_ok-state.state c.new-out.result.items next) (sym c.new-slices.ensures)
-    (subst (λ (o : List ℕ). EpochSoFar c.args.start c.args.bounds [] c.args.bounds.steps c.in_ok-state.state o next) (sym c.new-out.ensures.items)
-    (subst (λ (s : State). EpochSoFar c.args.start c.args.bounds [] c.args.bounds.steps s [] next) (sym c.in_ok-state.ensures)
-    (starts c.args.start c.args.bounds next (c.is_none.ensures ∙ ap not c.if-is_none.false) c.next_thread-next.ensures)))
+    subst (λ (xs : List Slice). EpochSoFar c.args.start w c.args.bounds xs c.args.bounds.steps c.in_ok-state.state (traced c.new-trace.result) next) (sym c.new-slices.ensures)
+    (subst (λ (t : Traced). EpochSoFar c.args.start w c.args.bounds [] c.args.bounds.steps c.in_ok-state.state t next) (sym c.new-trace.ensures)
+    (subst (λ (s : State). EpochSoFar c.args.start w c.args.bounds [] c.args.bounds.steps s untraced next) (sym c.in_ok-state.ensures)
+    (starts c.args.start w c.args.bounds next (c.is_none.ensures ∙ ap not c.if-is_none.false) c.next_thread-next.ensures)))
 
 pub run_slice-requires-clause-alive : goal.run_slice-requires-clause-alive
 run_slice-requires-clause-alive c =
     let turn_laws : TurnLaws = record {
       going = c.a_turn_is_of_a_thread_that_runs.ensures.going;
       runs = c.a_turn_is_of_a_thread_that_runs.ensures.runs;
-      some = c.a_turn_is_of_a_thread_that_runs.ensures.some;
-      has_turn = c.a_thread_that_runs_has_a_turn.ensures;
+      rest = c.a_turn_goes_by_its_peek.ensures.rest;
+      has_turn = c.a_turn_goes_by_its_peek.ensures.turn;
+      has_peek = c.a_turn_goes_by_its_peek.ensures.runs;
       counts = c.a_turn_is_one_step.ensures.counts;
+      place = c.the_place_grows_by_what_is_read.ensures.turn;
     } in
-    let run_laws : RunLaws = record { writes = c.a_turn_reads_and_writes_little.ensures.writes; more = c.turns_count_on.ensures; slice_more = c.a_slice_more.ensures } in
+    let run_laws : RunLaws = record {
+      reads = c.a_turn_reads_and_writes_little.ensures.reads;
+      writes = c.a_turn_reads_and_writes_little.ensures.writes;
+      longer = c.a_longer_log_serves.ensures.turns;
+      more = c.turns_count_on.ensures;
+      slice_more = c.a_slice_more.ensures;
+    } in
     let l = c.slices in
-    let so_far : EpochSoFar c.args.start c.args.bounds l.slices l.left l.state l.out.items (Some c.in-Some.tid) =
-    subst (λ (o : Option Tid). EpochSoFar c.args.start c.args.bounds l.slices l.left l.state l.out.items o) c.in-Some.is l.invariant in
-    (opens turn_laws run_laws c.args.start c.args.bounds l.slices l.left l.state l.out.items c.in-Some.tid so_far).alive
+    let w = c.args.supply.now in
+    let so_far : EpochSoFar c.args.start w c.args.bounds l.slices l.left l.state (traced l.trace) (Some c.in-Some.tid) =
+    subst (λ (o : Option Tid). EpochSoFar c.args.start w c.args.bounds l.slices l.left l.state (traced l.trace) o) c.in-Some.is l.invariant in
+    (opens turn_laws run_laws c.a_reservation_asks_for_nothing.ensures c.args.start w c.args.bounds l.slices l.left l.state (traced l.trace) c.in-Some.tid so_far).is_open.alive
 
-pub run_slice-requires-clause-runs : goal.run_slice-requires-clause-runs
-run_slice-requires-clause-runs c =
+pub run_slice-requires-clause-ready : goal.run_slice-requires-clause-ready
+run_slice-requires-clause-ready c =
     let turn_laws : TurnLaws = record {
       going = c.a_turn_is_of_a_thread_that_runs.ensures.going;
       runs = c.a_turn_is_of_a_thread_that_runs.ensures.runs;
-      some = c.a_turn_is_of_a_thread_that_runs.ensures.some;
-      has_turn = c.a_thread_that_runs_has_a_turn.ensures;
+      rest = c.a_turn_goes_by_its_peek.ensures.rest;
+      has_turn = c.a_turn_goes_by_its_peek.ensures.turn;
+      has_peek = c.a_turn_goes_by_its_peek.ensures.runs;
       counts = c.a_turn_is_one_step.ensures.counts;
+      place = c.the_place_grows_by_what_is_read.ensures.turn;
     } in
-    let run_laws : RunLaws = record { writes = c.a_turn_reads_and_writes_little.ensures.writes; more = c.turns_count_on.ensures; slice_more = c.a_slice_more.ensures } in
+    let run_laws : RunLaws = record {
+      reads = c.a_turn_reads_and_writes_little.ensures.reads;
+      writes = c.a_turn_reads_and_writes_little.ensures.writes;
+      longer = c.a_longer_log_serves.ensures.turns;
+      more = c.turns_count_on.ensures;
+      slice_more = c.a_slice_more.ensures;
+    } in
     let l = c.slices in
-    let so_far : EpochSoFar c.args.start c.args.bounds l.slices l.left l.state l.out.items (Some c.in-Some.tid) =
-    subst (λ (o : Option Tid). EpochSoFar c.args.start c.args.bounds l.slices l.left l.state l.out.items o) c.in-Some.is l.invariant in
-    (opens turn_laws run_laws c.args.start c.args.bounds l.slices l.left l.state l.out.items c.in-Some.tid so_far).runs
+    let w = c.args.supply.now in
+    let so_far : EpochSoFar c.args.start w c.args.bounds l.slices l.left l.state (traced l.trace) (Some c.in-Some.tid) =
+    subst (λ (o : Option Tid). EpochSoFar c.args.start w c.args.bounds l.slices l.left l.state (traced l.trace) o) c.in-Some.is l.invariant in
+    (opens turn_laws run_laws c.a_reservation_asks_for_nothing.ensures c.args.start w c.args.bounds l.slices l.left l.state (traced l.trace) c.in-Some.tid so_far).is_open.ready
 
 pub run_slice-requires-clause-little : goal.run_slice-requires-clause-little
 run_slice-requires-clause-little c =
     let turn_laws : TurnLaws = record {
       going = c.a_turn_is_of_a_thread_that_runs.ensures.going;
       runs = c.a_turn_is_of_a_thread_that_runs.ensures.runs;
-      some = c.a_turn_is_of_a_thread_that_runs.ensures.some;
-      has_turn = c.a_thread_that_runs_has_a_turn.ensures;
+      rest = c.a_turn_goes_by_its_peek.ensures.rest;
+      has_turn = c.a_turn_goes_by_its_peek.ensures.turn;
+      has_peek = c.a_turn_goes_by_its_peek.ensures.runs;
       counts = c.a_turn_is_one_step.ensures.counts;
+      place = c.the_place_grows_by_what_is_read.ensures.turn;
     } in
-    let run_laws : RunLaws = record { writes = c.a_turn_reads_and_writes_little.ensures.writes; more = c.turns_count_on.ensures; slice_more = c.a_slice_more.ensures } in
+    let run_laws : RunLaws = record {
+      reads = c.a_turn_reads_and_writes_little.ensures.reads;
+      writes = c.a_turn_reads_and_writes_little.ensures.writes;
+      longer = c.a_longer_log_serves.ensures.turns;
+      more = c.turns_count_on.ensures;
+      slice_more = c.a_slice_more.ensures;
+    } in
     let l = c.slices in
-    let so_far : EpochSoFar c.args.start c.args.bounds l.slices l.left l.state l.out.items (Some c.in-Some.tid) =
-    subst (λ (o : Option Tid). EpochSoFar c.args.start c.args.bounds l.slices l.left l.state l.out.items o) c.in-Some.is l.invariant in
-    (opens turn_laws run_laws c.args.start c.args.bounds l.slices l.left l.state l.out.items c.in-Some.tid so_far).little
+    let w = c.args.supply.now in
+    let so_far : EpochSoFar c.args.start w c.args.bounds l.slices l.left l.state (traced l.trace) (Some c.in-Some.tid) =
+    subst (λ (o : Option Tid). EpochSoFar c.args.start w c.args.bounds l.slices l.left l.state (traced l.trace) o) c.in-Some.is l.invariant in
+    (opens turn_laws run_laws c.a_reservation_asks_for_nothing.ensures c.args.start w c.args.bounds l.slices l.left l.state (traced l.trace) c.in-Some.tid so_far).is_open.little
+
+pub run_slice-requires-clause-little_read : goal.run_slice-requires-clause-little_read
+run_slice-requires-clause-little_read c =
+    let turn_laws : TurnLaws = record {
+      going = c.a_turn_is_of_a_thread_that_runs.ensures.going;
+      runs = c.a_turn_is_of_a_thread_that_runs.ensures.runs;
+      rest = c.a_turn_goes_by_its_peek.ensures.rest;
+      has_turn = c.a_turn_goes_by_its_peek.ensures.turn;
+      has_peek = c.a_turn_goes_by_its_peek.ensures.runs;
+      counts = c.a_turn_is_one_step.ensures.counts;
+      place = c.the_place_grows_by_what_is_read.ensures.turn;
+    } in
+    let run_laws : RunLaws = record {
+      reads = c.a_turn_reads_and_writes_little.ensures.reads;
+      writes = c.a_turn_reads_and_writes_little.ensures.writes;
+      longer = c.a_longer_log_serves.ensures.turns;
+      more = c.turns_count_on.ensures;
+      slice_more = c.a_slice_more.ensures;
+    } in
+    let l = c.slices in
+    let w = c.args.supply.now in
+    let so_far : EpochSoFar c.args.start w c.args.bounds l.slices l.left l.state (traced l.trace) (Some c.in-Some.tid) =
+    subst (λ (o : Option Tid). EpochSoFar c.args.start w c.args.bounds l.slices l.left l.state (traced l.trace) o) c.in-Some.is l.invariant in
+    (opens turn_laws run_laws c.a_reservation_asks_for_nothing.ensures c.args.start w c.args.bounds l.slices l.left l.state (traced l.trace) c.in-Some.tid so_far).is_open.little_read
 
 pub run_slice-requires-clause-some : goal.run_slice-requires-clause-some
 run_slice-requires-clause-some c =
     let turn_laws : TurnLaws = record {
       going = c.a_turn_is_of_a_thread_that_runs.ensures.going;
       runs = c.a_turn_is_of_a_thread_that_runs.ensures.runs;
-      some = c.a_turn_is_of_a_thread_that_runs.ensures.some;
-      has_turn = c.a_thread_that_runs_has_a_turn.ensures;
+      rest = c.a_turn_goes_by_its_peek.ensures.rest;
+      has_turn = c.a_turn_goes_by_its_peek.ensures.turn;
+      has_peek = c.a_turn_goes_by_its_peek.ensures.runs;
       counts = c.a_turn_is_one_step.ensures.counts;
+      place = c.the_place_grows_by_what_is_read.ensures.turn;
     } in
-    let run_laws : RunLaws = record { writes = c.a_turn_reads_and_writes_little.ensures.writes; more = c.turns_count_on.ensures; slice_more = c.a_slice_more.ensures } in
+    let run_laws : RunLaws = record {
+      reads = c.a_turn_reads_and_writes_little.ensures.reads;
+      writes = c.a_turn_reads_and_writes_little.ensures.writes;
+      longer = c.a_longer_log_serves.ensures.turns;
+      more = c.turns_count_on.ensures;
+      slice_more = c.a_slice_more.ensures;
+    } in
     let l = c.slices in
-    let so_far : EpochSoFar c.args.start c.args.bounds l.slices l.left l.state l.out.items (Some c.in-Some.tid) =
-    subst (λ (o : Option Tid). EpochSoFar c.args.start c.args.bounds l.slices l.left l.state l.out.items o) c.in-Some.is l.invariant in
-    (opens turn_laws run_laws c.args.start c.args.bounds l.slices l.left l.state l.out.items c.in-Some.tid so_far).some
+    let w = c.args.supply.now in
+    let so_far : EpochSoFar c.args.start w c.args.bounds l.slices l.left l.state (traced l.trace) (Some c.in-Some.tid) =
+    subst (λ (o : Option Tid). EpochSoFar c.args.start w c.args.bounds l.slices l.left l.state (traced l.trace) o) c.in-Some.is l.invariant in
+    (opens turn_laws run_laws c.a_reservation_asks_for_nothing.ensures c.args.start w c.args.bounds l.slices l.left l.state (traced l.trace) c.in-Some.tid so_far).some
 
 pub slices-preserved : goal.slices-preserved
 slices-preserved c =
     let turn_laws : TurnLaws = record {
       going = c.a_turn_is_of_a_thread_that_runs.ensures.going;
       runs = c.a_turn_is_of_a_thread_that_runs.ensures.runs;
-      some = c.a_turn_is_of_a_thread_that_runs.ensures.some;
-      has_turn = c.a_thread_that_runs_has_a_turn.ensures;
+      rest = c.a_turn_goes_by_its_peek.ensures.rest;
+      has_turn = c.a_turn_goes_by_its_peek.ensures.turn;
+      has_peek = c.a_turn_goes_by_its_peek.ensures.runs;
       counts = c.a_turn_is_one_step.ensures.counts;
+      place = c.the_place_grows_by_what_is_read.ensures.turn;
     } in
-    let run_laws : RunLaws = record { writes = c.a_turn_reads_and_writes_little.ensures.writes; more = c.turns_count_on.ensures; slice_more = c.a_slice_more.ensures } in
+    let run_laws : RunLaws = record {
+      reads = c.a_turn_reads_and_writes_little.ensures.reads;
+      writes = c.a_turn_reads_and_writes_little.ensures.writes;
+      longer = c.a_longer_log_serves.ensures.turns;
+      more = c.turns_count_on.ensures;
+      slice_more = c.a_slice_more.ensures;
+    } in
     let l = c.slices in
-    let so_far : EpochSoFar c.args.start c.args.bounds l.slices l.left l.state l.out.items (Some c.in-Some.tid) =
-    subst (λ (o : Option Tid). EpochSoFar c.args.start c.args.bounds l.slices l.left l.state l.out.items o) c.in-Some.is l.invariant in
+    let w = c.args.supply.now in
+    let so_far : EpochSoFar c.args.start w c.args.bounds l.slices l.left l.state (traced l.trace) (Some c.in-Some.tid) =
+    subst (λ (o : Option Tid). EpochSoFar c.args.start w c.args.bounds l.slices l.left l.state (traced l.trace) o) c.in-Some.is l.invariant in
     let tid = c.in-Some.tid in
     let steps = c.in_ok-steps.steps in
     let after = c.run_slice.new.state in
-    let out = c.run_slice.new.out.items in
+    let behind = traced c.run_slice.new.trace in
     let next = c.next_thread-next-in-Some.result in
-    let size : c.len.result ≡ length out = omega (arith, c.len.ensures) in
-    let next_is : begins_with next ≡ next_slice after (length out) (l.left - steps) (tid.0 + 1) =
-    c.next_thread-next-in-Some.ensures ∙ ap (λ n. next_slice after n (l.left - steps) (tid.0 + 1)) size in
+    let size : c.len.result ≡ length behind.output = omega (arith, c.len.ensures) in
+    let next_is : begins_with next ≡ next_slice after w (length behind.output) (length (bytes_read behind.answers)) (l.left - steps) (tid.0 + 1) =
+    c.next_thread-next-in-Some.ensures ∙ ap (λ n. next_slice after w n c.run_slice.new.trace.read (l.left - steps) (tid.0 + 1)) size
+    ∙ ap (λ n. next_slice after w (length behind.output) n (l.left - steps) (tid.0 + 1)) c.run_slice.new.trace.counted in
     let numbered : tid.0 < 2 ^ 16 = omega arith in
-    let more = slice_more turn_laws run_laws c.args.start c.args.bounds l.slices l.left l.state l.out.items tid steps after out next so_far c.in_ok-steps.ensures next_is numbered in
-    subst (λ (xs : List Slice). EpochSoFar c.args.start c.args.bounds xs (l.left - steps) c.end_slice.new.self out next) (sym c.in_ok-put.ensures.ok)
-    (subst (λ (s : State). EpochSoFar c.args.start c.args.bounds (l.slices ++ record { tid = tid; steps = steps } ∷ []) (l.left - steps) s out next) (sym c.end_slice.ensures) more)
+    let more = slice_more turn_laws run_laws c.a_reservation_asks_for_nothing.ensures c.args.start w c.args.bounds l.slices l.left l.state (traced l.trace) tid steps after behind next
+    so_far c.in_ok-steps.ensures.run c.in_ok-steps.ensures.place next_is numbered in
+    subst (λ (xs : List Slice). EpochSoFar c.args.start w c.args.bounds xs (l.left - steps) c.end_slice.new.self behind next) (sym c.in_ok-put.ensures.ok)
+    (subst (λ (s : State). EpochSoFar c.args.start w c.args.bounds (l.slices ++ record { tid = tid; steps = steps } ∷ []) (l.left - steps) s behind next) (sym c.end_slice.ensures) more)
 
 pub invariant_of-result : goal.invariant_of-result
 invariant_of-result c =
     let turn_laws : TurnLaws = record {
       going = c.a_turn_is_of_a_thread_that_runs.ensures.going;
       runs = c.a_turn_is_of_a_thread_that_runs.ensures.runs;
-      some = c.a_turn_is_of_a_thread_that_runs.ensures.some;
-      has_turn = c.a_thread_that_runs_has_a_turn.ensures;
+      rest = c.a_turn_goes_by_its_peek.ensures.rest;
+      has_turn = c.a_turn_goes_by_its_peek.ensures.turn;
+      has_peek = c.a_turn_goes_by_its_peek.ensures.runs;
       counts = c.a_turn_is_one_step.ensures.counts;
+      place = c.the_place_grows_by_what_is_read.ensures.turn;
     } in
-    let run_laws : RunLaws = record { writes = c.a_turn_reads_and_writes_little.ensures.writes; more = c.turns_count_on.ensures; slice_more = c.a_slice_more.ensures } in
+    let run_laws : RunLaws = record {
+      reads = c.a_turn_reads_and_writes_little.ensures.reads;
+      writes = c.a_turn_reads_and_writes_little.ensures.writes;
+      longer = c.a_longer_log_serves.ensures.turns;
+      more = c.turns_count_on.ensures;
+      slice_more = c.a_slice_more.ensures;
+    } in
     let l = c.slices in
-    let so_far : EpochSoFar c.args.start c.args.bounds l.slices l.left l.state l.out.items None =
-    subst (λ (o : Option Tid). EpochSoFar c.args.start c.args.bounds l.slices l.left l.state l.out.items o) c.in_default.is l.invariant in
-    let runs : IsRunOf c.args.start (record { slices = l.slices; answers = c.new.result }) c.from_vec.result l.state =
-    subst (λ (o : List ℕ). IsRunOf c.args.start (record { slices = l.slices; answers = c.new.result }) o l.state) (sym c.from_vec.ensures)
-    (subst (λ (a : List Answer). IsRunOf c.args.start (record { slices = l.slices; answers = a }) l.out.items l.state) (sym c.new.ensures)
-    (run_of turn_laws run_laws c.args.start c.args.bounds l.slices l.left l.state l.out.items c.lengths.ensures.epoch c.epochs_fit_records.ensures so_far)) in
+    let w = c.args.supply.now in
+    let so_far : EpochSoFar c.args.start w c.args.bounds l.slices l.left l.state (traced l.trace) None =
+    subst (λ (o : Option Tid). EpochSoFar c.args.start w c.args.bounds l.slices l.left l.state (traced l.trace) o) c.in_default.is l.invariant in
+    let runs : IsRunOf c.args.start (record { slices = l.slices; answers = l.trace.answers }) c.from_vec.result l.state =
+    subst (λ (o : List ℕ). IsRunOf c.args.start (record { slices = l.slices; answers = l.trace.answers }) o l.state) (sym c.from_vec.ensures)
+    (run_of turn_laws run_laws c.a_reservation_asks_for_nothing.ensures c.args.start w c.args.bounds l.slices l.left l.state (traced l.trace) c.lengths.ensures.epoch c.epochs_fit_records.ensures so_far) in
     record { runs = ∣ runs.ran ∣₁; is_epoch = ∣ runs.is_epoch ∣₁; fits = ∣ runs.fits ∣₁ }
 
 pub returns : goal.returns
@@ -131,23 +212,31 @@ returns c =
     let turn_laws : TurnLaws = record {
       going = c.a_turn_is_of_a_thread_that_runs.ensures.going;
       runs = c.a_turn_is_of_a_thread_that_runs.ensures.runs;
-      some = c.a_turn_is_of_a_thread_that_runs.ensures.some;
-      has_turn = c.a_thread_that_runs_has_a_turn.ensures;
+      rest = c.a_turn_goes_by_its_peek.ensures.rest;
+      has_turn = c.a_turn_goes_by_its_peek.ensures.turn;
+      has_peek = c.a_turn_goes_by_its_peek.ensures.runs;
       counts = c.a_turn_is_one_step.ensures.counts;
+      place = c.the_place_grows_by_what_is_read.ensures.turn;
     } in
-    let run_laws : RunLaws = record { writes = c.a_turn_reads_and_writes_little.ensures.writes; more = c.turns_count_on.ensures; slice_more = c.a_slice_more.ensures } in
+    let run_laws : RunLaws = record {
+      reads = c.a_turn_reads_and_writes_little.ensures.reads;
+      writes = c.a_turn_reads_and_writes_little.ensures.writes;
+      longer = c.a_longer_log_serves.ensures.turns;
+      more = c.turns_count_on.ensures;
+      slice_more = c.a_slice_more.ensures;
+    } in
     let l = c.slices in
-    let so_far : EpochSoFar c.args.start c.args.bounds l.slices l.left l.state l.out.items None =
-    subst (λ (o : Option Tid). EpochSoFar c.args.start c.args.bounds l.slices l.left l.state l.out.items o) c.in_default.is l.invariant in
-    let runs : IsRunOf c.args.start (record { slices = l.slices; answers = c.new.result }) c.from_vec.result l.state =
-    subst (λ (o : List ℕ). IsRunOf c.args.start (record { slices = l.slices; answers = c.new.result }) o l.state) (sym c.from_vec.ensures)
-    (subst (λ (a : List Answer). IsRunOf c.args.start (record { slices = l.slices; answers = a }) l.out.items l.state) (sym c.new.ensures)
-    (run_of turn_laws run_laws c.args.start c.args.bounds l.slices l.left l.state l.out.items c.lengths.ensures.epoch c.epochs_fit_records.ensures so_far)) in
+    let w = c.args.supply.now in
+    let so_far : EpochSoFar c.args.start w c.args.bounds l.slices l.left l.state (traced l.trace) None =
+    subst (λ (o : Option Tid). EpochSoFar c.args.start w c.args.bounds l.slices l.left l.state (traced l.trace) o) c.in_default.is l.invariant in
+    let runs : IsRunOf c.args.start (record { slices = l.slices; answers = l.trace.answers }) c.from_vec.result l.state =
+    subst (λ (o : List ℕ). IsRunOf c.args.start (record { slices = l.slices; answers = l.trace.answers }) o l.state) (sym c.from_vec.ensures)
+    (run_of turn_laws run_laws c.a_reservation_asks_for_nothing.ensures c.args.start w c.args.bounds l.slices l.left l.state (traced l.trace) c.lengths.ensures.epoch c.epochs_fit_records.ensures so_far) in
     record {
       from = refl;
       some_steps = so_far.some_steps;
       could_step = so_far.could_step;
-      scheduled = subst (λ (o : List ℕ). IsScheduled c.args.start c.args.bounds l.slices o l.state) (sym c.from_vec.ensures) (is_scheduled turn_laws run_laws c.args.start c.args.bounds l.slices l.left l.state l.out.items so_far);
-      no_answers = c.new.ensures;
+      scheduled = subst (λ (o : List ℕ). IsScheduled c.args.start w c.args.bounds (record { slices = l.slices; answers = l.trace.answers }) o l.state) (sym c.from_vec.ensures)
+          (is_scheduled turn_laws run_laws c.a_reservation_asks_for_nothing.ensures c.args.start w c.args.bounds l.slices l.left l.state (traced l.trace) so_far);
       runs = runs;
     }

@@ -1,47 +1,51 @@
-use Rattle.std.proofs.Common.{◌≡◌, ◌<◌, inl, inr, false, not, ◌&&◌, length, sym, ap, ◌∙◌, subst, arith}
-use Rattle.std.specs.Prelude.{nat_lt}
-use Rattle.dp_base.specs.declared.limits.TheConstants.{EPOCH_END_BYTES}
-use Rattle.guest_kernel.specs.State.{has_ended}
-use Rattle.guest_kernel.specs.Threads.{runs_at}
-use Rattle.epoch_runner.proofs.Slicing.{SliceSoFar, lesser, more_steps, no_step, slice_over}
+use Rattle.std.proofs.Common.{◌<◌, inl, inr, false, sym, ◌∙◌, subst, arith}
+use Rattle.epoch_runner.specs.Trace.{traced}
+use Rattle.epoch_runner.proofs.Slicing.{IsOpen, SliceSoFar, lesser, more_steps, no_step, slice_over}
 use Rattle.epoch_runner.proofs.slice.run_slice.Goals as goal
 
 pub turns-init : goal.turns-init
-turns-init c = no_step c.args.bounds c.args.tid c.args.left c.min-most.result c.args.state.now c.args.out.now.items
+turns-init c = no_step c.args.supply.now c.args.bounds c.args.tid c.args.left c.min-most.result c.args.state.now (traced c.args.trace.now)
 
 pub turns-preserved : goal.turns-preserved
 turns-preserved c =
     let l = c.turns in
+    let w = c.args.supply.now in
     let most = c.min-most.result in
-    let so_far : SliceSoFar c.args.bounds c.args.tid c.args.left most c.args.state.now c.args.out.now.items l.steps false l.state l.out.items =
-    subst (λ y. SliceSoFar c.args.bounds c.args.tid c.args.left most c.args.state.now c.args.out.now.items l.steps y l.state l.out.items) c.if-not-has_yielded.true l.invariant in
-    more_steps c.args.bounds c.args.tid c.args.left most c.args.state.now c.args.out.now.items l.steps l.state l.out.items c.in_ok-moved.moved.steps c.in_ok-moved.moved.yielded c.advance.new.state c.advance.new.out.items
-    (omega (arith, c.min-most.ensures)) (omega (arith, c.min-most.ensures)) c.turns-test.true so_far c.in_ok-moved.ensures
+    let before = traced c.args.trace.now in
+    let so_far : SliceSoFar w c.args.bounds c.args.tid c.args.left most c.args.state.now before l.steps false l.state (traced l.trace) =
+    subst (λ y. SliceSoFar w c.args.bounds c.args.tid c.args.left most c.args.state.now before l.steps y l.state (traced l.trace)) c.if-not-has_yielded.true l.invariant in
+    more_steps w c.args.bounds c.args.tid c.args.left most c.args.state.now before l.steps l.state (traced l.trace) c.in_ok-moved.moved.steps c.in_ok-moved.moved.yielded c.advance.new.state (traced c.advance.new.trace)
+    (omega (arith, c.min-most.ensures)) (omega (arith, c.min-most.ensures)) c.turns-test.true so_far c.in_ok-moved.ensures.moved c.in_ok-moved.ensures.place
 
-pub returns-after-turns : goal.returns-after-turns
-returns-after-turns c =
+pub returns-after-turns-clause-run : goal.returns-after-turns-clause-run
+returns-after-turns-clause-run c =
     let l = c.turns in
+    let w = c.args.supply.now in
     let most = c.min-most.result in
     let some_most : 0 < most = omega (arith, c.min-most.ensures, c.requires.some, c.args.bounds.some_slice) in
-    slice_over c.args.bounds c.args.tid c.args.left most c.args.state.now c.args.out.now.items l.steps l.has_yielded l.state l.out.items
-    some_most (omega (arith, c.min-most.ensures)) (lesser c.args.left c.args.bounds.slice most c.min-most.ensures) c.requires.alive c.requires.runs c.requires.little l.invariant
+    let opened : IsOpen c.args.state.now w c.args.tid (traced c.args.trace.now) = record { alive = c.requires.alive; ready = c.requires.ready; little = c.requires.little; little_read = c.requires.little_read } in
+    slice_over w c.args.bounds c.args.tid c.args.left most c.args.state.now (traced c.args.trace.now) l.steps l.has_yielded l.state (traced l.trace)
+    some_most (omega (arith, c.min-most.ensures)) (lesser c.args.left c.args.bounds.slice most c.min-most.ensures) opened l.invariant
     (inl c.turns-test.false)
 
-pub returns-else-not-has_yielded : goal.returns-else-not-has_yielded
-returns-else-not-has_yielded c =
+pub returns-else-not-has_yielded-clause-run : goal.returns-else-not-has_yielded-clause-run
+returns-else-not-has_yielded-clause-run c =
     let l = c.turns in
+    let w = c.args.supply.now in
     let most = c.min-most.result in
     let some_most : 0 < most = omega (arith, c.min-most.ensures, c.requires.some, c.args.bounds.some_slice) in
-    slice_over c.args.bounds c.args.tid c.args.left most c.args.state.now c.args.out.now.items l.steps l.has_yielded l.state l.out.items
-    some_most (omega (arith, c.min-most.ensures)) (lesser c.args.left c.args.bounds.slice most c.min-most.ensures) c.requires.alive c.requires.runs c.requires.little l.invariant
+    let opened : IsOpen c.args.state.now w c.args.tid (traced c.args.trace.now) = record { alive = c.requires.alive; ready = c.requires.ready; little = c.requires.little; little_read = c.requires.little_read } in
+    slice_over w c.args.bounds c.args.tid c.args.left most c.args.state.now (traced c.args.trace.now) l.steps l.has_yielded l.state (traced l.trace)
+    some_most (omega (arith, c.min-most.ensures)) (lesser c.args.left c.args.bounds.slice most c.min-most.ensures) opened l.invariant
     (inr (inl c.if-not-has_yielded.false))
 
-pub returns-else-goes_on : goal.returns-else-goes_on
-returns-else-goes_on c =
+pub returns-else-goes_on-clause-run : goal.returns-else-goes_on-clause-run
+returns-else-goes_on-clause-run c =
     let l = c.turns in
+    let w = c.args.supply.now in
     let most = c.min-most.result in
     let some_most : 0 < most = omega (arith, c.min-most.ensures, c.requires.some, c.args.bounds.some_slice) in
-    let size : c.len.result ≡ length l.out.items = omega (arith, c.len.ensures) in
-    slice_over c.args.bounds c.args.tid c.args.left most c.args.state.now c.args.out.now.items l.steps l.has_yielded l.state l.out.items
-    some_most (omega (arith, c.min-most.ensures)) (lesser c.args.left c.args.bounds.slice most c.min-most.ensures) c.requires.alive c.requires.runs c.requires.little l.invariant
-    (inr (inr (ap (λ n. not (has_ended l.state.end) && runs_at l.state.threads c.args.tid && nat_lt n EPOCH_END_BYTES) (sym size) ∙ sym c.goes_on.ensures ∙ c.if-goes_on.false)))
+    let opened : IsOpen c.args.state.now w c.args.tid (traced c.args.trace.now) = record { alive = c.requires.alive; ready = c.requires.ready; little = c.requires.little; little_read = c.requires.little_read } in
+    slice_over w c.args.bounds c.args.tid c.args.left most c.args.state.now (traced c.args.trace.now) l.steps l.has_yielded l.state (traced l.trace)
+    some_most (omega (arith, c.min-most.ensures)) (lesser c.args.left c.args.bounds.slice most c.min-most.ensures) opened l.invariant
+    (inr (inr (sym c.goes_on.ensures ∙ c.if-goes_on.false)))

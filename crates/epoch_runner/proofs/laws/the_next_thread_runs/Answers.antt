@@ -1,7 +1,0 @@
-use Rattle.epoch_runner.proofs.Nexts.{last_next, turn_next}
-use Rattle.epoch_runner.proofs.laws.the_next_thread_runs.Goals as goal
-
-pub returns : goal.returns
-returns c = λ s bounds p tid begins is.
-    let there = turn_next s bounds p tid begins is in
-    (there.0.alive, (last_next s bounds p p.last tid begins there.1).0)
