@@ -1,3 +1,5 @@
 mod Commits
+pub mod Drawings
 pub mod Rounds
 mod Alike
+mod InputReads

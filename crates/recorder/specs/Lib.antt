@@ -1,3 +1,4 @@
 pub mod Committing
 pub mod Faults
+pub mod Drawing
 pub mod Recording

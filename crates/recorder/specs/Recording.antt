@@ -1,9 +1,12 @@
--- What a recording comes to: a run of the guest, cut into epochs, which is in the journal and was sent. This project's own.
+-- What a recording comes to: a run of the guest in rounds, each of which draws from the input and runs an epoch, which is in the
+-- journal and was sent. This project's own.
 use Rattle.std.specs.Prelude.{◌≡◌, ◌⊎◌, ◌<◌, ◌≤◌, ◌+◌, ◌-◌, min, ℕ, true, false, List, [], ◌∷◌, ◌++◌, length, map, take, Option, Result, Ok, Err, ⊤}
 use Rattle.dp_base.specs.Encoding.{IsPrefixOf}
+use Rattle.dp_base.specs.declared.answer.Answer.{Answer}
 use Rattle.dp_base.specs.declared.slice.Slice.{Slice}
 use Rattle.dp_base.specs.Journal.{Epoch, IsBody, IsEpoch, epoch_body, frame}
 use Rattle.disk_model.specs.History.{History}
+use Rattle.disk_model.specs.Input.{IfInput, Input}
 use Rattle.disk_model.specs.Known.{IfKnown}
 use Rattle.guest_kernel.specs.declared.state.State.{State}
 use Rattle.guest_kernel.specs.Slices.{at, run, chain}
@@ -14,7 +17,11 @@ use Rattle.dp_report.specs.Texts.{report_line}
 use Rattle.recorder.specs.declared.record_fault.RecordFault.{RecordFault}
 use Rattle.recorder.specs.declared.record_fault.RecordFault.TheVariants as faults
 use Rattle.epoch_runner.specs.declared.bounds.Bounds.{Bounds}
+use Rattle.epoch_runner.specs.Answering.{input_due}
 use Rattle.epoch_runner.specs.Schedule.{IsScheduled}
+use Rattle.supply.specs.Supplied.{Supplied, empty}
+use Rattle.supply.specs.declared.TheConstants.{MAX_ROOM}
+use Rattle.recorder.specs.Drawing.{Draw, HasDrawn, Round, answers_of, draws_of, epochs_of, supply_behind, supply_of}
 use Rattle.checkpoint.specs.State.{digest_of}
 use Rattle.epoch_journal.specs.Standing.{Stands}
 use Rattle.journal_text.specs.Reading.{journal_of}
@@ -36,33 +43,50 @@ abbrev pub first_after : ℕ → List Epoch → ℕ
 first_after first [] = first
 first_after first (e ∷ epochs) = first_after (first_behind first e.slices) epochs
 
--- An epoch from this state to that one, as the schedule runs it within the options' bounds, with the thread that is first. No call
--- takes an answer.
-pub record IsNext (options : Options) (first : ℕ) (s : State) (e : Epoch) (end : State) (output : List ℕ) : Type 0 where
+-- An epoch from this state to that one, as the schedule runs it with a supply, within the options' bounds, with the thread that is
+-- first.
+pub record IsNext (options : Options) (first : ℕ) (s : State) (w : Supplied) (e : Epoch) (end : State) (output : List ℕ) : Type 0 where
   pub bounds : Bounds
   pub steps : bounds.steps ≡ epoch_steps options s
   pub slice : bounds.slice ≡ options.slice
   pub first_is : bounds.first ≡ first
-  pub scheduled : IsScheduled s bounds e.slices output end
-  pub answers : e.answers ≡ []
+  pub scheduled : IsScheduled s w bounds e output end
   pub ran : run e.slices (at s [] e.answers) ≡ Ok (at end output [])
   pub is_epoch : IsEpoch e
   pub fits : IsBody (epoch_body e)
 
--- each of them from the end of the one before
-abbrev pub EachIsNext : Options → ℕ → State → List Epoch → Type 0
-EachIsNext options first s [] = ⊤
-EachIsNext options first s (e ∷ epochs) =
-    (end : State) × (output : List ℕ) × IsNext options first s e end output × EachIsNext options (first_behind first e.slices) end epochs
+-- Each round from the end of the one before: it takes input exactly where some is due, and its epoch is the one that is next with
+-- what it has drawn.
+abbrev pub EachIsNext : Options → ℕ → State → Supplied → List Round → Type 0
+EachIsNext options first s w [] = ⊤
+EachIsNext options first s w (r ∷ rounds) = (end : State) × (output : List ℕ) × (r.draw.due ≡ input_due s w)
+    × IsNext options first s (supply_of w r.draw) r.epoch end output × EachIsNext options (first_behind first r.epoch.slices) end (supply_of w r.draw) rounds
 
 -- a run of a guest from a state
 pub record Run (options : Options) (start : State) : Type 0 where
-  pub epochs : List Epoch
+  pub rounds : List Round
   pub end : State
   pub output : List ℕ
-  pub chained : chain start epochs ≡ Ok (end, output)
-  pub each : EachIsNext options 1 start epochs
+  pub chained : chain start (epochs_of rounds) ≡ Ok (end, output)
+  pub each : EachIsNext options 1 start (empty MAX_ROOM) rounds
   pub counted : end.steps ≤ options.limit
+
+-- its epochs, what its rounds drew, the answers that they took, and the supply behind them
+abbrev pub epochs : {options : Options} {start : State} → Run options start → List Epoch
+epochs r = epochs_of r.rounds
+
+abbrev pub draws : {options : Options} {start : State} → Run options start → List Draw
+draws r = draws_of r.rounds
+
+abbrev pub answers : {options : Options} {start : State} → Run options start → List Answer
+answers r = answers_of r.rounds
+
+abbrev pub supply : {options : Options} {start : State} → Run options start → Supplied
+supply r = supply_behind (empty MAX_ROOM) (draws r)
+
+-- which thread is first behind it
+abbrev pub first_next : {options : Options} {start : State} → Run options start → ℕ
+first_next r = first_after 1 (epochs r)
 
 -- ---- what is on the disk and was sent
 
@@ -122,33 +146,49 @@ report_of epochs end output =
 
 -- the report of a run, and its line
 abbrev pub reported : {options : Options} {start : State} → Run options start → Report
-reported r = report_of r.epochs r.end r.output
+reported r = report_of (epochs r) r.end r.output
 
--- no room for the header, or for the epoch that is next
-abbrev pub HasNoRoom : (guest : List ℕ) → (start : State) → Options → (end need : ℕ) → Option History → Option History → Type 0
-HasNoRoom guest start options end need before after =
-    ((end ≡ 0) × (need ≡ 10 + length guest) × (options.room < need) × IfKnown IsUntouched before after)
-    ⊎ ((r : Run options start) × (has_ended r.end.end ≡ false) × (r.end.steps < options.limit) × HasRoom guest options r.epochs
-    × (next : Epoch) × (there : State) × (output : List ℕ) × IsNext options (first_after 1 r.epochs) r.end next there output
-    × (end ≡ length (journal_of guest (records_of r.epochs))) × (need ≡ length (frame (epoch_body next))) × (options.room < end + need)
-    × IfKnown (IsRecorded guest r.epochs r.output) before after)
+-- the guest may go on
+abbrev pub GoesOn : (options : Options) → State → Type 0
+GoesOn options s = (has_ended s.end ≡ false) × (s.steps < options.limit)
 
-abbrev pub Recorded : (guest : List ℕ) → (start : State) → Options → Option History → Option History → Result Report RecordFault → Type 0
-Recorded guest start options before after (Ok report) =
-    (r : Run options start) × (has_ended r.end.end ≡ true) × (report ≡ reported r) × HasRoom guest options r.epochs
-    × IfKnown (IsReported guest r.epochs r.output (report_line report)) before after
-Recorded guest start options before after (Err (faults.StepLimit n)) =
-    (r : Run options start) × (has_ended r.end.end ≡ false) × (n ≡ r.end.steps) × (n ≡ options.limit) × HasRoom guest options r.epochs
-    × IfKnown (IsRecorded guest r.epochs r.output) before after
-Recorded guest start options before after (Err (faults.JournalFull end need)) = HasNoRoom guest start options end need before after
-Recorded guest start options before after (Err faults.OutOfMemory) =
-    IfKnown IsUntouched before after ⊎ ((r : Run options start) × ((has_ended r.end.end ≡ true) ⊎ ((has_ended r.end.end ≡ false) × (r.end.steps < options.limit)))
-    × HasRoom guest options r.epochs × IfKnown (IsRecorded guest r.epochs r.output) before after)
-Recorded guest start options before after (Err (faults.JournalInUse len)) = (0 < len) × IfKnown (IsInUse len) before after
-Recorded guest start options before after (Err faults.DiskFault) =
-    (r : Run options start) × ((r.epochs ≡ []) ⊎ HasRoom guest options r.epochs) × IfKnown (IsInterrupted guest r.epochs r.output) before after
-Recorded guest start options before after (Err faults.OutputFault) =
-    ((r : Run options start) × (last : Epoch) × (there : State) × (output : List ℕ) × IsNext options (first_after 1 r.epochs) r.end last there output
-    × HasRoom guest options (r.epochs ++ last ∷ []) × IfKnown (IsPartlySent guest r.epochs last r.output output) before after)
-    ⊎ ((r : Run options start) × (has_ended r.end.end ≡ true) × HasRoom guest options r.epochs
-    × IfKnown (IsPartlyReported guest r.epochs r.output (report_line (reported r))) before after)
+-- no room for the header, or for the epoch that is next with what its round has drawn
+abbrev pub HasNoRoom : (guest : List ℕ) → (start : State) → Options → (end need : ℕ) → (i j : Option Input) → (before after : Option History) → Type 0
+HasNoRoom guest start options end need i j before after =
+    ((end ≡ 0) × (need ≡ 10 + length guest) × (options.room < need) × (j ≡ i) × IfKnown IsUntouched before after)
+    ⊎ ((r : Run options start) × GoesOn options r.end × HasRoom guest options (epochs r)
+    × (d : Draw) × (d.due ≡ input_due r.end (supply r)) × (next : Epoch) × (there : State) × (output : List ℕ) × IsNext options (first_next r) r.end (supply_of (supply r) d) next there output
+    × (end ≡ length (journal_of guest (records_of (epochs r)))) × (need ≡ length (frame (epoch_body next))) × (options.room < end + need)
+    × IfInput (HasDrawn (draws r ++ d ∷ []) (answers r)) i j × IfKnown (IsRecorded guest (epochs r) r.output) before after)
+
+-- what rounds drew, and maybe one round more
+abbrev pub HasDrawnOn : List Draw → List Answer → (i j : Option Input) → Type 0
+HasDrawnOn draws answers i j = (more : List Draw) × (length more ≤ 1) × IfInput (HasDrawn (draws ++ more) answers) i j
+
+-- By the answer: what stands in the journal and was sent; and what was drawn from the input, of which the answers in the journal are
+-- honest.
+abbrev pub Recorded : (guest : List ℕ) → (start : State) → Options → (i j : Option Input) → (before after : Option History) → Result Report RecordFault → Type 0
+Recorded guest start options i j before after (Ok report) =
+    (r : Run options start) × (has_ended r.end.end ≡ true) × (report ≡ reported r) × HasRoom guest options (epochs r)
+    × IfInput (HasDrawn (draws r) (answers r)) i j × IfKnown (IsReported guest (epochs r) r.output (report_line report)) before after
+Recorded guest start options i j before after (Err (faults.StepLimit n)) =
+    (r : Run options start) × (has_ended r.end.end ≡ false) × (n ≡ r.end.steps) × (n ≡ options.limit) × HasRoom guest options (epochs r)
+    × IfInput (HasDrawn (draws r) (answers r)) i j × IfKnown (IsRecorded guest (epochs r) r.output) before after
+Recorded guest start options i j before after (Err faults.InputFault) =
+    (r : Run options start) × GoesOn options r.end × (input_due r.end (supply r) ≡ true) × HasRoom guest options (epochs r)
+    × IfInput (HasDrawn (draws r) (answers r)) i j × IfKnown (IsRecorded guest (epochs r) r.output) before after
+Recorded guest start options i j before after (Err (faults.JournalFull end need)) = HasNoRoom guest start options end need i j before after
+Recorded guest start options i j before after (Err faults.OutOfMemory) =
+    ((j ≡ i) × IfKnown IsUntouched before after) ⊎ ((r : Run options start) × ((has_ended r.end.end ≡ true) ⊎ GoesOn options r.end)
+    × HasRoom guest options (epochs r) × HasDrawnOn (draws r) (answers r) i j × IfKnown (IsRecorded guest (epochs r) r.output) before after)
+Recorded guest start options i j before after (Err (faults.JournalInUse len)) = (0 < len) × (j ≡ i) × IfKnown (IsInUse len) before after
+Recorded guest start options i j before after (Err faults.DiskFault) =
+    (r : Run options start) × ((epochs r ≡ []) ⊎ HasRoom guest options (epochs r)) × HasDrawnOn (draws r) (answers r) i j
+    × IfKnown (IsInterrupted guest (epochs r) r.output) before after
+Recorded guest start options i j before after (Err faults.OutputFault) =
+    ((r : Run options start) × (last : Round) × (last.draw.due ≡ input_due r.end (supply r)) × (there : State) × (output : List ℕ)
+    × IsNext options (first_next r) r.end (supply_of (supply r) last.draw) last.epoch there output × HasRoom guest options (epochs r ++ last.epoch ∷ [])
+    × IfInput (HasDrawn (draws r ++ last.draw ∷ []) (answers r ++ last.epoch.answers)) i j
+    × IfKnown (IsPartlySent guest (epochs r) last.epoch r.output output) before after)
+    ⊎ ((r : Run options start) × (has_ended r.end.end ≡ true) × HasRoom guest options (epochs r)
+    × IfInput (HasDrawn (draws r) (answers r)) i j × IfKnown (IsPartlyReported guest (epochs r) r.output (report_line (reported r))) before after)

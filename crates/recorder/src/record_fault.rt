@@ -6,6 +6,7 @@ ghost use Rattle.recorder.specs.declared.record_fault.RecordFault.TheVariants as
 use crate::commit::CommitFault;
 use dp_base::OutOfMemory;
 use epoch_journal::BeginFault;
+use supply::InputFault;
 
 /// Why a recording stopped before the guest's end. What is committed stays committed.
 #[derive(Clone, Copy, Debug, PartialEq, Eq)]
@@ -16,6 +17,8 @@ pub enum RecordFault {
     /// The output failed. The journal has the epoch whose output was being sent, and a prefix of that output was sent; or the
     /// guest has ended, its whole output was sent, and a prefix of the report's line was.
     OutputFault,
+    /// The input could not be read. The journal has the epochs whose output was sent, whole, and nothing of it is lost.
+    InputFault,
     /// The disk has this many bytes already. Nothing was written.
     JournalInUse(u64),
     /// The guest took this many steps, as many as it may, and hasn't ended.
@@ -50,6 +53,14 @@ impl From<CommitFault> for RecordFault {
             CommitFault::Failed { .. } => RecordFault::DiskFault,
             CommitFault::OutputFault => RecordFault::OutputFault,
         }
+    }
+}
+
+impl From<InputFault> for RecordFault {
+    ghost from_gives = { λ _ e. e ≡ faults.InputFault };
+
+    fn from(_: InputFault) -> Self {
+        RecordFault::InputFault
     }
 }
 

@@ -1,4 +1,4 @@
-// A whole recording: begin, one epoch after another, and the report.
+// A whole recording: begin, one round after another, and the report.
 ghost use Rattle.std.specs.Prelude.{◌≡◌, ◌<◌, ◌≤◌, ◌-◌, ◌^◌, min, Err, IfOk, IsErrOf, length};
 ghost use Rattle.std.specs.List.{AllByRecursion};
 ghost use Rattle.dp_base.specs.Journal.{IsBody, IsEpoch, epoch_body, frame};
@@ -9,12 +9,13 @@ ghost use Rattle.recorder.specs.Recording.{Recorded, first_behind};
 ghost use Rattle.recorder.specs.declared.record_fault.RecordFault.TheVariants as faults;
 
 use crate::commit::commit_epoch;
+use crate::draw::draw;
 use crate::options::Options;
 use crate::ready::Ready;
 use crate::record_fault::RecordFault;
 use checkpoint::digest;
 use device::send_all;
-use disk_model::{Stream, World};
+use disk_model::{Inlet, Stream, World};
 use dp_base::{OutOfMemory, Slice};
 use dp_report::{Report, line};
 use epoch_journal::Journal;
@@ -23,60 +24,76 @@ use epoch_runner::{Bounds, Ran, run_epoch};
 use guest_kernel::{State, laws};
 use journal_text::Frame;
 use std::alloc::Global;
+use supply::{MAX_ROOM, Supply};
 
 /// Records a guest from its start state into a journal on the attached disk, and sends its output on Out, each epoch's once
-/// the epoch's record is on the disk; and once the guest has ended, sends the report's line on Note. The world comes back
-/// whatever happens.
+/// the epoch's record is on the disk; and once the guest has ended, sends the report's line on Note. A round takes from the input
+/// exactly where a thread waits for it, and reads the clock once. The world comes back whatever happens.
 ///
 /// # Errors
 ///
-/// See [`RecordFault`]. The disk's length is looked at first; after `JournalInUse` nothing was written or sent.
-pub fn record_<R, W: World>(
+/// See [`RecordFault`]. The disk's length is looked at first; after `JournalInUse` nothing was written, sent or taken.
+pub fn record_<R, W: World, I: Inlet>(
     _rt: &R,
     alloc: Global,
     mut world: W,
+    inlet: &mut I,
     guest: &[u8],
     start: State,
     options: Options,
 ) -> (W, Result<Report, RecordFault>)
     requires guest { IsGuestFile guest.now }
     requires starts { start ≡ start_state guest.now }
-    ensures recorded { Recorded guest.now start options (W.history world) (W.history result.0) result.1 }
+    ensures recorded { Recorded guest.now start options (I.input inlet.old) (I.input inlet.new)
+        (W.history world) (W.history result.0) result.1 }
+    ensures input_cause { result.1 ≡ Err faults.InputFault → Rose (I.input_faults inlet.old) (I.input_faults inlet.new) }
     ensures disk_cause { result.1 ≡ Err faults.DiskFault → Rose (W.disk_faults world) (W.disk_faults result.0) }
     ensures sink_cause { result.1 ≡ Err faults.OutputFault → Rose (W.sink_faults world) (W.sink_faults result.0) }
+    ensures input_count { I.input_faults inlet.old ≤ I.input_faults inlet.new }
     ensures disk_count { W.disk_faults world ≤ W.disk_faults result.0 }
     ensures sink_count { W.sink_faults world ≤ W.sink_faults result.0 }
 {
-    let answer = record_epochs(alloc, &mut world, guest, start, options);
+    let answer = record_rounds(alloc, &mut world, inlet, guest, start, options);
     (world, answer)
 }
 
-fn record_epochs<W: World>(
+fn record_rounds<W: World, I: Inlet>(
     alloc: Global,
     world: &mut W,
+    inlet: &mut I,
     guest: &[u8],
     start: State,
     options: Options,
 ) -> Result<Report, RecordFault>
     requires guest { IsGuestFile guest.now }
     requires starts { start ≡ start_state guest.now }
-    ensures recorded { Recorded guest.now start options (W.history world.old) (W.history world.new) result }
+    ensures recorded { Recorded guest.now start options (I.input inlet.old) (I.input inlet.new)
+        (W.history world.old) (W.history world.new) result }
+    ensures input_cause { IsErrOf result RecordFault.InputFault →
+        Rose (I.input_faults inlet.old) (I.input_faults inlet.new) }
     ensures disk_cause { IsErrOf result RecordFault.DiskFault →
         Rose (W.disk_faults world.old) (W.disk_faults world.new) }
     ensures sink_cause { IsErrOf result RecordFault.OutputFault →
         Rose (W.sink_faults world.old) (W.sink_faults world.new) }
+    ensures input_count { I.input_faults inlet.old ≤ I.input_faults inlet.new }
     ensures disk_count { W.disk_faults world.old ≤ W.disk_faults world.new }
     ensures sink_count { W.sink_faults world.old ≤ W.sink_faults world.new }
 {
     elf_image::laws::a_file_without_fault_has_segments();
     laws::a_guest_goes_on_while_a_thread_runs();
+    laws::a_run_is_as_long_as_its_slices();
     laws::an_epoch_more();
     laws::threads_are_few();
     epoch_runner::laws::an_epoch_ends_by_a_rule();
+    epoch_runner::laws::an_epoch_is_supplied();
+    epoch_runner::laws::a_supply_lets_a_guest_step();
+    supply::an_answer_is_of_the_input();
+    supply::the_windows_are_the_input();
     dp_base::laws::lengths();
     checkpoint::laws::a_start_state_is_encodable();
     checkpoint::laws::a_chain_keeps_a_state_encodable();
     let mut journal = Journal::begin(alloc, world, guest, options.room)?;
+    let mut supply = Supply::new(alloc, MAX_ROOM)?;
     let mut state = start;
     let mut first = 1;
     let mut epochs = 0;
@@ -85,9 +102,10 @@ fn record_epochs<W: World>(
         if state.steps >= options.limit {
             return Err(RecordFault::StepLimit(state.steps));
         }
+        draw(inlet, &mut supply, &state)?;
         let bounds = bounds_from(&options, state.steps, first);
-        let Ran::Epoch(run) = run_epoch(alloc, state, bounds)? else {
-            // A guest that hasn't ended has a thread that runs.
+        let Ran::Epoch(run) = run_epoch(alloc, state, &supply, bounds)? else {
+            // In a guest that hasn't ended a thread runs, and none waits for input that wasn't asked for.
             unreachable!();
         };
         let frame = frame_of(alloc, &run.epoch)?;

@@ -1,12 +1,14 @@
 use Rattle.std.proofs.Common.{◌≡◌, ◌≤◌, ◌-◌}
+use Rattle.recorder.specs.Drawing.{epochs_of}
 use Rattle.recorder.specs.Recording.{first_after}
 use Rattle.recorder.proofs.Rounds.{SoFar}
-use Rattle.recorder.proofs.recording.record_epochs.Given as goal
+use Rattle.recorder.proofs.recording.record_rounds.Given as goal
 
 abbrev pub invariant-rounds : goal.invariant-rounds
 invariant-rounds g l = record {
-  so_far : SoFar l.guest l.options l.fn.start (g.W.World.history l.fn.world) (g.W.World.history l.world) l.state l.journal l.epochs l.sent;
-  first_is : l.first ≡ first_after 1 so_far.done;
+  so_far : SoFar l.guest l.options l.fn.start (g.I.Inlet.input l.fn.inlet) (g.I.Inlet.input l.inlet) (g.W.World.history l.fn.world) (g.W.World.history l.world) l.state l.supply l.journal l.epochs l.sent;
+  first_is : l.first ≡ first_after 1 (epochs_of so_far.done);
+  input_count : g.I.Inlet.input_faults l.fn.inlet ≤ g.I.Inlet.input_faults l.inlet;
   disk_count : g.W.World.disk_faults l.fn.world ≤ g.W.World.disk_faults l.world;
   sink_count : g.W.World.sink_faults l.fn.world ≤ g.W.World.sink_faults l.world;
 }

@@ -1,0 +1,81 @@
+-- What the rounds of a recording draw from its input, and which answers are honest of one. This project's own.
+use Rattle.std.specs.Prelude.{◌≡◌, ℕ, Bool, true, false, List, [], ◌∷◌, ◌++◌, map, slice_get, drop, Some, ⊤, if◌then◌else◌}
+use Rattle.dp_base.specs.Encoding.{IsPrefixOf}
+use Rattle.dp_base.specs.declared.answer.Answer.{Answer}
+use Rattle.dp_base.specs.declared.answer.Answer.TheVariants.{Read}
+use Rattle.dp_base.specs.Journal.{Epoch}
+use Rattle.disk_model.specs.Input.{Input, ReadClock, Took}
+use Rattle.guest_kernel.specs.Answers.{bytes_read, clock_readings}
+use Rattle.supply.specs.Supplied.{Supplied, refilled}
+use Rattle.supply.specs.declared.TheConstants.{MAX_ROOM}
+
+-- ---- rounds
+
+-- what a round draws: whether input was due, the bytes that it took then, and the reading of its clock
+pub record Draw : Type 0 where
+  pub due : Bool
+  pub taken : List ℕ
+  pub reading : ℕ
+
+-- a round that was committed
+pub record Round : Type 0 where
+  pub draw : Draw
+  pub epoch : Epoch
+
+abbrev pub draws_of : List Round → List Draw
+draws_of rounds = map (λ r. r.draw) rounds
+
+abbrev pub epochs_of : List Round → List Epoch
+epochs_of rounds = map (λ r. r.epoch) rounds
+
+-- all answers that their epochs took
+abbrev pub answers_of : List Round → List Answer
+answers_of [] = []
+answers_of (r ∷ rounds) = r.epoch.answers ++ answers_of rounds
+
+-- ---- the supply
+
+-- the supply of a round: it is refilled exactly where input is due, and the round's reading is its stamp
+abbrev pub supply_of : Supplied → Draw → Supplied
+supply_of w d = record (if d.due then refilled d.taken w else w) { stamp = d.reading }
+
+abbrev pub supply_behind : Supplied → List Draw → Supplied
+supply_behind w [] = w
+supply_behind w (d ∷ draws) = supply_behind (supply_of w d) draws
+
+-- ---- the input
+
+abbrev pub TookIf : Bool → (bytes : List ℕ) → Input → Input → Type 0
+TookIf true bytes i there = Took MAX_ROOM bytes i there
+TookIf false bytes i there = there ≡ i
+
+-- a round takes from the input once where some is due, and else not; and then reads the clock once
+abbrev pub Drew : Draw → Input → Input → Type 0
+Drew d i there = (mid : Input) × TookIf d.due d.taken i mid × ReadClock d.reading mid there
+
+abbrev pub DrewAll : List Draw → Input → Input → Type 0
+DrewAll [] i there = there ≡ i
+DrewAll (d ∷ draws) i there = (mid : Input) × Drew d i mid × DrewAll draws mid there
+
+-- ---- honest answers
+
+-- each of these values is a reading, and none comes before the one in front of it
+abbrev pub AreFound : (values readings : List ℕ) → Type 0
+AreFound [] readings = ⊤
+AreFound (v ∷ values) readings = (place : ℕ) × (slice_get readings place ≡ Some v) × AreFound values (drop place readings)
+
+-- Answers that are honest of an input that gave these bytes, whose end was seen or wasn't, and whose clock had these readings.
+pub record IsHonest (answers : List Answer) (given : List ℕ) (ended : Bool) (readings : List ℕ) : Type 0 where
+  -- what reads took, joined, are the first bytes of the input
+  pub reads : IsPrefixOf (bytes_read answers) given
+  -- a read that took none came where all of them had been read, and the end was seen
+  pub ends : (before after : List Answer) → answers ≡ before ++ Read [] ∷ after → (bytes_read before ≡ given) × (ended ≡ true)
+  pub clocks : AreFound (clock_readings answers) readings
+
+-- by what an input gave from one moment to another
+abbrev pub IsHonestSince : List Answer → Input → Input → Type 0
+IsHonestSince answers i there = (given : List ℕ) × (there.given ≡ i.given ++ given) × IsHonest answers given there.ended there.readings
+
+-- rounds drew so much, and the answers that were taken are honest
+abbrev pub HasDrawn : List Draw → List Answer → Input → Input → Type 0
+HasDrawn draws answers i there = DrewAll draws i there × IsHonestSince answers i there
