@@ -7,6 +7,7 @@ use Rattle.dp_base.specs.declared.limits.TheConstants.{MAX_GUEST_BYTES, MAX_JOUR
 use Rattle.dp_base.specs.Field.{AreBytes}
 use Rattle.dp_base.specs.Journal.{Epoch, IsGuest}
 use Rattle.disk_model.specs.History.{History}
+use Rattle.disk_model.specs.Input.{Input}
 use Rattle.dp_report.specs.declared.report.Report.{Report}
 use Rattle.epoch_replay.specs.Play.{Played, Refusal, behind, play_from, play_of, played, played_if, plays_to}
 use Rattle.epoch_replay.specs.Replaying.{Ends, epochs_of}
@@ -14,10 +15,13 @@ use Rattle.guest_kernel.specs.declared.state.State.{State}
 use Rattle.guest_kernel.specs.Call.{After}
 use Rattle.guest_kernel.specs.Slices.{Stop, at, chain, either, onto, run}
 use Rattle.guest_kernel.specs.Start.{IsGuestFile, start_state}
-use Rattle.journal_text.specs.Reading.{Reading, Tail, end, ending, journal_of, reads}
+use Rattle.journal_text.specs.Reading.{Tail, end, ending, journal_of, reads}
 use Rattle.journal_text.specs.Records.{IsRecord, Record}
 use Rattle.recorder.specs.declared.options.Options.{Options}
-use Rattle.recorder.specs.Recording.{EachIsNext, HasRoom, Recorded, Run, first_behind, records_of}
+use Rattle.recorder.specs.Drawing.{Round, epochs_of as epochs_in, supply_of}
+use Rattle.recorder.specs.Recording.{EachIsNext, HasRoom, Recorded, Run, epochs, first_behind, records_of}
+use Rattle.supply.specs.Supplied.{Supplied, empty}
+use Rattle.supply.specs.declared.TheConstants.{MAX_ROOM}
 
 -- ---- a chain of epochs plays as it runs
 
@@ -48,9 +52,10 @@ chain_plays (e ∷ epochs) number place s = in_front (run e.slices (at s [] e.an
 
 -- ---- a run's records
 
-are_records : (options : Options) (first : ℕ) (s : State) (epochs : List Epoch) → EachIsNext options first s epochs → AllByRecursion IsRecord (records_of epochs)
-are_records options first s [] each = tt
-are_records options first s (e ∷ epochs) each = ((each.2.is_epoch, each.2.fits.1), are_records options (first_behind first e.slices) each.0 epochs each.3)
+are_records : (options : Options) (first : ℕ) (s : State) (w : Supplied) (rounds : List Round) → EachIsNext options first s w rounds → AllByRecursion IsRecord (records_of (epochs_in rounds))
+are_records options first s w [] each = tt
+are_records options first s w (r ∷ rounds) each =
+    ((each.3.is_epoch, each.3.fits.1), are_records options (first_behind first r.epoch.slices) each.0 (supply_of w r.draw) rounds each.4)
 
 epochs_are : (epochs : List Epoch) → epochs_of (records_of epochs) ≡ epochs
 epochs_are [] = refl
@@ -63,34 +68,34 @@ AtRest = (guest : List ℕ) (records : List Record) → IsGuest guest → AllByR
 abbrev Short : Type 0
 Short = (file : List ℕ) → IsGuestFile file → length file ≤ MAX_GUEST_BYTES
 
-module _ (law : AtRest) (size : Short) (guest : List ℕ) (options : Options) (r : Run options (start_state guest)) (accepted : IsGuestFile guest) (fits : AreBytes guest) (room : HasRoom guest options r.epochs) where
+module _ (law : AtRest) (size : Short) (guest : List ℕ) (options : Options) (r : Run options (start_state guest)) (accepted : IsGuestFile guest) (fits : AreBytes guest) (room : HasRoom guest options (epochs r)) where
   abbrev place : ℕ
-  place = length (journal_of guest (records_of r.epochs)) - 1
+  place = length (journal_of guest (records_of (epochs r))) - 1
 
-  reads_as : reads (journal_of guest (records_of r.epochs)) ≡ Some (ending guest (records_of r.epochs) place)
-  reads_as = law guest (records_of r.epochs) (omega (arith, size guest accepted), fits) (are_records options 1 (start_state guest) r.epochs r.each) (omega (arith, room, options.room_range))
+  reads_as : reads (journal_of guest (records_of (epochs r))) ≡ Some (ending guest (records_of (epochs r)) place)
+  reads_as = law guest (records_of (epochs r)) (omega (arith, size guest accepted), fits) (are_records options 1 (start_state guest) (empty MAX_ROOM) r.rounds r.each) (omega (arith, room, options.room_range))
 
-  plays : play_of (ending guest (records_of r.epochs) place) ≡ made (Ok r.end) r.output
-  plays = subst (λ (c : Result (State × List ℕ) ℕ). ended_as c (play_of (ending guest (records_of r.epochs) place))) r.chained (chain_plays r.epochs 1 place (start_state guest))
+  plays : play_of (ending guest (records_of (epochs r)) place) ≡ made (Ok r.end) r.output
+  plays = subst (λ (c : Result (State × List ℕ) ℕ). ended_as c (play_of (ending guest (records_of (epochs r)) place))) r.chained (chain_plays (epochs r) 1 place (start_state guest))
 
-  pub run_plays : plays_to (reads (journal_of guest (records_of r.epochs))) ≡ played (made (Ok r.end) r.output)
-  run_plays = ap plays_to reads_as ∙ ap (λ (fault : Option ℕ). played_if fault (ending guest (records_of r.epochs) place)) accepted ∙ ap played plays
+  pub run_plays : plays_to (reads (journal_of guest (records_of (epochs r)))) ≡ played (made (Ok r.end) r.output)
+  run_plays = ap plays_to reads_as ∙ ap (λ (fault : Option ℕ). played_if fault (ending guest (records_of (epochs r)) place)) accepted ∙ ap played plays
 
-  pub run_ends : (report : Report) → report ≡ record { epochs = length r.epochs; squashes = 0; steps = r.end.steps; sent = length r.output; end = r.end.end; state = digest_of r.end }
-      → Ends (reads (journal_of guest (records_of r.epochs))) r.output (record report { squashes = 0 })
+  pub run_ends : (report : Report) → report ≡ record { epochs = length (epochs r); squashes = 0; steps = r.end.steps; sent = length r.output; end = r.end.end; state = digest_of r.end }
+      → Ends (reads (journal_of guest (records_of (epochs r)))) r.output (record report { squashes = 0 })
   run_ends report is = record {
-    journal = ending guest (records_of r.epochs) place;
+    journal = ending guest (records_of (epochs r)) place;
     journal_is = reads_as;
     state = r.end;
     plays = run_plays;
-    reported = (let count = ap (λ (l : List Epoch). length l) (epochs_are r.epochs) in let report_is = is in cc);
+    reported = (let count = ap (λ (l : List Epoch). length l) (epochs_are (epochs r)) in let report_is = is in cc);
   }
 
-pub recording_plays : AtRest → Short → (guest : List ℕ) (options : Options) (before after : History) (report : Report) → IsGuestFile guest → AreBytes guest
-    → Recorded guest (start_state guest) options (Some before) (Some after) (Ok report) → (output : List ℕ) × (after.sent ≡ before.sent ++ output) × Ends (reads after.disk) output (record report { squashes = 0 })
-recording_plays law size guest options before after report accepted fits recorded =
+pub recording_plays : AtRest → Short → (guest : List ℕ) (options : Options) (i j : Option Input) (before after : History) (report : Report) → IsGuestFile guest → AreBytes guest
+    → Recorded guest (start_state guest) options i j (Some before) (Some after) (Ok report) → (output : List ℕ) × (after.sent ≡ before.sent ++ output) × Ends (reads after.disk) output (record report { squashes = 0 })
+recording_plays law size guest options i j before after report accepted fits recorded =
     let r = recorded.0 in
-    let k = recorded.4 in
+    let k = recorded.5 in
     let there_is : after ≡ k.0 = same_Some _ _ k.1 in (
       r.output,
       ap (λ (h : History). h.sent) there_is ∙ k.2.sent,

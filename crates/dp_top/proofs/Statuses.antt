@@ -9,6 +9,7 @@ use Rattle.disk_model.specs.Counts.{Rose}
 use Rattle.disk_model.specs.declared.files.TheConstants.{MAX_FETCH_BYTES}
 use Rattle.disk_model.specs.Directory.{File, IsFetched}
 use Rattle.disk_model.specs.History.{History}
+use Rattle.disk_model.specs.Input.{Input}
 use Rattle.disk_model.specs.Known.{IfKnown}
 use Rattle.disk_model.proofs.Knowing.{known-same}
 use Rattle.guest_kernel.specs.declared.state.State.{State}
@@ -18,7 +19,11 @@ use Rattle.dp_report.specs.declared.report.Report.{Report}
 use Rattle.recorder.specs.declared.record_fault.RecordFault.{RecordFault}
 use Rattle.recorder.specs.declared.record_fault.RecordFault.TheVariants as faults
 use Rattle.recorder.specs.Recording.{IsInUse, Recorded}
-use Rattle.recorder.proofs.Rounds.{no_epoch}
+use Rattle.recorder.proofs.Drawings.{has_drawn, input-same, none_drawn}
+use Rattle.recorder.proofs.Rounds.{no_round}
+use Rattle.recorder.specs.Drawing.{HasDrawn}
+use Rattle.supply.specs.Supplied.{empty}
+use Rattle.supply.specs.declared.TheConstants.{MAX_ROOM}
 use Rattle.dp_report.specs.declared.status.Status.{Status}
 use Rattle.dp_report.specs.declared.status.Status.TheVariants as statuses
 use Rattle.dp_words.specs.declared.command.Command.{Command}
@@ -27,36 +32,39 @@ use Rattle.dp_top.specs.Answer.{status_of}
 use Rattle.dp_top.specs.Asking.{Asked, AskedReplay}
 use Rattle.dp_top.specs.Running.{RecordedAs, CameTo, Did, NamesGuest, IsKnownEmpty, IsNoFault}
 
-pub of_answer : (name : List ℕ) (options : Options) (files : Option (List File)) (before after : Option History) (answer : Result Report RecordFault) → RecordedAs name options files before after answer → CameTo name options files before after (status_of answer)
-of_answer name options files before after (Ok report) as_ = (report, as_)
-of_answer name options files before after (Err faults.DiskFault) as_ = as_
-of_answer name options files before after (Err faults.OutputFault) as_ = as_
-of_answer name options files before after (Err (faults.JournalInUse len)) as_ = as_
-of_answer name options files before after (Err (faults.StepLimit steps)) as_ = as_
-of_answer name options files before after (Err (faults.JournalFull end need)) as_ = as_
-of_answer name options files before after (Err faults.OutOfMemory) as_ = inr as_
+pub of_answer : (name : List ℕ) (options : Options) (files : Option (List File)) (i j : Option Input) (before after : Option History) (answer : Result Report RecordFault) → RecordedAs name options files i j before after answer → CameTo name options files i j before after (status_of answer)
+of_answer name options files i j before after (Ok report) as_ = (report, as_)
+of_answer name options files i j before after (Err faults.InputFault) as_ = as_
+of_answer name options files i j before after (Err faults.DiskFault) as_ = as_
+of_answer name options files i j before after (Err faults.OutputFault) as_ = as_
+of_answer name options files i j before after (Err (faults.JournalInUse len)) as_ = as_
+of_answer name options files i j before after (Err (faults.StepLimit steps)) as_ = as_
+of_answer name options files i j before after (Err (faults.JournalFull end need)) as_ = as_
+of_answer name options files i j before after (Err faults.OutOfMemory) as_ = inr as_
 
 -- a disk that could not be attached
-pub not_attached : (guest : List ℕ) (start : State) (options : Options) (before after : Option History) → start.steps ≡ 0 → after ≡ before → Recorded guest start options before after (Err faults.DiskFault)
-not_attached guest start options before after first same = (
-  no_epoch options start (omega (arith, first)),
+pub not_attached : (guest : List ℕ) (start : State) (options : Options) (i j : Option Input) (before after : Option History) → start.steps ≡ 0 → j ≡ i → after ≡ before
+    → Recorded guest start options i j before after (Err faults.DiskFault)
+not_attached guest start options i j before after first kept same = (
+  no_round options start (omega (arith, first)),
   inl refl,
+  ([], omega arith, input-same (HasDrawn [] []) i j kept (λ s. has_drawn (empty MAX_ROOM) 0 [] [] s s (none_drawn s))),
   known-same _ _ _ same (λ s. record { sent = sym (append-nil s.sent); noted = refl; on_disk = inl refl; untouched = inr refl }),
 )
 
 -- the guest that was fetched was recorded
-pub came_by : (name : List ℕ) (options : Options) (files : Option (List File)) (before after : Option History) (guest loaded there : List ℕ) (state : State) (answer : Result Report RecordFault) (status : Status)
+pub came_by : (name : List ℕ) (options : Options) (files : Option (List File)) (i j : Option Input) (before after : Option History) (guest loaded there : List ℕ) (state : State) (answer : Result Report RecordFault) (status : Status)
     → IsFetched files name guest → loaded ≡ guest → there ≡ guest → IsGuestFile loaded → state ≡ start_state loaded
-    → status ≡ status_of answer → Recorded there state options before after answer → CameTo name options files before after status
-came_by name options files before after guest loaded there state answer status fetched loaded_is there_is accepted state_is status_is recorded =
+    → status ≡ status_of answer → Recorded there state options i j before after answer → CameTo name options files i j before after status
+came_by name options files i j before after guest loaded there state answer status fetched loaded_is there_is accepted state_is status_is recorded =
     let started : state ≡ start_state guest = state_is ∙ ap start_state loaded_is in
-    let as_ : RecordedAs name options files before after answer = record {
+    let as_ : RecordedAs name options files i j before after answer = record {
       bytes = guest;
       fetched = fetched;
       accepted = subst IsGuestFile loaded_is accepted;
-      recorded = subst (λ (s : State). Recorded guest s options before after answer) started (subst (λ (g : List ℕ). Recorded g state options before after answer) there_is recorded);
+      recorded = subst (λ (s : State). Recorded guest s options i j before after answer) started (subst (λ (g : List ℕ). Recorded g state options i j before after answer) there_is recorded);
     } in
-    subst (CameTo name options files before after) (sym status_is) (of_answer name options files before after answer as_)
+    subst (CameTo name options files i j before after) (sym status_is) (of_answer name options files i j before after answer as_)
 
 -- ---- completeness
 
@@ -90,31 +98,31 @@ not_in_use : (len : ℕ) (before after : Option History) → 0 < len → IfKnown
 not_in_use len None after some used empty = empty
 not_in_use len (Some h) after some used empty = let none : len ≡ 0 = used.2.0 ∙ ap (λ (l : List ℕ). length l) empty in omega (arith, some, none)
 
-pub complete_by : (name : List ℕ) (options : Options) (files : Option (List File)) (before there : Option History) (status : Status) → CameTo name options files before there status → NamesGuest name files → IsKnownEmpty before
-    → (status ≡ statuses.GuestFault → ⊥) → (status ≡ statuses.DiskFault → ⊥) → (status ≡ statuses.OutputFault → ⊥) → IsNoFault status
-complete_by name options files before there statuses.Ok came names empty file disk sink = tt
-complete_by name options files before there statuses.Usage came names empty file disk sink = came
-complete_by name options files before there statuses.GuestFault came names empty file disk sink = file refl
-complete_by name options files before there (statuses.BadImage fault) came names empty file disk sink = (let none = same_guest files name came.0 names came.1 in let some = came.2 in cc)
-complete_by name options files before there statuses.InputFault came names empty file disk sink = came
-complete_by name options files before there statuses.DiskFault came names empty file disk sink = disk refl
-complete_by name options files before there statuses.OutputFault came names empty file disk sink = sink refl
-complete_by name options files before there (statuses.JournalInUse len) came names empty file disk sink = not_in_use len before there came.recorded.0 came.recorded.1 empty
-complete_by name options files before there (statuses.BadJournal number) came names empty file disk sink = came
-complete_by name options files before there (statuses.BadEpoch number) came names empty file disk sink = came
-complete_by name options files before there (statuses.StepLimit steps) came names empty file disk sink = tt
-complete_by name options files before there (statuses.JournalFull end need) came names empty file disk sink = tt
-complete_by name options files before there statuses.OutOfMemory came names empty file disk sink = tt
-complete_by name options files before there statuses.NoJournal came names empty file disk sink = came
-complete_by name options files before there (statuses.BadMark number) came names empty file disk sink = came
+pub complete_by : (name : List ℕ) (options : Options) (files : Option (List File)) (i j : Option Input) (before there : Option History) (status : Status) → CameTo name options files i j before there status → NamesGuest name files → IsKnownEmpty before
+    → (status ≡ statuses.GuestFault → ⊥) → (status ≡ statuses.InputFault → ⊥) → (status ≡ statuses.DiskFault → ⊥) → (status ≡ statuses.OutputFault → ⊥) → IsNoFault status
+complete_by name options files i j before there statuses.Ok came names empty file input disk sink = tt
+complete_by name options files i j before there statuses.Usage came names empty file input disk sink = came
+complete_by name options files i j before there statuses.GuestFault came names empty file input disk sink = file refl
+complete_by name options files i j before there (statuses.BadImage fault) came names empty file input disk sink = (let none = same_guest files name came.0 names came.1 in let some = came.2 in cc)
+complete_by name options files i j before there statuses.InputFault came names empty file input disk sink = input refl
+complete_by name options files i j before there statuses.DiskFault came names empty file input disk sink = disk refl
+complete_by name options files i j before there statuses.OutputFault came names empty file input disk sink = sink refl
+complete_by name options files i j before there (statuses.JournalInUse len) came names empty file input disk sink = not_in_use len before there came.recorded.0 came.recorded.2 empty
+complete_by name options files i j before there (statuses.BadJournal number) came names empty file input disk sink = came
+complete_by name options files i j before there (statuses.BadEpoch number) came names empty file input disk sink = came
+complete_by name options files i j before there (statuses.StepLimit steps) came names empty file input disk sink = tt
+complete_by name options files i j before there (statuses.JournalFull end need) came names empty file input disk sink = tt
+complete_by name options files i j before there statuses.OutOfMemory came names empty file input disk sink = tt
+complete_by name options files i j before there statuses.NoJournal came names empty file input disk sink = came
+complete_by name options files i j before there (statuses.BadMark number) came names empty file input disk sink = came
 
-pub complete : (words : List (String Global)) (files : Option (List File)) (before there : Option History) (status : Status) → Did words files before there status → (asked : Asked words) → NamesGuest asked.guest files → IsKnownEmpty before
-    → (status ≡ statuses.GuestFault → ⊥) → (status ≡ statuses.DiskFault → ⊥) → (status ≡ statuses.OutputFault → ⊥) → IsNoFault status
-complete words files before there status (inl refused) asked names empty file disk sink = absurd (let not_taken = refused.1 in let taken = asked.taken in cc)
-complete words files before there status (inr (inl memory)) asked names empty file disk sink = subst IsNoFault (sym memory.0) tt
-complete words files before there status (inr (inr (inl did))) asked names empty file disk sink =
-    complete_by did.0.guest did.0.options files before there status did.1 (subst (λ (n : List ℕ). NamesGuest n files) (same_name words asked did.0) names) empty file disk sink
-complete words files before there status (inr (inr (inr did))) asked names empty file disk sink = absurd (not_both words asked did.0)
+pub complete : (words : List (String Global)) (files : Option (List File)) (i j : Option Input) (before there : Option History) (status : Status) → Did words files i j before there status → (asked : Asked words) → NamesGuest asked.guest files → IsKnownEmpty before
+    → (status ≡ statuses.GuestFault → ⊥) → (status ≡ statuses.InputFault → ⊥) → (status ≡ statuses.DiskFault → ⊥) → (status ≡ statuses.OutputFault → ⊥) → IsNoFault status
+complete words files i j before there status (inl refused) asked names empty file input disk sink = absurd (let not_taken = refused.1 in let taken = asked.taken in cc)
+complete words files i j before there status (inr (inl memory)) asked names empty file input disk sink = subst IsNoFault (sym memory.0) tt
+complete words files i j before there status (inr (inr (inl did))) asked names empty file input disk sink =
+    complete_by did.0.guest did.0.options files i j before there status did.1 (subst (λ (n : List ℕ). NamesGuest n files) (same_name words asked did.0) names) empty file input disk sink
+complete words files i j before there status (inr (inr (inr did))) asked names empty file input disk sink = absurd (not_both words asked did.0)
 
 -- a count that rose has risen later too
 pub rose_before : (a b c : ℕ) → a ≤ b → b ≤ c → Rose a b → Rose a c

@@ -11,6 +11,7 @@ use Rattle.dp_report.specs.declared.status.Status.TheVariants as statuses
 -- of a recording
 abbrev pub status_of : Result Report RecordFault → Status
 status_of (Ok report) = statuses.Ok
+status_of (Err faults.InputFault) = statuses.InputFault
 status_of (Err faults.DiskFault) = statuses.DiskFault
 status_of (Err faults.OutputFault) = statuses.OutputFault
 status_of (Err (faults.JournalInUse len)) = statuses.JournalInUse len

@@ -5,6 +5,7 @@ use Rattle.device.specs.Sending.{Sent}
 use Rattle.disk_model.specs.declared.world.Stream.TheVariants.{Note}
 use Rattle.disk_model.specs.Directory.{File, IsFetched}
 use Rattle.disk_model.specs.History.{History}
+use Rattle.disk_model.specs.Input.{Input}
 use Rattle.disk_model.specs.Known.{IfKnown, known_disk}
 use Rattle.dp_report.specs.declared.report.Report.{Report}
 use Rattle.dp_report.specs.declared.status.Status.{Status}
@@ -24,48 +25,49 @@ use Rattle.dp_top.specs.Answer.{status_of_replay}
 use Rattle.dp_top.specs.Asking.{Asked, AskedReplay}
 
 -- The file of this name is a guest, and its recording with these options came to this.
-pub record RecordedAs (name : List ℕ) (options : Options) (files : Option (List File)) (before after : Option History) (answer : Result Report RecordFault) : Type 0 where
+pub record RecordedAs (name : List ℕ) (options : Options) (files : Option (List File)) (i j : Option Input) (before after : Option History) (answer : Result Report RecordFault) : Type 0 where
   pub bytes : List ℕ
   pub fetched : IsFetched files name bytes
   pub accepted : IsGuestFile bytes
-  pub recorded : Recorded bytes (start_state bytes) options before after answer
+  pub recorded : Recorded bytes (start_state bytes) options i j before after answer
 
 -- What a record command comes to, before its status is told on Note.
-abbrev pub CameTo : (name : List ℕ) → Options → Option (List File) → Option History → Option History → Status → Type 0
-CameTo name options files before after statuses.Ok = (report : Report) × RecordedAs name options files before after (Ok report)
-CameTo name options files before after statuses.GuestFault = after ≡ before
-CameTo name options files before after (statuses.BadImage fault) =
-    (bytes : List ℕ) × IsFetched files name bytes × (image_fault bytes ≡ Some fault) × (after ≡ before)
-CameTo name options files before after statuses.DiskFault = RecordedAs name options files before after (Err faults.DiskFault)
-CameTo name options files before after statuses.OutputFault = RecordedAs name options files before after (Err faults.OutputFault)
-CameTo name options files before after (statuses.JournalInUse len) = RecordedAs name options files before after (Err (faults.JournalInUse len))
-CameTo name options files before after (statuses.StepLimit steps) = RecordedAs name options files before after (Err (faults.StepLimit steps))
-CameTo name options files before after (statuses.JournalFull end need) = RecordedAs name options files before after (Err (faults.JournalFull end need))
-CameTo name options files before after statuses.OutOfMemory = (after ≡ before) ⊎ RecordedAs name options files before after (Err faults.OutOfMemory)
-CameTo name options files before after statuses.Usage = ⊥
-CameTo name options files before after statuses.InputFault = ⊥
-CameTo name options files before after (statuses.BadJournal number) = ⊥
-CameTo name options files before after (statuses.BadEpoch number) = ⊥
-CameTo name options files before after statuses.NoJournal = ⊥
-CameTo name options files before after (statuses.BadMark number) = ⊥
+abbrev pub CameTo : (name : List ℕ) → Options → Option (List File) → (i j : Option Input) → (before after : Option History) → Status → Type 0
+CameTo name options files i j before after statuses.Ok = (report : Report) × RecordedAs name options files i j before after (Ok report)
+CameTo name options files i j before after statuses.GuestFault = (j ≡ i) × (after ≡ before)
+CameTo name options files i j before after (statuses.BadImage fault) =
+    (bytes : List ℕ) × IsFetched files name bytes × (image_fault bytes ≡ Some fault) × (j ≡ i) × (after ≡ before)
+CameTo name options files i j before after statuses.InputFault = RecordedAs name options files i j before after (Err faults.InputFault)
+CameTo name options files i j before after statuses.DiskFault = RecordedAs name options files i j before after (Err faults.DiskFault)
+CameTo name options files i j before after statuses.OutputFault = RecordedAs name options files i j before after (Err faults.OutputFault)
+CameTo name options files i j before after (statuses.JournalInUse len) = RecordedAs name options files i j before after (Err (faults.JournalInUse len))
+CameTo name options files i j before after (statuses.StepLimit steps) = RecordedAs name options files i j before after (Err (faults.StepLimit steps))
+CameTo name options files i j before after (statuses.JournalFull end need) = RecordedAs name options files i j before after (Err (faults.JournalFull end need))
+CameTo name options files i j before after statuses.OutOfMemory = ((j ≡ i) × (after ≡ before)) ⊎ RecordedAs name options files i j before after (Err faults.OutOfMemory)
+CameTo name options files i j before after statuses.Usage = ⊥
+CameTo name options files i j before after (statuses.BadJournal number) = ⊥
+CameTo name options files i j before after (statuses.BadEpoch number) = ⊥
+CameTo name options files i j before after statuses.NoJournal = ⊥
+CameTo name options files i j before after (statuses.BadMark number) = ⊥
 
 -- What a replay command comes to, before its status is told on Note: a replay of the bytes that the disk reads as.
 abbrev pub ReplayedTo : Option History → Option History → Status → Type 0
 ReplayedTo before after status = (answer : Result Report ReplayFault) × (status ≡ status_of_replay answer)
     × OnDisk (known_disk before) (λ bytes. Replayed (reads bytes) before after answer)
 
--- the words aren't taken, or ask for a recording or for a replay that came to this
-abbrev pub Did : List (String Global) → Option (List File) → Option History → Option History → Status → Type 0
-Did words files before after status =
-    ((status ≡ statuses.Usage) × (are_taken words ≡ false) × (after ≡ before))
-    ⊎ ((status ≡ statuses.OutOfMemory) × (after ≡ before))
-    ⊎ ((a : Asked words) × CameTo a.guest a.options files before after status)
-    ⊎ (AskedReplay words × ReplayedTo before after status)
+-- The words aren't taken, or ask for a recording or for a replay that came to this. Only a recording takes from the input or reads
+-- the clock.
+abbrev pub Did : List (String Global) → Option (List File) → (i j : Option Input) → (before after : Option History) → Status → Type 0
+Did words files i j before after status =
+    ((status ≡ statuses.Usage) × (are_taken words ≡ false) × (j ≡ i) × (after ≡ before))
+    ⊎ ((status ≡ statuses.OutOfMemory) × (j ≡ i) × (after ≡ before))
+    ⊎ ((a : Asked words) × CameTo a.guest a.options files i j before after status)
+    ⊎ (AskedReplay words × (j ≡ i) × ReplayedTo before after status)
 
 -- The command came to this, and then the status's line was sent on Note: all of it, or a prefix. At Ok it has no line: the
 -- report's has been sent by then.
-abbrev pub Ran : List (String Global) → Option (List File) → Option History → Option History → Status → (told : Bool) → Type 0
-Ran words files before after status told = (done : Option History) × Did words files before done status × IfKnown (Sent Note (status_line status) told) done after
+abbrev pub Ran : List (String Global) → Option (List File) → (i j : Option Input) → (before after : Option History) → Status → (told : Bool) → Type 0
+Ran words files i j before after status told = (done : Option History) × Did words files i j before done status × IfKnown (Sent Note (status_line status) told) done after
 
 -- the guest's file is refused
 abbrev pub IsBadImage : Status → Type 0

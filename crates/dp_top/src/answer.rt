@@ -12,6 +12,7 @@ pub fn status_of_answer(answer: Result<Report, RecordFault>) -> Status
 {
     match answer {
         Ok(_) => Status::Ok,
+        Err(RecordFault::InputFault) => Status::InputFault,
         Err(RecordFault::DiskFault) => Status::DiskFault,
         Err(RecordFault::OutputFault) => Status::OutputFault,
         Err(RecordFault::JournalInUse(len)) => Status::JournalInUse(len),

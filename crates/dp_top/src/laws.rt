@@ -1,23 +1,24 @@
 //! The two halves together: what a recording leaves plays to what it was. A call of such a function costs nothing, and hands
 //! the law to the caller's proof.
 
-ghost use Rattle.std.specs.Prelude.{◌≡◌, ◌++◌, ℕ, List, Some, Ok};
+ghost use Rattle.std.specs.Prelude.{◌≡◌, ◌++◌, ℕ, List, Option, Some, Ok};
 ghost use Rattle.dp_base.specs.Field.{AreBytes};
 ghost use Rattle.disk_model.specs.History.{History};
+ghost use Rattle.disk_model.specs.Input.{Input};
 ghost use Rattle.dp_report.specs.declared.report.Report.{Report};
 ghost use Rattle.epoch_replay.specs.Play.{played, plays_to};
 ghost use Rattle.epoch_replay.specs.Replaying.{Ends};
 ghost use Rattle.guest_kernel.specs.Start.{IsGuestFile, start_state};
 ghost use Rattle.journal_text.specs.Reading.{journal_of, reads};
 ghost use Rattle.recorder.specs.declared.options.Options.{Options};
-ghost use Rattle.recorder.specs.Recording.{HasRoom, Recorded, Run, records_of};
+ghost use Rattle.recorder.specs.Recording.{HasRoom, Recorded, Run, epochs, records_of};
 
 /// The journal of a run, however far it came, plays to its end if it has room: to the run's whole output, and to the state in which the run
 /// ends.
 pub fn a_run_plays_to_its_end()
     ensures { (guest : List ℕ) (options : Options) (r : Run options (start_state guest)) → IsGuestFile guest → AreBytes guest →
-        HasRoom guest options r.epochs →
-        plays_to (reads (journal_of guest (records_of r.epochs))) ≡ played (record { output = r.output; stop = Ok r.end }) }
+        HasRoom guest options (epochs r) →
+        plays_to (reads (journal_of guest (records_of (epochs r)))) ≡ played (record { output = r.output; stop = Ok r.end }) }
 {
     elf_image::laws::a_file_without_fault_has_segments();
     journal_text::laws::a_journal_at_rest_reads_as_itself();
@@ -26,8 +27,8 @@ pub fn a_run_plays_to_its_end()
 /// A journal that a recording answered `Ok` for plays to exactly the output that the recording sent, and to the report that it
 /// gave, but for the squashes, of which a replay has none.
 pub fn a_recording_plays_as_it_was()
-    ensures { (guest : List ℕ) (options : Options) (before after : History) (report : Report) → IsGuestFile guest → AreBytes guest →
-        Recorded guest (start_state guest) options (Some before) (Some after) (Ok report) →
+    ensures { (guest : List ℕ) (options : Options) (i j : Option Input) (before after : History) (report : Report) → IsGuestFile guest → AreBytes guest →
+        Recorded guest (start_state guest) options i j (Some before) (Some after) (Ok report) →
         (output : List ℕ) × (after.sent ≡ before.sent ++ output)
         × Ends (reads after.disk) output (record report { squashes = 0 }) }
 {

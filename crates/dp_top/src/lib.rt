@@ -9,7 +9,7 @@
 //! and `disk_model`.
 //!
 //! ```text
-//! let (world, status) = run(&rt, alloc, &words, &mut files, world);
+//! let (world, status) = run(&rt, alloc, &words, &mut files, &mut inlet, world);
 //! ExitCode::from(status.number())
 //! ```
 #![tactic(auto)]

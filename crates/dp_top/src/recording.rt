@@ -8,16 +8,17 @@ ghost use Rattle.recorder.specs.Recording.{Recorded};
 ghost use Rattle.dp_top.specs.Answer.{status_of};
 
 use crate::answer::status_of_answer;
-use disk_model::World;
+use disk_model::{Inlet, World};
 use dp_report::Status;
 use guest_kernel::State;
 use recorder::{Options, record_};
 use std::alloc::Global;
 
 /// Attaches the journal and records into it.
-pub fn record_guest<R, W: World>(
+pub fn record_guest<R, I: Inlet, W: World>(
     rt: &R,
     alloc: Global,
+    inlet: &mut I,
     mut world: W,
     journal: &str,
     guest: &[u8],
@@ -27,15 +28,17 @@ pub fn record_guest<R, W: World>(
     requires guest { IsGuestFile guest.now }
     requires starts { start ≡ start_state guest.now }
     ensures recorded { (answer : Result Report RecordFault) × (result.1 ≡ status_of answer)
-        × Recorded guest.now start options (W.history world) (W.history result.0) answer }
+        × Recorded guest.now start options (I.input inlet.old) (I.input inlet.new) (W.history world) (W.history result.0) answer }
+    ensures input_fault { result.1 ≡ Status.InputFault → Rose (I.input_faults inlet.old) (I.input_faults inlet.new) }
     ensures disk_fault { result.1 ≡ Status.DiskFault → Rose (W.disk_faults world) (W.disk_faults result.0) }
     ensures output_fault { result.1 ≡ Status.OutputFault → Rose (W.sink_faults world) (W.sink_faults result.0) }
+    ensures input_count { I.input_faults inlet.old ≤ I.input_faults inlet.new }
     ensures disk_count { W.disk_faults world ≤ W.disk_faults result.0 }
     ensures sink_count { W.sink_faults world ≤ W.sink_faults result.0 }
 {
     if world.attach(journal, true).is_err() {
         return (world, Status::DiskFault);
     }
-    let (world, answer) = record_(rt, alloc, world, guest, start, options);
+    let (world, answer) = record_(rt, alloc, world, inlet, guest, start, options);
     (world, status_of_answer(answer))
 }

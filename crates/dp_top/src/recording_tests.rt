@@ -2,7 +2,7 @@
 ghost use Rattle.std.specs.Prelude.{◌<◌, ◌≤◌};
 
 use crate::guests::{EXITS, EXITS_ENDED, WRITES, WRITES_ENDED};
-use disk_mem::{Call, CallNumbers, Fails, MemWorld};
+use disk_mem::{Call, CallNumbers, Fails, MemInlet, MemWorld};
 use disk_model::Stream;
 use dp_report::Report;
 use guest_kernel::{End, start_from_file};
@@ -58,7 +58,8 @@ fn recorded(
     let alloc = rt.alloc();
     let state = start_from_file(alloc, guest)?;
     let world = MemWorld::new(alloc, disk, sink, piece)?;
-    let (world, answer) = record_(rt, alloc, world, guest, state, options);
+    let mut inlet = MemInlet::new(Vec::new(alloc), Vec::new(alloc), Fails::Never);
+    let (world, answer) = record_(rt, alloc, world, &mut inlet, guest, state, options);
     look_at(alloc, &world, answer)
 }
 

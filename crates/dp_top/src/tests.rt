@@ -1,7 +1,7 @@
 // The top call on memory forms.
 use super::*;
 use crate::guests::{EXITS, WRITES};
-use disk_mem::{CallNumbers, Fails, MemFiles, MemWorld, NamedFile};
+use disk_mem::{CallNumbers, Fails, MemFiles, MemInlet, MemWorld, NamedFile};
 use disk_model::Stream;
 use std::alloc::Global;
 use std::test::Fail;
@@ -43,7 +43,8 @@ pub(crate) fn ran(
         bytes: guest.to_vec(alloc)?,
     })?;
     let mut files = MemFiles::new(named, fetch);
-    Ok(run(rt, alloc, &texts, &mut files, world))
+    let mut inlet = MemInlet::new(Vec::new(alloc), Vec::new(alloc), Fails::Never);
+    Ok(run(rt, alloc, &texts, &mut files, &mut inlet, world))
 }
 
 /// The journal of `EXITS` that has one epoch, of 126 bytes.

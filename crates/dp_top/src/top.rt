@@ -11,7 +11,7 @@ ghost use Rattle.dp_top.specs.Running.{CameTo, Did, IsBadImage, IsKnownEmpty, Is
 
 use crate::recording::record_guest;
 use crate::replaying::replay_journal;
-use disk_model::{FetchFault, Files, World};
+use disk_model::{FetchFault, Files, Inlet, World};
 use dp_base::limits::MAX_JOURNAL_BYTES;
 use dp_report::{Status, emit_fault};
 use dp_words::{Command, WordsFault, parse};
@@ -19,25 +19,27 @@ use guest_kernel::{ImageFault, start_from_file};
 use recorder::Options;
 use std::alloc::Global;
 
-/// Does what the words say. `NAME record GUEST JOURNAL` with its options records the guest whose file GUEST names into the
-/// journal JOURNAL of the world, which is made if there is none, and sends the guest's output on Out. `NAME replay JOURNAL`
-/// replays the journal, which isn't written, and sends the output of its epochs on Out. On Note goes the report's line at
+/// Does what the words say. `NAME record GUEST JOURNAL` with its options records the guest whose file GUEST names, with the input
+/// and the clock of the inlet, into the journal JOURNAL of the world, which is made if there is none, and sends the guest's output
+/// on Out. `NAME replay JOURNAL`
+/// replays the journal, which isn't written, from itself alone, and sends the output of its epochs on Out. On Note goes the report's line at
 /// `Ok`, and the status's line else. The world comes back whatever happens.
 ///
 /// The words are looked at first. For a recording then come the guest's file, its image, and the disk: after `Usage`,
 /// `GuestFault` and a recording's `BadImage` the disk is as it was, and has met no fault. For a replay then come the disk, the
 /// journal's guest and its records. A status's line that can't be sent changes no status. The runtime `rt` is lent for what
 /// runs on threads; nothing does yet.
-pub fn run<R, F: Files, W: World>(
+pub fn run<R, F: Files, I: Inlet, W: World>(
     rt: &R,
     alloc: Global,
     words: &[String],
     files: &mut F,
+    inlet: &mut I,
     world: W,
 ) -> (W, Status)
     // What stands, by the status, and what was sent on Note. The line is cut off only where a count rises once more.
     ensures ran { (told : Bool) × (faults : ℕ)
-        × Ran words.now (F.directory files.old) (W.history world) (W.history result.0) result.1 told
+        × Ran words.now (F.directory files.old) (I.input inlet.old) (I.input inlet.new) (W.history world) (W.history result.0) result.1 told
         × (W.sink_faults world ≤ faults) × (faults ≤ W.sink_faults result.0)
         × (result.1 ≡ Status.OutputFault → Rose (W.sink_faults world) faults)
         × (told ≡ false → Rose faults (W.sink_faults result.0)) }
@@ -46,6 +48,7 @@ pub fn run<R, F: Files, W: World>(
     ensures usage { result.1 ≡ Status.Usage → are_taken words.now ≡ false }
     ensures not_taken { are_taken words.now ≡ false → (result.1 ≡ Status.Usage) ⊎ (result.1 ≡ Status.OutOfMemory) }
     ensures guest_fault { result.1 ≡ Status.GuestFault → Rose (F.file_faults files.old) (F.file_faults files.new) }
+    ensures input_fault { result.1 ≡ Status.InputFault → Rose (I.input_faults inlet.old) (I.input_faults inlet.new) }
     ensures disk_fault { result.1 ≡ Status.DiskFault → Rose (W.disk_faults world) (W.disk_faults result.0) }
     ensures output_fault { result.1 ≡ Status.OutputFault → Rose (W.sink_faults world) (W.sink_faults result.0) }
     ensures no_disk_call { (result.1 ≡ Status.Usage) ⊎ (result.1 ≡ Status.GuestFault)
@@ -53,6 +56,7 @@ pub fn run<R, F: Files, W: World>(
         W.disk_faults result.0 ≡ W.disk_faults world }
 
     ensures file_count { F.file_faults files.old ≤ F.file_faults files.new }
+    ensures input_count { I.input_faults inlet.old ≤ I.input_faults inlet.new }
     ensures disk_count { W.disk_faults world ≤ W.disk_faults result.0 }
     ensures sink_count { W.sink_faults world ≤ W.sink_faults result.0 }
 
@@ -60,6 +64,7 @@ pub fn run<R, F: Files, W: World>(
     ensures complete { (asked : Asked words.now) → NamesGuest asked.guest (F.directory files.old) →
         IsKnownEmpty (W.history world) →
         (Rose (F.file_faults files.old) (F.file_faults files.new) → ⊥) →
+        (Rose (I.input_faults inlet.old) (I.input_faults inlet.new) → ⊥) →
         (Rose (W.disk_faults world) (W.disk_faults result.0) → ⊥) →
         (Rose (W.sink_faults world) (W.sink_faults result.0) → ⊥) → IsNoFault result.1 }
 
@@ -69,21 +74,23 @@ pub fn run<R, F: Files, W: World>(
         (Rose (W.sink_faults world) (W.sink_faults result.0) → ⊥) →
         (result.1 ≡ Status.Ok) ⊎ (result.1 ≡ Status.OutOfMemory) }
 {
-    let (mut world, status) = do_command(rt, alloc, words, files, world);
+    let (mut world, status) = do_command(rt, alloc, words, files, inlet, world);
     let _ = emit_fault(&mut world, &status);
     (world, status)
 }
 
 // Does what the words say, but for the status's line.
-fn do_command<R, F: Files, W: World>(
+fn do_command<R, F: Files, I: Inlet, W: World>(
     rt: &R,
     alloc: Global,
     words: &[String],
     files: &mut F,
+    inlet: &mut I,
     world: W,
 ) -> (W, Status)
-    ensures did { Did words.now (F.directory files.old) (W.history world) (W.history result.0) result.1 }
+    ensures did { Did words.now (F.directory files.old) (I.input inlet.old) (I.input inlet.new) (W.history world) (W.history result.0) result.1 }
     ensures guest_fault { result.1 ≡ Status.GuestFault → Rose (F.file_faults files.old) (F.file_faults files.new) }
+    ensures input_fault { result.1 ≡ Status.InputFault → Rose (I.input_faults inlet.old) (I.input_faults inlet.new) }
     ensures disk_fault { result.1 ≡ Status.DiskFault → Rose (W.disk_faults world) (W.disk_faults result.0) }
     ensures output_fault { result.1 ≡ Status.OutputFault → Rose (W.sink_faults world) (W.sink_faults result.0) }
     ensures no_call { (result.1 ≡ Status.Usage) ⊎ (result.1 ≡ Status.GuestFault)
@@ -93,6 +100,7 @@ fn do_command<R, F: Files, W: World>(
         (Rose (W.sink_faults world) (W.sink_faults result.0) → ⊥) →
         (result.1 ≡ Status.Ok) ⊎ (result.1 ≡ Status.OutOfMemory) }
     ensures file_count { F.file_faults files.old ≤ F.file_faults files.new }
+    ensures input_count { I.input_faults inlet.old ≤ I.input_faults inlet.new }
     ensures disk_count { W.disk_faults world ≤ W.disk_faults result.0 }
     ensures sink_count { W.sink_faults world ≤ W.sink_faults result.0 }
 {
@@ -122,6 +130,7 @@ fn do_command<R, F: Files, W: World>(
                 rt,
                 alloc,
                 files,
+                inlet,
                 world,
                 guest.as_str(),
                 journal.as_str(),
@@ -137,21 +146,24 @@ fn do_command<R, F: Files, W: World>(
 }
 
 // Records the guest whose file has this name.
-fn record_named<R, F: Files, W: World>(
+fn record_named<R, F: Files, I: Inlet, W: World>(
     rt: &R,
     alloc: Global,
     files: &mut F,
+    inlet: &mut I,
     world: W,
     name: &str,
     journal: &str,
     options: Options,
 ) -> (W, Status)
-    ensures came { CameTo name.now options (F.directory files.old) (W.history world) (W.history result.0) result.1 }
+    ensures came { CameTo name.now options (F.directory files.old) (I.input inlet.old) (I.input inlet.new) (W.history world) (W.history result.0) result.1 }
     ensures guest_fault { result.1 ≡ Status.GuestFault → Rose (F.file_faults files.old) (F.file_faults files.new) }
+    ensures input_fault { result.1 ≡ Status.InputFault → Rose (I.input_faults inlet.old) (I.input_faults inlet.new) }
     ensures disk_fault { result.1 ≡ Status.DiskFault → Rose (W.disk_faults world) (W.disk_faults result.0) }
     ensures output_fault { result.1 ≡ Status.OutputFault → Rose (W.sink_faults world) (W.sink_faults result.0) }
     ensures no_call { (result.1 ≡ Status.GuestFault) ⊎ IsBadImage result.1 → result.0 ≡ world }
     ensures file_count { F.file_faults files.old ≤ F.file_faults files.new }
+    ensures input_count { I.input_faults inlet.old ≤ I.input_faults inlet.new }
     ensures disk_count { W.disk_faults world ≤ W.disk_faults result.0 }
     ensures sink_count { W.sink_faults world ≤ W.sink_faults result.0 }
 {
@@ -164,7 +176,7 @@ fn record_named<R, F: Files, W: World>(
         Ok(state) => state,
         Err(fault) => return (world, status_of_fault(fault)),
     };
-    record_guest(rt, alloc, world, journal, &guest, start, options)
+    record_guest(rt, alloc, inlet, world, journal, &guest, start, options)
 }
 
 // The status of a guest whose file is refused.

@@ -2,7 +2,7 @@
 //! prints how many bytes the journal has. It ends with the status's number.
 #![tactic(auto)]
 
-use disk_mem::{Fails, MemFiles, MemWorld, NamedFile};
+use disk_mem::{Fails, MemFiles, MemInlet, MemWorld, NamedFile};
 use disk_model::{Failed, World};
 use dp_base::OutOfMemory;
 use dp_top::{Status, run};
@@ -50,6 +50,7 @@ fn record_guest<R>(rt: &R, alloc: Global) -> Result<(Result<u64, Failed>, Status
     })?;
     let mut files = MemFiles::new(named, Fails::Never);
     let world = MemWorld::new(alloc, Fails::Never, Fails::Never, PIECE)?;
-    let (mut world, status) = run(rt, alloc, &words, &mut files, world);
+    let mut inlet = MemInlet::new(Vec::new(alloc), Vec::new(alloc), Fails::Never);
+    let (mut world, status) = run(rt, alloc, &words, &mut files, &mut inlet, world);
     Ok((world.len(), status))
 }

@@ -1,7 +1,7 @@
 // Guests of several threads, recorded in several epochs and slices, and replayed. The values come from a model apart from ours, which
 // runs the words by the ISA's text and the schedule's rules.
 use super::*;
-use disk_mem::{Fails, MemFiles, MemWorld, NamedFile};
+use disk_mem::{Fails, MemFiles, MemInlet, MemWorld, NamedFile};
 use disk_model::Stream;
 use dp_report::Status;
 use dp_top::run;
@@ -51,7 +51,8 @@ pub(crate) fn ran(
         bytes: file.to_vec(alloc)?,
     })?;
     let mut files = MemFiles::new(named, Fails::Never);
-    Ok(run(rt, alloc, &texts, &mut files, world))
+    let mut inlet = MemInlet::new(Vec::new(alloc), Vec::new(alloc), Fails::Never);
+    Ok(run(rt, alloc, &texts, &mut files, &mut inlet, world))
 }
 
 // What a recording came to and how long its journal is, where it sends this on Out and this on Note, and where its replay sends the

@@ -8,5 +8,5 @@ pub returns-then-is_err-clause-recorded : goal.returns-then-is_err-clause-record
 returns-then-is_err-clause-recorded g c = (
   Err faults.DiskFault,
   refl,
-  not_attached c.args.guest.now c.args.start c.args.options _ _ (ap (λ (s : State). s.steps) c.requires.starts) c.attach.ensures.history,
+  not_attached c.args.guest.now c.args.start c.args.options _ _ _ _ (ap (λ (s : State). s.steps) c.requires.starts) refl c.attach.ensures.history,
 )

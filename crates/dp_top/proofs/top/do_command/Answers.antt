@@ -40,4 +40,4 @@ returns-in-Ok-Replay-clause-did g c =
       taken = w.ensures.taken;
       said = w.ensures.command ∙ ap Some w.field-0-is;
     } in
-    inr (inr (inr (asked, c.replay_journal.ensures.replayed)))
+    inr (inr (inr (asked, refl {a = g.I.Inlet.input c.args.inlet.now}, c.replay_journal.ensures.replayed)))

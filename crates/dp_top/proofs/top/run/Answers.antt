@@ -3,10 +3,11 @@ use Rattle.dp_top.proofs.Statuses.{complete, err_where_not_ok, rose_before, rose
 use Rattle.dp_top.proofs.top.run.Goals as goal
 
 pub returns-clause-complete : goal.returns-clause-complete
-returns-clause-complete g c = λ asked names empty file disk sink.
+returns-clause-complete g c = λ asked names empty file input disk sink.
     let did = c.do_command-world.ensures in
-    complete c.args.words.now _ _ _ c.do_command-world.result.1 did.did asked names empty
+    complete c.args.words.now _ _ _ _ _ c.do_command-world.result.1 did.did asked names empty
     (λ is. file (did.guest_fault is))
+    (λ is. input (did.input_fault is))
     (λ is. disk (rose_same _ _ _ c.emit_fault.ensures.disk (did.disk_fault is)))
     (λ is. sink (rose_before _ _ _ did.sink_count c.emit_fault.ensures.count (did.output_fault is)))
 

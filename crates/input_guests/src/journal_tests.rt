@@ -1,0 +1,201 @@
+// Journals byte by byte, and such as no recording writes.
+use super::*;
+use crate::recorded::{STEPS, file_of, input_of, record, replay};
+use disk_mem::Fails;
+use dp_report::Status;
+use std::alloc::Global;
+use std::test::Fail;
+
+// How many bytes there are, as a journal has it.
+fn length_of(bytes: &[u8]) -> [u8; 4] {
+    let count = bytes.len().min(u32::MAX as usize) as u32;
+    u32::to_le_bytes(count)
+}
+
+// The journal of a guest of these words whose records have these bodies.
+fn journal_of(alloc: Global, words: &[u32], bodies: &[&[u8]]) -> Result<Vec<u8>, Fail> {
+    let guest = file_of(alloc, words)?;
+    let mut journal = b"\x01DPJ1".to_vec(alloc)?;
+    journal.extend_from_slice(&length_of(&guest))?;
+    journal.extend_from_slice(&guest)?;
+    for body in bodies {
+        journal.push(1)?;
+        journal.extend_from_slice(&length_of(body))?;
+        journal.extend_from_slice(body)?;
+    }
+    journal.push(0)?;
+    Ok(journal)
+}
+
+// The bodies of epochs of one slice of thread 1: three steps; two, of which one reads `abc`; three, of which the first sees the end; and
+// five, of which one takes a reading of 5.
+const BEFORE: &[u8] = b"\x00\x01\x00\x00\x00\x01\x00\x03\x00\x00\x00\x00\x00\x00\x00";
+
+const READS: &[u8] = b"\x00\x01\x00\x00\x00\x01\x00\x02\x00\x00\x00\x01\x00\x00\x00\x00\x03\x00abc";
+
+const SEES_END: &[u8] = b"\x00\x01\x00\x00\x00\x01\x00\x03\x00\x00\x00\x01\x00\x00\x00\x00\x00\x00";
+
+const TAKES_READING: &[u8] =
+    b"\x00\x01\x00\x00\x00\x01\x00\x05\x00\x00\x00\x01\x00\x00\x00\x01\x05\x00\x00\x00\x00\x00\x00\x00";
+
+// Whether a recording writes the journal of these bodies.
+fn is_written(
+    rt: &HostRuntime,
+    words: &[u32],
+    pieces: &[&[u8]],
+    clocks: &[u64],
+    bodies: &[&[u8]],
+) -> Result<bool, Fail> {
+    let input = input_of(rt.alloc(), pieces, clocks, Fails::Never)?;
+    let seen = record(rt, words, input, STEPS)?;
+    let journal = journal_of(rt.alloc(), words, bodies)?;
+    Ok(seen.status == Status::Ok && seen.journal == journal)
+}
+
+#[test]
+fn journals_of_recordings(rt: HostRuntime) -> Result<(), Fail> {
+    let reads: &[&[u8]] = &[BEFORE, READS, SEES_END];
+    assert!(rt; is_written(&rt, &READS_TWICE, &[b"abc"], &[], reads)?);
+    assert!(rt; is_written(&rt, &READS_TWICE, &[b"abc"], &[9, 8], reads)?);
+    assert!(rt; is_written(&rt, &READS_CLOCK, &[], &[5], &[TAKES_READING])?);
+    assert!(rt; is_written(&rt, &READS_CLOCK, &[b"abc"], &[5, 6], &[TAKES_READING])?);
+    let exits: &[&[u8]] = &[BEFORE];
+    assert!(rt; is_written(&rt, &EXITS, &[], &[], exits)?);
+    assert!(rt; is_written(&rt, &EXITS, &[b"abc", b"", b"d"], &[5, 6], exits)?);
+    Ok(())
+}
+
+// The status of a replay of these bodies, where it sends this on Note and nothing on Out.
+fn plays(rt: &HostRuntime, words: &[u32], bodies: &[&[u8]], note: &[u8]) -> Result<Status, Fail> {
+    let journal = journal_of(rt.alloc(), words, bodies)?;
+    let seen = replay(rt, &journal)?;
+    if !seen.sent.is_empty() || seen.noted.as_slice() != note {
+        return Err("the replay's output and its note".into());
+    }
+    Ok(seen.status)
+}
+
+#[test]
+fn journals_with_other_answers(rt: HostRuntime) -> Result<(), Fail> {
+    // the guest, the bodies; the status, and the note
+    let cases: [(&[u32], &[&[u8]], Status, &[u8]); 13] = [
+        (
+            &READS_TWICE,
+            &[BEFORE, READS, SEES_END],
+            Status::Ok,
+            b"epochs 3 squashes 0 steps 8 sent 0 end exit 0 state 44e085ae0ee54d6520e1458b2e88945eb49ddcda4841a97589c6f175eb5502b3\n",
+        ),
+        // As many bytes as are asked for, one more, and a reading of the clock.
+        (
+            &READS_TWICE,
+            &[
+                BEFORE,
+                b"\x00\x01\x00\x00\x00\x01\x00\x02\x00\x00\x00\x01\x00\x00\x00\x00\n\x00abcdefghij",
+                SEES_END,
+            ],
+            Status::Ok,
+            b"epochs 3 squashes 0 steps 8 sent 0 end exit 0 state c020bf25b2306e7390f7cc7b27bd2d935306697b8cd97e7e07d0e26f00385a90\n",
+        ),
+        (
+            &READS_TWICE,
+            &[
+                BEFORE,
+                b"\x00\x01\x00\x00\x00\x01\x00\x02\x00\x00\x00\x01\x00\x00\x00\x00\x0b\x00abcdefghijk",
+                SEES_END,
+            ],
+            Status::BadEpoch(2),
+            b"dpcli: record 2 does not run\n",
+        ),
+        (
+            &READS_TWICE,
+            &[
+                BEFORE,
+                b"\x00\x01\x00\x00\x00\x01\x00\x02\x00\x00\x00\x01\x00\x00\x00\x01\x05\x00\x00\x00\x00\x00\x00\x00",
+                SEES_END,
+            ],
+            Status::BadEpoch(2),
+            b"dpcli: record 2 does not run\n",
+        ),
+        // No answer, and one more than is taken.
+        (
+            &READS_TWICE,
+            &[
+                BEFORE,
+                b"\x00\x01\x00\x00\x00\x01\x00\x02\x00\x00\x00\x00\x00\x00\x00",
+                SEES_END,
+            ],
+            Status::BadEpoch(2),
+            b"dpcli: record 2 does not run\n",
+        ),
+        (
+            &READS_TWICE,
+            &[
+                BEFORE,
+                b"\x00\x01\x00\x00\x00\x01\x00\x02\x00\x00\x00\x02\x00\x00\x00\x00\x03\x00abc\x00\x00\x00",
+                SEES_END,
+            ],
+            Status::BadEpoch(2),
+            b"dpcli: record 2 does not run\n",
+        ),
+        (
+            &READS_TWICE,
+            &[
+                b"\x00\x01\x00\x00\x00\x01\x00\x03\x00\x00\x00\x01\x00\x00\x00\x00\x00\x00",
+                READS,
+                SEES_END,
+            ],
+            Status::BadEpoch(1),
+            b"dpcli: record 1 does not run\n",
+        ),
+        // The same of the third record.
+        (
+            &READS_TWICE,
+            &[
+                BEFORE,
+                READS,
+                b"\x00\x01\x00\x00\x00\x01\x00\x03\x00\x00\x00\x01\x00\x00\x00\x01\x05\x00\x00\x00\x00\x00\x00\x00",
+            ],
+            Status::BadEpoch(3),
+            b"dpcli: record 3 does not run\n",
+        ),
+        (
+            &READS_TWICE,
+            &[
+                BEFORE,
+                READS,
+                b"\x00\x01\x00\x00\x00\x01\x00\x03\x00\x00\x00\x01\x00\x00\x00\x00\x0b\x00abcdefghijk",
+            ],
+            Status::BadEpoch(3),
+            b"dpcli: record 3 does not run\n",
+        ),
+        // A clock that takes a reading, bytes, and nothing.
+        (
+            &READS_CLOCK,
+            &[TAKES_READING],
+            Status::Ok,
+            b"epochs 1 squashes 0 steps 5 sent 0 end exit 0 state b8ed83f765e58375078dad9a8cfb76d7b20442f76bdcc357e2731adabac6a29f\n",
+        ),
+        (
+            &READS_CLOCK,
+            &[b"\x00\x01\x00\x00\x00\x01\x00\x05\x00\x00\x00\x01\x00\x00\x00\x00\x00\x00"],
+            Status::BadEpoch(1),
+            b"dpcli: record 1 does not run\n",
+        ),
+        (
+            &READS_CLOCK,
+            &[b"\x00\x01\x00\x00\x00\x01\x00\x05\x00\x00\x00\x01\x00\x00\x00\x00\x08\x00abcdefgh"],
+            Status::BadEpoch(1),
+            b"dpcli: record 1 does not run\n",
+        ),
+        (
+            &READS_CLOCK,
+            &[b"\x00\x01\x00\x00\x00\x01\x00\x05\x00\x00\x00\x00\x00\x00\x00"],
+            Status::BadEpoch(1),
+            b"dpcli: record 1 does not run\n",
+        ),
+    ];
+    for (words, bodies, status, note) in cases {
+        assert_eq!(rt; plays(&rt, words, bodies, note)?, status);
+    }
+    Ok(())
+}

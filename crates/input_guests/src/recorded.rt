@@ -1,0 +1,196 @@
+// A recording of a guest with an input and a clock in memory, and its replay.
+use disk_mem::{CallNumbers, Fails, MemFiles, MemInlet, MemWorld, NamedFile};
+use disk_model::Stream;
+use dp_report::Status;
+use dp_top::run;
+use std::alloc::{AllocError, Global};
+use std::test::Fail;
+
+// A file's headers up to p_filesz, and those behind p_memsz: ELF32, little-endian, RISC-V, one segment that is the whole file at
+// 00010000, entry 00010054.
+const HEADERS_START: [u8; 68] = [
+    0x7f, 0x45, 0x4c, 0x46, 0x01, 0x01, 0x01, 0x00, 0x00, 0x00, 0x00, 0x00, 0x00, 0x00, 0x00, 0x00,
+    0x02, 0x00, 0xf3, 0x00, 0x01, 0x00, 0x00, 0x00, 0x54, 0x00, 0x01, 0x00, 0x34, 0x00, 0x00, 0x00,
+    0x00, 0x00, 0x00, 0x00, 0x00, 0x00, 0x00, 0x00, 0x34, 0x00, 0x20, 0x00, 0x01, 0x00, 0x00, 0x00,
+    0x00, 0x00, 0x00, 0x00, 0x01, 0x00, 0x00, 0x00, 0x00, 0x00, 0x00, 0x00, 0x00, 0x00, 0x01, 0x00,
+    0x00, 0x00, 0x01, 0x00,
+];
+
+const HEADERS_END: [u8; 8] = [0x05, 0x00, 0x00, 0x00, 0x00, 0x10, 0x00, 0x00];
+
+// The file of a guest of these words.
+pub(crate) fn file_of(alloc: Global, words: &[u32]) -> Result<Vec<u8>, AllocError> {
+    let size = words.len().min(1000) as u32 * 4 + 84;
+    let mut file = HEADERS_START.to_vec(alloc)?;
+    file.extend_from_slice(&size.to_le_bytes())?;
+    file.extend_from_slice(&size.to_le_bytes())?;
+    file.extend_from_slice(&HEADERS_END)?;
+    for word in words {
+        file.extend_from_slice(&word.to_le_bytes())?;
+    }
+    Ok(file)
+}
+
+// The take with this number fails.
+pub(crate) fn at(alloc: Global, number: u64) -> Result<Fails, Fail> {
+    Ok(Fails::At(CallNumbers::from_vec([number].to_vec(alloc)?)))
+}
+
+// What is around a recording.
+#[derive(Drop)]
+pub(crate) struct Input {
+    pub pieces: Vec<Vec<u8>>,
+    pub clocks: Vec<u64>,
+    pub fails: Fails,
+}
+
+// An input of these pieces, some of whose takes fail, and a clock with these readings.
+pub(crate) fn input_of(
+    alloc: Global,
+    pieces: &[&[u8]],
+    clocks: &[u64],
+    fails: Fails,
+) -> Result<Input, Fail> {
+    let mut owned = Vec::new(alloc);
+    for piece in pieces {
+        owned.push(piece.to_vec(alloc)?)?;
+    }
+    Ok(Input {
+        pieces: owned,
+        clocks: clocks.to_vec(alloc)?,
+        fails,
+    })
+}
+
+// What a run came to, and what it left.
+#[derive(Drop)]
+pub(crate) struct Seen {
+    pub status: Status,
+    pub sent: Vec<u8>,
+    pub noted: Vec<u8>,
+    pub journal: Vec<u8>,
+    pub takes: u64,
+}
+
+fn look_at(alloc: Global, world: &MemWorld, status: Status, takes: u64) -> Result<Seen, Fail> {
+    Ok(Seen {
+        status,
+        sent: world.sent(Stream::Out).to_vec(alloc)?,
+        noted: world.sent(Stream::Note).to_vec(alloc)?,
+        journal: world.bytes().to_vec(alloc)?,
+        takes,
+    })
+}
+
+// A run by these words, on a disk with these bytes, where `g` is this file.
+fn ran(
+    rt: &HostRuntime,
+    words: &[&str],
+    file: Vec<u8>,
+    input: Input,
+    disk: &[u8],
+) -> Result<Seen, Fail> {
+    let alloc = rt.alloc();
+    let mut texts = Vec::new(alloc);
+    for word in words {
+        texts.push(String::from_str(alloc, word)?)?;
+    }
+    let mut named = Vec::new(alloc);
+    named.push(NamedFile {
+        name: String::from_str(alloc, "g")?,
+        bytes: file,
+    })?;
+    let mut files = MemFiles::new(named, Fails::Never);
+    let mut inlet = MemInlet::new(input.pieces, input.clocks, input.fails);
+    let world = MemWorld::new(alloc, Fails::Never, Fails::Never, 65_536)?.of_disk(alloc, disk)?;
+    let (after, status) = run(rt, alloc, &texts, &mut files, &mut inlet, world);
+    look_at(alloc, &after, status, inlet.takes())
+}
+
+// The steps of an epoch and of a slice at most, if no option says.
+pub(crate) const STEPS: (&str, &str) = ("20000", "1000");
+
+// A recording of a guest of these words, on an empty disk, with so many steps of an epoch and of a slice at most.
+pub(crate) fn record(
+    rt: &HostRuntime,
+    words: &[u32],
+    input: Input,
+    steps: (&str, &str),
+) -> Result<Seen, Fail> {
+    let file = file_of(rt.alloc(), words)?;
+    let asked = [
+        "dpcli", "record", "g", "j", "--epoch", steps.0, "--slice", steps.1,
+    ];
+    ran(rt, &asked, file, input, &[])
+}
+
+// A replay of a journal, with no input and no file.
+pub(crate) fn replay(rt: &HostRuntime, journal: &[u8]) -> Result<Seen, Fail> {
+    let alloc = rt.alloc();
+    let none = input_of(alloc, &[], &[], Fails::Never)?;
+    ran(
+        rt,
+        &["dpcli", "replay", "j"],
+        Vec::new(alloc),
+        none,
+        journal,
+    )
+}
+
+// What a recording came to and its replay: both statuses, the journal's bytes, and how often the input was asked.
+#[derive(Clone, Copy, Debug, PartialEq, Eq)]
+pub(crate) struct Came {
+    pub status: Status,
+    pub replayed: Status,
+    pub journal: usize,
+    pub takes: u64,
+}
+
+// The same, where both send this on Out, and the recording sends the one line on Note and the replay the other.
+pub(crate) fn came_to(
+    rt: &HostRuntime,
+    words: &[u32],
+    input: Input,
+    steps: (&str, &str),
+    out: &[u8],
+    notes: (&[u8], &[u8]),
+) -> Result<Came, Fail> {
+    let seen = record(rt, words, input, steps)?;
+    if seen.sent.as_slice() != out || seen.noted.as_slice() != notes.0 {
+        return Err("the recording's output and its note".into());
+    }
+    let again = replay(rt, &seen.journal)?;
+    if again.sent.as_slice() != out || again.noted.as_slice() != notes.1 {
+        return Err("the replay's output and its note".into());
+    }
+    Ok(Came {
+        status: seen.status,
+        replayed: again.status,
+        journal: seen.journal.len(),
+        takes: seen.takes,
+    })
+}
+
+// What a recording that meets no fault came to.
+pub(crate) fn recorded(
+    rt: &HostRuntime,
+    words: &[u32],
+    pieces: &[&[u8]],
+    clocks: &[u64],
+    steps: (&str, &str),
+    out: &[u8],
+    note: &[u8],
+) -> Result<Came, Fail> {
+    let input = input_of(rt.alloc(), pieces, clocks, Fails::Never)?;
+    came_to(rt, words, input, steps, out, (note, note))
+}
+
+// A recording and its replay that both answer Ok.
+pub(crate) fn ok(journal: usize, takes: u64) -> Came {
+    Came {
+        status: Status::Ok,
+        replayed: Status::Ok,
+        journal,
+        takes,
+    }
+}

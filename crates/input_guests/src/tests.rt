@@ -1,0 +1,636 @@
+// Guests that read input and call for the clock, recorded and replayed. The values come from a model apart from ours, which runs the
+// words by the ISA's text, the input by its pieces, and the schedule by its rules.
+use super::*;
+use crate::recorded::{Came, Input, STEPS, came_to, ok, recorded};
+use disk_mem::Fails;
+use std::alloc::Global;
+use std::test::Fail;
+
+#[test]
+fn two_reads(rt: HostRuntime) -> Result<(), Fail> {
+    // the pieces, the clock, and the steps of an epoch and of a slice at most; the journal's bytes and how many takes, the output, and the note
+    let cases: [(&[&[u8]], &[u64], (&str, &str), Came, &[u8], &[u8]); 7] = [
+        // The second read sees the end.
+        (
+            &[b"abc"],
+            &[],
+            ("20000", "1000"),
+            ok(195, 2),
+            b"",
+            b"epochs 3 squashes 0 steps 8 sent 0 end exit 0 state 44e085ae0ee54d6520e1458b2e88945eb49ddcda4841a97589c6f175eb5502b3\n",
+        ),
+        // It gets the second piece, and asks no further.
+        (
+            &[b"a", b"bc"],
+            &[],
+            ("20000", "1000"),
+            ok(195, 2),
+            b"",
+            b"epochs 3 squashes 0 steps 8 sent 0 end exit 2 state eadbb7a1aa17878ff239ffbc9f6c285743e6d276e04a7b6f2b42a812364cf060\n",
+        ),
+        // Its ten bytes are in the window.
+        (
+            &[b"abcdefghijklmnopqrstuvw"],
+            &[],
+            ("20000", "1000"),
+            ok(192, 1),
+            b"",
+            b"epochs 2 squashes 0 steps 8 sent 0 end exit 10 state ebdabd40f7f9180b4ef343ff384b63d8057b018b887f3ff226ec04c1cbf1a487\n",
+        ),
+        // The window has fewer.
+        (
+            &[b"abcdefghijklm"],
+            &[],
+            ("20000", "1000"),
+            ok(185, 1),
+            b"",
+            b"epochs 2 squashes 0 steps 8 sent 0 end exit 3 state a88f5e99b797a4c3d10443adf230594b1e60c4c0a68636f37f6ca05a67352167\n",
+        ),
+        // An empty piece is the end, for good.
+        (
+            &[b"", b"a", b"b"],
+            &[],
+            ("20000", "1000"),
+            ok(172, 1),
+            b"",
+            b"epochs 2 squashes 0 steps 8 sent 0 end exit 0 state b09f93cae3814db351d3cc2cf377fc7bb84e4df237822d0f1279d1eb06a9bc22\n",
+        ),
+        // No piece.
+        (
+            &[],
+            &[],
+            ("20000", "1000"),
+            ok(172, 1),
+            b"",
+            b"epochs 2 squashes 0 steps 8 sent 0 end exit 0 state b09f93cae3814db351d3cc2cf377fc7bb84e4df237822d0f1279d1eb06a9bc22\n",
+        ),
+        // Epochs of one step.
+        (
+            &[b"a", b"bc"],
+            &[],
+            ("1", "1"),
+            ok(295, 2),
+            b"",
+            b"epochs 8 squashes 0 steps 8 sent 0 end exit 2 state eadbb7a1aa17878ff239ffbc9f6c285743e6d276e04a7b6f2b42a812364cf060\n",
+        ),
+    ];
+    for (pieces, clocks, steps, wanted, out, note) in cases {
+        let came = recorded(&rt, &READS_TWICE, pieces, clocks, steps, out, note)?;
+        assert_eq!(rt; came, wanted);
+    }
+    Ok(())
+}
+
+// What a guest doesn't ask for changes nothing.
+#[test]
+fn no_input_is_asked_for(rt: HostRuntime) -> Result<(), Fail> {
+    // the pieces, the clock, and the steps of an epoch and of a slice at most; the journal's bytes and how many takes, the output, and the note
+    let cases: [(&[&[u8]], &[u64], (&str, &str), Came, &[u8], &[u8]); 3] = [
+        (
+            &[],
+            &[],
+            ("20000", "1000"),
+            ok(126, 0),
+            b"",
+            b"epochs 1 squashes 0 steps 3 sent 0 end exit 7 state 7721bc1cff3d699bd42bce08f27668ac407481c96f7b1c17878d62bfbd540ce7\n",
+        ),
+        (
+            &[b"abc", b"d"],
+            &[7, 8],
+            ("20000", "1000"),
+            ok(126, 0),
+            b"",
+            b"epochs 1 squashes 0 steps 3 sent 0 end exit 7 state 7721bc1cff3d699bd42bce08f27668ac407481c96f7b1c17878d62bfbd540ce7\n",
+        ),
+        (
+            &[b""],
+            &[0xffffffffffffffff],
+            ("20000", "1000"),
+            ok(126, 0),
+            b"",
+            b"epochs 1 squashes 0 steps 3 sent 0 end exit 7 state 7721bc1cff3d699bd42bce08f27668ac407481c96f7b1c17878d62bfbd540ce7\n",
+        ),
+    ];
+    for (pieces, clocks, steps, wanted, out, note) in cases {
+        let came = recorded(&rt, &EXITS, pieces, clocks, steps, out, note)?;
+        assert_eq!(rt; came, wanted);
+    }
+    Ok(())
+}
+
+#[test]
+fn edges_of_a_read(rt: HostRuntime) -> Result<(), Fail> {
+    // the pieces, the clock, and the steps of an epoch and of a slice at most; the journal's bytes and how many takes, the output, and the note
+    let cases: [(&[&[u8]], &[u64], (&str, &str), Came, &[u8], &[u8]); 4] = [
+        // What the read that may not write would have got, the next one gets.
+        (
+            &[b"abcdef", b"g"],
+            &[],
+            ("20000", "1000"),
+            ok(338, 1),
+            b"\x00\x00\x00\x00\xf7\xff\xff\xff\xf2\xff\xff\xff\xf2\xff\xff\xff\x03\x00\x00\x00\x03\x00\x00\x00abcdef",
+            b"epochs 2 squashes 0 steps 48 sent 30 end exit 0 state 10a8f51b0d7b212ab83eaaa746a5e86d5ba097f7979c15ce8f6b628663cbcabb\n",
+        ),
+        (
+            &[b"ab", b"cd", b"e"],
+            &[],
+            ("20000", "1000"),
+            ok(356, 2),
+            b"\x00\x00\x00\x00\xf7\xff\xff\xff\xf2\xff\xff\xff\xf2\xff\xff\xff\x02\x00\x00\x00\x02\x00\x00\x00ab\x00cd",
+            b"epochs 3 squashes 0 steps 48 sent 29 end exit 0 state 8c7d1d899af187eb348d2b3ca34f77b496ab8a49722796913fa11b3d7a3f9077\n",
+        ),
+        (
+            &[],
+            &[],
+            ("20000", "1000"),
+            ok(332, 1),
+            b"\x00\x00\x00\x00\xf7\xff\xff\xff\xf2\xff\xff\xff\xf2\xff\xff\xff\x00\x00\x00\x00\x00\x00\x00\x00\x00\x00\x00",
+            b"epochs 2 squashes 0 steps 48 sent 27 end exit 0 state d62b9144f2224468b675bc2af0b7922c6aee7d4f276a244b0b7b51bc4c6aec1a\n",
+        ),
+        (
+            &[b"abcdef"],
+            &[],
+            ("10", "3"),
+            ok(482, 1),
+            b"\x00\x00\x00\x00\xf7\xff\xff\xff\xf2\xff\xff\xff\xf2\xff\xff\xff\x03\x00\x00\x00\x03\x00\x00\x00abcdef",
+            b"epochs 5 squashes 0 steps 48 sent 30 end exit 0 state 10a8f51b0d7b212ab83eaaa746a5e86d5ba097f7979c15ce8f6b628663cbcabb\n",
+        ),
+    ];
+    for (pieces, clocks, steps, wanted, out, note) in cases {
+        let came = recorded(&rt, &READ_EDGES, pieces, clocks, steps, out, note)?;
+        assert_eq!(rt; came, wanted);
+    }
+    Ok(())
+}
+
+#[test]
+fn two_readers(rt: HostRuntime) -> Result<(), Fail> {
+    // the pieces, the clock, and the steps of an epoch and of a slice at most; the journal's bytes and how many takes, the output, and the note
+    let cases: [(&[&[u8]], &[u64], (&str, &str), Came, &[u8], &[u8]); 10] = [
+        // Thread 2 sees the end first.
+        (
+            &[b"abcde", b"fgh"],
+            &[],
+            ("20000", "5"),
+            ok(423, 3),
+            b"2ab1cd2e1fg2h",
+            b"epochs 4 squashes 0 steps 96 sent 13 end exit 2 state 7fa449118f61724f02ed0cb49bfe057b4c5677cab9aa25f6f218eb005b9d98b1\n",
+        ),
+        (
+            &[b"abcde", b"fgh"],
+            &[],
+            ("20000", "1"),
+            ok(867, 3),
+            b"2ab1cd2e1fg2h",
+            b"epochs 4 squashes 0 steps 96 sent 13 end exit 2 state 7fa449118f61724f02ed0cb49bfe057b4c5677cab9aa25f6f218eb005b9d98b1\n",
+        ),
+        (
+            &[b"abcde", b"fgh"],
+            &[],
+            ("20000", "2"),
+            ok(591, 3),
+            b"2ab1cd2e1fg2h",
+            b"epochs 4 squashes 0 steps 96 sent 13 end exit 2 state 7fa449118f61724f02ed0cb49bfe057b4c5677cab9aa25f6f218eb005b9d98b1\n",
+        ),
+        (
+            &[b"abcde", b"fgh"],
+            &[],
+            ("20000", "7"),
+            ok(393, 3),
+            b"2ab1cd2e1fg2h",
+            b"epochs 4 squashes 0 steps 96 sent 13 end exit 2 state 7fa449118f61724f02ed0cb49bfe057b4c5677cab9aa25f6f218eb005b9d98b1\n",
+        ),
+        (
+            &[b"abcde", b"fgh"],
+            &[],
+            ("20000", "11"),
+            ok(375, 3),
+            b"2ab1cd2e1fg2h",
+            b"epochs 4 squashes 0 steps 96 sent 13 end exit 2 state 7fa449118f61724f02ed0cb49bfe057b4c5677cab9aa25f6f218eb005b9d98b1\n",
+        ),
+        (
+            &[b"abcde", b"fgh"],
+            &[],
+            ("20000", "1000"),
+            ok(327, 3),
+            b"1ab1cd1e2fg2h",
+            b"epochs 4 squashes 0 steps 96 sent 13 end exit 2 state b61618284b47c5ee64f3fc374675e144de067f172b4f1d4867be7ad04cfe6321\n",
+        ),
+        // Epochs end between.
+        (
+            &[b"abcde", b"fgh"],
+            &[],
+            ("9", "4"),
+            ok(575, 3),
+            b"1cd2ab2e1fg1h",
+            b"epochs 11 squashes 0 steps 96 sent 13 end exit 1 state 9c8da26d1fd605f764b138833213cdce86c3c143e6f9bb6b1d5f73f9a21c4c0a\n",
+        ),
+        (
+            &[b"a", b"b", b"c"],
+            &[],
+            ("1", "3"),
+            ok(1_664, 4),
+            b"2a1b2c",
+            b"epochs 72 squashes 0 steps 72 sent 6 end exit 2 state ad66040abd9c1142b5979ea27f4976c050f8f7da9c2926d8ed9ae64e8b02232c\n",
+        ),
+        (
+            &[b"abcdefghijkl"],
+            &[],
+            ("20000", "6"),
+            ok(398, 2),
+            b"1ab2cd1ef2gh1ij2kl",
+            b"epochs 3 squashes 0 steps 108 sent 18 end exit 2 state e382ef92b5e72a4e14a3e7b8bec57bde1880e8353a8318e68794158e9ef61f6b\n",
+        ),
+        (
+            &[],
+            &[],
+            ("20000", "6"),
+            ok(282, 1),
+            b"",
+            b"epochs 2 squashes 0 steps 36 sent 0 end exit 2 state 7e624c10e637395b8384900c47747d1bcf93ff924fef1cdd1f061adc5a407e88\n",
+        ),
+    ];
+    for (pieces, clocks, steps, wanted, out, note) in cases {
+        let came = recorded(&rt, &TWO_READERS, pieces, clocks, steps, out, note)?;
+        assert_eq!(rt; came, wanted);
+    }
+    Ok(())
+}
+
+#[test]
+fn a_reader_and_a_counter(rt: HostRuntime) -> Result<(), Fail> {
+    // the pieces, the clock, and the steps of an epoch and of a slice at most; the journal's bytes and how many takes, the output, and the note
+    let cases: [(&[&[u8]], &[u64], (&str, &str), Came, &[u8], &[u8]); 6] = [
+        // While thread 2 waits, thread 1 goes on, to the epoch's end.
+        (
+            &[b"ab", b"c"],
+            &[],
+            ("10", "1000"),
+            ok(463, 3),
+            b"abc",
+            b"epochs 9 squashes 0 steps 85 sent 3 end exit 2 state 154bc5033b99f5e951ec42bf2618a994376fdaf8946ca6005eff43aff40d4c33\n",
+        ),
+        (
+            &[b"ab", b"c"],
+            &[],
+            ("50", "1000"),
+            ok(465, 3),
+            b"abc",
+            b"epochs 4 squashes 0 steps 155 sent 3 end exit 2 state 28568dbad709cf566ed3b6f6e11953d68171933b5ded126534d190e73078edd5\n",
+        ),
+        (
+            &[b"ab", b"c"],
+            &[],
+            ("50", "2"),
+            ok(771, 3),
+            b"abc",
+            b"epochs 4 squashes 0 steps 158 sent 3 end exit 2 state 0f3044ade5601af1c23e54f17f3a9f29085a6c35813f34668333ad87d0cb8fe6\n",
+        ),
+        (
+            &[b"ab", b"c"],
+            &[],
+            ("7", "3"),
+            ok(677, 3),
+            b"abc",
+            b"epochs 14 squashes 0 steps 95 sent 3 end exit 2 state 7a797d52d15e874f3e96263c8849988d43dd1aa540c3dda5c8f4c08987eecf26\n",
+        ),
+        (
+            &[b"ab", b"c"],
+            &[],
+            ("200", "5"),
+            ok(1_191, 3),
+            b"abc",
+            b"epochs 4 squashes 0 steps 605 sent 3 end exit 2 state 93f488e6ffb6256f5bf786dd2d39af5c97f8440e0d5792c46e114dcbb6e23e20\n",
+        ),
+        (
+            &[],
+            &[],
+            ("30", "1000"),
+            ok(275, 1),
+            b"",
+            b"epochs 2 squashes 0 steps 35 sent 0 end exit 2 state 2971a83dc06e78bee63f0cafd038ac3936d1bde7872c3eedc4fedf5caf2320c9\n",
+        ),
+    ];
+    for (pieces, clocks, steps, wanted, out, note) in cases {
+        let came = recorded(&rt, &READER_AND_COUNTER, pieces, clocks, steps, out, note)?;
+        assert_eq!(rt; came, wanted);
+    }
+    Ok(())
+}
+
+#[test]
+fn readings_of_the_clock(rt: HostRuntime) -> Result<(), Fail> {
+    // the pieces, the clock, and the steps of an epoch and of a slice at most; the journal's bytes and how many takes, the output, and the note
+    let cases: [(&[&[u8]], &[u64], (&str, &str), Came, &[u8], &[u8]); 7] = [
+        // One epoch has one reading.
+        (
+            &[],
+            &[5, 0x123456789abcdef, 0xffffffffffffffff],
+            ("20000", "1000"),
+            ok(205, 0),
+            b"\x05\x00\x00\x00\x00\x00\x00\x00\x05\x00\x00\x00\x00\x00\x00\x00\x05\x00\x00\x00\x00\x00\x00\x00",
+            b"epochs 1 squashes 0 steps 38 sent 24 end exit 0 state c52173df32533c0c40c7a67cd57f82a13e4a038e640c090369b2bb947c53ee13\n",
+        ),
+        // Three epochs, and a fourth past the list.
+        (
+            &[],
+            &[5, 0x123456789abcdef, 0xffffffffffffffff],
+            ("12", "1000"),
+            ok(265, 0),
+            b"\x05\x00\x00\x00\x00\x00\x00\x00\xef\xcd\xab\x89gE#\x01\xff\xff\xff\xff\xff\xff\xff\xff",
+            b"epochs 4 squashes 0 steps 38 sent 24 end exit 0 state 208a609e628bef0f7759fd8bd3e73ac856db9c91f15081531c032c64550fb6fa\n",
+        ),
+        (
+            &[],
+            &[5, 0x123456789abcdef, 0xffffffffffffffff],
+            ("13", "1000"),
+            ok(245, 0),
+            b"\x05\x00\x00\x00\x00\x00\x00\x00\xef\xcd\xab\x89gE#\x01\xef\xcd\xab\x89gE#\x01",
+            b"epochs 3 squashes 0 steps 38 sent 24 end exit 0 state da65b83b79ccae8f9cfc4cc03ed35c757aef2e11cdfafcb27257302f2281e3d8\n",
+        ),
+        // Two calls in the first epoch.
+        (
+            &[],
+            &[5, 0x123456789abcdef],
+            ("15", "1000"),
+            ok(245, 0),
+            b"\x05\x00\x00\x00\x00\x00\x00\x00\x05\x00\x00\x00\x00\x00\x00\x00\xef\xcd\xab\x89gE#\x01",
+            b"epochs 3 squashes 0 steps 38 sent 24 end exit 0 state da65b83b79ccae8f9cfc4cc03ed35c757aef2e11cdfafcb27257302f2281e3d8\n",
+        ),
+        (
+            &[],
+            &[5, 6, 7, 8, 9, 10, 11],
+            ("5", "2"),
+            ok(435, 0),
+            b"\x05\x00\x00\x00\x00\x00\x00\x00\x07\x00\x00\x00\x00\x00\x00\x00\n\x00\x00\x00\x00\x00\x00\x00",
+            b"epochs 8 squashes 0 steps 38 sent 24 end exit 0 state 0aa6d827707f60d0dbd4ffda8d2e58100e3a654c10284c3d4a3e997bbcb63417\n",
+        ),
+        // Past the list the last reading again.
+        (
+            &[],
+            &[0x100000000, 0xffffffff],
+            ("4", "1000"),
+            ok(385, 0),
+            b"\x00\x00\x00\x00\x01\x00\x00\x00\xff\xff\xff\xff\x00\x00\x00\x00\xff\xff\xff\xff\x00\x00\x00\x00",
+            b"epochs 10 squashes 0 steps 38 sent 24 end exit 0 state c1a31eaf2740d16f827a3fb49f1dafd09959d0111471c776d3bc249d05dfb14e\n",
+        ),
+        // No list.
+        (
+            &[],
+            &[],
+            ("20", "1000"),
+            ok(225, 0),
+            b"\x00\x00\x00\x00\x00\x00\x00\x00\x00\x00\x00\x00\x00\x00\x00\x00\x00\x00\x00\x00\x00\x00\x00\x00",
+            b"epochs 2 squashes 0 steps 38 sent 24 end exit 0 state 5e9ef361ebed55af9742a2c5877befa72065d2fd96ade9e66393d3fa3ec32acc\n",
+        ),
+    ];
+    for (pieces, clocks, steps, wanted, out, note) in cases {
+        let came = recorded(&rt, &THREE_READINGS, pieces, clocks, steps, out, note)?;
+        assert_eq!(rt; came, wanted);
+    }
+    Ok(())
+}
+
+#[test]
+fn one_reading(rt: HostRuntime) -> Result<(), Fail> {
+    // the pieces, the clock, and the steps of an epoch and of a slice at most; the journal's bytes and how many takes, the output, and the note
+    let cases: [(&[&[u8]], &[u64], (&str, &str), Came, &[u8], &[u8]); 4] = [
+        (
+            &[],
+            &[5],
+            ("20000", "1000"),
+            ok(143, 0),
+            b"",
+            b"epochs 1 squashes 0 steps 5 sent 0 end exit 0 state b8ed83f765e58375078dad9a8cfb76d7b20442f76bdcc357e2731adabac6a29f\n",
+        ),
+        (
+            &[],
+            &[],
+            ("20000", "1000"),
+            ok(143, 0),
+            b"",
+            b"epochs 1 squashes 0 steps 5 sent 0 end exit 0 state b8ed83f765e58375078dad9a8cfb76d7b20442f76bdcc357e2731adabac6a29f\n",
+        ),
+        (
+            &[],
+            &[0xffffffffffffffff, 0],
+            ("20000", "1000"),
+            ok(143, 0),
+            b"",
+            b"epochs 1 squashes 0 steps 5 sent 0 end exit 0 state 2136e689e357115962e1375b8d30617763bf27c6b92ca01ed0ad90bf8e0b6f0a\n",
+        ),
+        (
+            &[],
+            &[1, 2],
+            ("1", "1000"),
+            ok(223, 0),
+            b"",
+            b"epochs 5 squashes 0 steps 5 sent 0 end exit 0 state b8ed83f765e58375078dad9a8cfb76d7b20442f76bdcc357e2731adabac6a29f\n",
+        ),
+    ];
+    for (pieces, clocks, steps, wanted, out, note) in cases {
+        let came = recorded(&rt, &READS_CLOCK, pieces, clocks, steps, out, note)?;
+        assert_eq!(rt; came, wanted);
+    }
+    Ok(())
+}
+
+// So many bytes, of which none equals those beside it.
+fn bytes_of(alloc: Global, count: u32) -> Result<Vec<u8>, Fail> {
+    let mut bytes = Vec::new(alloc);
+    for number in 0..count {
+        bytes.push((number % 251) as u8)?;
+    }
+    Ok(bytes)
+}
+
+fn cut(alloc: Global, bytes: &[u8], size: usize) -> Result<Vec<Vec<u8>>, Fail> {
+    let mut pieces = Vec::new(alloc);
+    for piece in bytes.chunks(size.max(1)) {
+        pieces.push(piece.to_vec(alloc)?)?;
+    }
+    Ok(pieces)
+}
+
+// The filter that reads so many bytes at a time, with an input of so many bytes in pieces of this size.
+fn filtered(
+    rt: &HostRuntime,
+    many: u32,
+    count: u32,
+    piece: usize,
+    note: &[u8],
+) -> Result<Came, Fail> {
+    let alloc = rt.alloc();
+    let bytes = bytes_of(alloc, count)?;
+    let input = Input {
+        pieces: cut(alloc, &bytes, piece)?,
+        clocks: Vec::new(alloc),
+        fails: Fails::Never,
+    };
+    let mut words = FILTER.to_vec(alloc)?;
+    words.push(many)?;
+    came_to(rt, &words, input, STEPS, &bytes, (note, note))
+}
+
+#[test]
+fn a_filter_of_few_bytes(rt: HostRuntime) -> Result<(), Fail> {
+    // bytes of a read at most, of the input, and of a piece; the journal's bytes and how many takes, and the note
+    let cases: [(u32, u32, usize, Came, &[u8]); 11] = [
+        (
+            1,
+            0,
+            1,
+            ok(217, 1),
+            b"epochs 2 squashes 0 steps 13 sent 0 end exit 0 state ac0b9c28ea4c23af6c6b80d96590681e019e5d6f1031ec44afdcb75863eb2914\n",
+        ),
+        (
+            1,
+            1,
+            1,
+            ok(241, 2),
+            b"epochs 3 squashes 0 steps 25 sent 1 end exit 0 state e1f45c99c2fbc5f8c40fdddc91d73ec6d97306db12270bf2324750c2ba614492\n",
+        ),
+        (
+            1,
+            5,
+            1,
+            ok(337, 6),
+            b"epochs 7 squashes 0 steps 73 sent 5 end exit 0 state 39c045a826299573fd0ba95e8cfbb687af81f1264204aeb731f06bc469af136b\n",
+        ),
+        (
+            1,
+            5,
+            4_095,
+            ok(257, 2),
+            b"epochs 3 squashes 0 steps 73 sent 5 end exit 0 state 39c045a826299573fd0ba95e8cfbb687af81f1264204aeb731f06bc469af136b\n",
+        ),
+        (
+            4_096,
+            0,
+            4_095,
+            ok(217, 1),
+            b"epochs 2 squashes 0 steps 13 sent 0 end exit 0 state fe4cfe624b6878e8442ed8453bf28e68e28b39016aa56c032eb42c20611114dc\n",
+        ),
+        (
+            4_096,
+            1,
+            65_536,
+            ok(241, 2),
+            b"epochs 3 squashes 0 steps 25 sent 1 end exit 0 state 36a285ff52bd4f4d77bbb816e20a0da3b1f08e1ed5700aec6a4e43bf83d9c81a\n",
+        ),
+        (
+            4_096,
+            5,
+            1,
+            ok(337, 6),
+            b"epochs 7 squashes 0 steps 73 sent 5 end exit 0 state de5a0a68676f777b9ed8e6ec516178832da275b88a824b0224c718d9d1150d90\n",
+        ),
+        (
+            4_097,
+            5,
+            1,
+            ok(337, 6),
+            b"epochs 7 squashes 0 steps 73 sent 5 end exit 0 state 052506ec70beea0a7e57d2515436e41f977bf56a48ef38e22fc5f786a5c20640\n",
+        ),
+        (
+            4_096,
+            4_095,
+            4_095,
+            ok(4_335, 2),
+            b"epochs 3 squashes 0 steps 25 sent 4095 end exit 0 state 4d174474e82d2e0490d5a4017956b9ec77db53b679584295960debfc21ac700a\n",
+        ),
+        (
+            4_096,
+            4_095,
+            65_536,
+            ok(4_335, 2),
+            b"epochs 3 squashes 0 steps 25 sent 4095 end exit 0 state 4d174474e82d2e0490d5a4017956b9ec77db53b679584295960debfc21ac700a\n",
+        ),
+        (
+            4_097,
+            4_095,
+            4_095,
+            ok(4_335, 2),
+            b"epochs 3 squashes 0 steps 25 sent 4095 end exit 0 state f2d6cdf0cb0b39a41d6c645dad492c28f76102189166482ebd17d223b0cbab3c\n",
+        ),
+    ];
+    for (many, count, piece, wanted, note) in cases {
+        assert_eq!(rt;
+            filtered(&rt, many, count, piece, note)?,
+            wanted,
+            "{many} {count} {piece}"
+        );
+    }
+    Ok(())
+}
+
+#[test]
+fn a_filter_of_many_bytes(rt: HostRuntime) -> Result<(), Fail> {
+    // bytes of a read at most, of the input, and of a piece; the journal's bytes and how many takes, and the note
+    let cases: [(u32, u32, usize, Came, &[u8]); 8] = [
+        (
+            4_096,
+            65_535,
+            65_536,
+            ok(65_820, 2),
+            b"epochs 3 squashes 0 steps 205 sent 65535 end exit 0 state 338a8068b8ded067626d790286c07f2fcac52d43abc3a32542bd67149c869efa\n",
+        ),
+        (
+            4_096,
+            65_536,
+            65_536,
+            ok(65_841, 2),
+            b"epochs 4 squashes 0 steps 205 sent 65536 end exit 0 state 7449a1c4231499243760d0b33c928e552643e78ff2bfcf88ad76ed712773a9df\n",
+        ),
+        (
+            4_096,
+            65_537,
+            65_536,
+            ok(65_865, 3),
+            b"epochs 5 squashes 0 steps 217 sent 65537 end exit 0 state af2f1bbf8b1f2a4420b5a7fee6920db5e2eca388e47d8dcb0730afad2b78f015\n",
+        ),
+        (
+            4_097,
+            65_537,
+            65_536,
+            ok(65_865, 3),
+            b"epochs 5 squashes 0 steps 217 sent 65537 end exit 0 state e534c36824621684baad65ef7cb92a24dab47f56ca2a0e8b72fe110e74204f33\n",
+        ),
+        (
+            4_096,
+            65_536,
+            4_095,
+            ok(66_144, 18),
+            b"epochs 19 squashes 0 steps 217 sent 65536 end exit 0 state ab8068d76bbda96a7c811f2d7602504049ce21c1951210287e242e40e2951f1e\n",
+        ),
+        (
+            4_097,
+            65_535,
+            4_095,
+            ok(66_143, 18),
+            b"epochs 19 squashes 0 steps 217 sent 65535 end exit 0 state 6b5df3b7d20f10015a7606be9ac5d6775a736959b50c5dc102bd7ca8292c5b07\n",
+        ),
+        (
+            4_096,
+            65_537,
+            4_095,
+            ok(66_145, 18),
+            b"epochs 19 squashes 0 steps 217 sent 65537 end exit 0 state 5e411549613d987669f140001bc78e7f783ecd551a359bbf67c8e25de51fbf19\n",
+        ),
+        (
+            4_096,
+            200_000,
+            65_536,
+            ok(200_504, 5),
+            b"epochs 9 squashes 0 steps 601 sent 200000 end exit 0 state 4ff47d986cd0cc4aea4eb1b9c142acc9e7323ed843e991fcb35fde5db6208455\n",
+        ),
+    ];
+    for (many, count, piece, wanted, note) in cases {
+        assert_eq!(rt;
+            filtered(&rt, many, count, piece, note)?,
+            wanted,
+            "{many} {count} {piece}"
+        );
+    }
+    Ok(())
+}
