@@ -191,6 +191,8 @@ pub const THREE_READINGS: [u32; 16] = [
 #[cfg(test)]
 mod fault_tests;
 #[cfg(test)]
+mod filter_tests;
+#[cfg(test)]
 mod journal_tests;
 #[cfg(test)]
 mod recorded;
