@@ -1,0 +1,29 @@
+//! The outside as it is: a journal's file with standard output and standard error, standard input with the system's clock,
+//! and files by name.
+//!
+//! Promises: each form meets its trait. Of content it tells nothing, so what is proved is that a call fails only where its own
+//! count of faults rises, or is at its greatest value, that no count falls, and that no count is touched by a call of another
+//! kind. What the system does is trusted, and tested. A read or a write that a signal interrupts is tried again, at most
+//! `MAX_TRIES` times in all. Stands on `disk_model` for the traits.
+//!
+//! ```text
+//! let mut files = RealFiles::new(rt);
+//! let mut inlet = RealInlet::new(rt);
+//! let (_, status) = run(&rt, alloc, &words, &mut files, &mut inlet, RealWorld::new(rt));
+//! ```
+#![tactic(auto)]
+
+mod fault_count;
+mod file_at;
+mod real_files;
+mod real_inlet;
+mod real_world;
+mod transfer;
+
+pub use real_files::RealFiles;
+pub use real_inlet::RealInlet;
+pub use real_world::RealWorld;
+pub use transfer::MAX_TRIES;
+
+#[cfg(test)]
+mod tests;

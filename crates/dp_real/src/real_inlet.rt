@@ -1,0 +1,87 @@
+// Standard input, and the system's clock.
+ghost use Rattle.std.specs.Prelude.{◌≡◌, ◌≤◌, ◌-◌, ◌^◌, ◌<◌, Ok, IfOk, IsErr, IsTrue, length, drop, min};
+ghost use Rattle.std.specs.Duration.{as_nanos};
+ghost use Rattle.disk_model.specs.Counts.{Rose};
+
+use crate::fault_count::FaultCount;
+use crate::transfer::read_start;
+use disk_model::{Failed, Inlet};
+use std::io::{Read, Stdin};
+use std::time::{Duration, SystemTime, UNIX_EPOCH};
+
+/// A reader, standard input in a program, and the system's clock.
+///
+/// A take is one read of at most 65,536 bytes: it waits until there is a byte, and gives what is there. Once a read gave the end
+/// it stays the end, and nothing more is read. The clock gives nanoseconds since the beginning of 1970 UTC, as the system's
+/// wall clock has them: 0 before 1970 and where it can't be read, and 2^64 - 1 for all that is later. It may go back.
+#[derive(Drop)]
+pub struct RealInlet<R: Read> {
+    runtime: HostRuntime,
+    pub(crate) reader: R,
+    ended: bool,
+    pub(crate) input_faults: FaultCount,
+}
+
+impl RealInlet<Stdin> {
+    /// Standard input.
+    pub fn new(runtime: HostRuntime) -> RealInlet<Stdin> {
+        RealInlet::of_reader(runtime, runtime.stdin())
+    }
+}
+
+impl<R: Read> RealInlet<R> {
+    /// This reader.
+    pub fn of_reader(runtime: HostRuntime, reader: R) -> RealInlet<R> {
+        RealInlet {
+            runtime,
+            reader,
+            ended: false,
+            input_faults: FaultCount::new(),
+        }
+    }
+}
+
+// What the trait says of a known input holds of none. Beside its other clauses: an end that was seen stays.
+impl<R: Read> Inlet for RealInlet<R> {
+    ghost use Rattle.std.specs.Prelude.{None};
+
+    ghost input = { λ _. None };
+
+    ghost input_faults = { λ i. i.input_faults.faults };
+
+    fn take(&mut self, buf: &mut [u8]) -> Result<usize, Failed>
+        ensures within { IfOk result (λ n. n ≤ length buf.old) }
+        ensures rest { IfOk result (λ n. drop n buf.new ≡ drop n buf.old) }
+        ensures cause { IsErr result → Rose self.old.input_faults.faults self.new.input_faults.faults }
+        ensures count { self.old.input_faults.faults ≤ self.new.input_faults.faults }
+        ensures end { IfOk result (λ n. n ≡ 0 → 0 < length buf.old → IsTrue self.new.ended) }
+        ensures ended { IsTrue self.old.ended → (result ≡ Ok 0) × (self.new ≡ self.old) }
+    {
+        if self.ended || buf.is_empty() {
+            return Ok(0);
+        }
+        let answer = read_start(&mut self.reader, buf);
+        self.ended = answer == Ok(0);
+        self.input_faults.counted(answer)
+    }
+
+    fn clock(&mut self) -> u64 {
+        match SystemTime::now(&self.runtime) {
+            Ok(now) => match now.duration_since(UNIX_EPOCH) {
+                Ok(since_1970) => nanoseconds(since_1970),
+                Err(_) => 0,
+            },
+            Err(_) => 0,
+        }
+    }
+}
+
+/// A time in nanoseconds, at most 2^64 - 1.
+pub fn nanoseconds(time: Duration) -> u64
+    ensures { result ≡ min (as_nanos time) (2 ^ 64 - 1) }
+{
+    match u64::try_from(time.as_nanos()) {
+        Ok(count) => count,
+        Err(_) => u64::MAX,
+    }
+}
