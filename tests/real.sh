@@ -1,0 +1,357 @@
+#!/usr/bin/env bash
+# Runs the built program on real files, pipes and kills. Prints a line for each check that fails and ends with 1 if one did, or if
+# not all were made; else prints how many passed.
+#   tests/real.sh               crates/dpcli/out/dpcli
+#   DPCLI=PROGRAM tests/real.sh another program; not a script around it, which would be killed in its place
+set -u
+here=$(cd "$(dirname "$0")" && pwd)
+guests=$here/../guests
+lines=$here/lines.elf
+dpcli=$(realpath -m "${DPCLI:-$here/../crates/dpcli/out/dpcli}")
+if [[ ! -x $dpcli ]]; then
+  echo "no program: $dpcli"
+  exit 1
+fi
+work=$(mktemp -d) || exit 1
+trap 'rm -rf "$work"' EXIT
+cd "$work" || exit 1
+
+checks=437 # how many there are below; one that isn't made must be missed
+passed=0
+failed=0
+
+# check WHAT COMMAND..: the command must succeed.
+check() {
+  local what=$1
+  shift
+  if "$@"; then
+    passed=$((passed + 1))
+  else
+    failed=$((failed + 1))
+    echo "FAILED: $what"
+  fi
+}
+
+# Runs the program. Leaves its status in $status, its output in the file out, what it says of itself in the file note.
+run() {
+  timeout 60 "$dpcli" "$@" >out 2>note
+  status=$?
+}
+
+ended_with() { [[ $status == "$1" ]]; }
+same() { cmp -s "$1" "$2"; }
+is_empty() { [[ ! -s $1 ]]; }
+is_missing() { [[ ! -e $1 ]]; }
+note_has() { grep -q -F -- "$1" note; }
+bytes_of() { stat -c %s "$1"; }
+is_prefix() { cmp -s -n "$(bytes_of "$1")" "$1" "$2"; }
+is_prefix_either_way() { is_prefix "$1" "$2" || is_prefix "$2" "$1"; }
+
+# replays WHAT JOURNAL OUTPUT: a replay sends exactly this output, and leaves the journal as it is.
+replays() {
+  cp "$2" before
+  run replay "$2" </dev/null
+  check "$1: the replay's status is $status" ended_with 0
+  check "$1: the replay sends another output" same out "$3"
+  check "$1: the replay changes the journal" same "$2" before
+}
+
+# ---- the examples
+
+# example NAME INPUT END: recorded twice and replayed.
+example() {
+  local name=$1 input=$2 end=$3
+  check "$name: there is no $name.out" test -s "$guests/$name.out"
+  run record "$guests/$name.elf" "$name.dpj" <"$input"
+  check "$name: the recording's status is $status" ended_with 0
+  check "$name: another output than $name.out" same out "$guests/$name.out"
+  check "$name: it doesn't end with $end" note_has " end $end state "
+  cp note recorded.note
+  replays "$name" "$name.dpj" "$guests/$name.out"
+  check "$name: the replay's report is another" same note recorded.note
+  run replay "$name.dpj" --workers 4 </dev/null
+  check "$name: with four workers the replay sends another output" same out "$guests/$name.out"
+  run record "$guests/$name.elf" "$name.again" <"$input"
+  check "$name: recorded again the journal is another" same "$name.dpj" "$name.again"
+}
+
+example hello /dev/null "exit 0"
+example filter "$guests/filter.in" "exit 0"
+example counter_locked /dev/null "exit 0"
+example counter_racing /dev/null "exit 0"
+example producer_consumer /dev/null "exit 0"
+example deadlock /dev/null "deadlock"
+
+run record "$guests/clock.elf" clock.dpj </dev/null
+check "clock: the recording's status is $status" ended_with 0
+check "clock: an output of another shape than clock.shape" grep -q -x -E -f "$guests/clock.shape" out
+check "clock: more than a line" test "$(wc -l <out)" = 1
+cp out clock.out
+replays "clock" clock.dpj clock.out
+
+# A guest's file isn't needed any more once it is recorded.
+cp "$guests/hello.elf" gone.elf
+run record gone.elf gone.dpj </dev/null
+rm gone.elf
+replays "without the guest's file" gone.dpj "$guests/hello.out"
+
+# In each schedule the race has a sum of its own, which the replay has too; under the lock it is always the same.
+: >sums
+for slice in 1 7 100 333 900 5000; do
+  run record "$guests/counter_racing.elf" "race$slice.dpj" --slice "$slice" --epoch 7777 </dev/null
+  check "racing in slices of $slice: the status is $status" ended_with 0
+  cp out "race$slice.out"
+  cat out >>sums
+  replays "racing in slices of $slice" "race$slice.dpj" "race$slice.out"
+  run record "$guests/counter_locked.elf" "lock$slice.dpj" --slice "$slice" </dev/null
+  check "locked in slices of $slice: another sum" same out "$guests/counter_locked.out"
+done
+check "racing: the sum is the same in every schedule" test "$(sort -u sums | wc -l)" -gt 1
+
+# ---- the input
+
+yes 'some lines of small letters, 123' | head -c 300001 >long.in
+LC_ALL=C tr a-z A-Z <long.in >long.out
+
+run record "$guests/filter.elf" file.dpj <long.in
+check "input from a file: the status is $status" ended_with 0
+check "input from a file: another output" same out long.out
+replays "input from a file" file.dpj long.out
+
+# odd_pieces: the same input, slowly and in odd pieces.
+odd_pieces() {
+  local place=0 length
+  for length in 1 7 4095 4097 13 65537 2 30000 8191 1 188057; do
+    tail -c "+$((place + 1))" long.in | head -c "$length"
+    place=$((place + length))
+    sleep 0.05
+  done
+}
+odd_pieces >pieces
+check "the pieces aren't the input" same pieces long.in
+run record "$guests/filter.elf" slow.dpj < <(odd_pieces)
+check "input from a slow pipe: the status is $status" ended_with 0
+check "input from a slow pipe: another output" same out long.out
+replays "input from a slow pipe" slow.dpj long.out
+
+: >nothing
+run record "$guests/filter.elf" ended.dpj < <(true)
+check "input from a pipe that is closed at once: the status is $status" ended_with 0
+check "input from a pipe that is closed at once: some output" is_empty out
+replays "input from a pipe that is closed at once" ended.dpj nothing
+
+run record "$guests/filter.elf" closed.dpj <&-
+check "no input at all: the status is $status, not InputFault" ended_with 5
+replays "no input at all" closed.dpj nothing
+
+run record "$guests/filter.elf" folder_in.dpj <"$work"
+check "a folder as the input: the status is $status, not InputFault" ended_with 5
+replays "a folder as the input" folder_in.dpj nothing
+
+# A guest that doesn't read doesn't wait for a pipe into which nobody writes.
+mkfifo silent
+exec 8<>silent
+run record "$guests/hello.elf" silent.dpj <silent
+exec 8<&-
+check "a guest that doesn't read waits for input: the status is $status" ended_with 0
+
+# ---- the output
+
+# into_closed_pipe WORDS..: into a pipe that nobody reads.
+mkfifo broken
+into_closed_pipe() {
+  exec 7<>broken 9>broken 7>&-
+  timeout 60 "$dpcli" "$@" >&9 2>note </dev/null
+  status=$?
+  exec 9>&-
+}
+
+into_closed_pipe record "$guests/hello.elf" closed_pipe.dpj
+check "recorded into a closed pipe: the status is $status, not OutputFault" ended_with 7
+replays "recorded into a closed pipe" closed_pipe.dpj "$guests/hello.out"
+into_closed_pipe replay closed_pipe.dpj
+check "replayed into a closed pipe: the status is $status, not OutputFault" ended_with 7
+
+{ timeout 60 "$dpcli" record "$lines" head.dpj 2>note </dev/null; echo $? >pipe_status; } | head -n 3 >head.out
+status=$(cat pipe_status)
+check "recorded into head: the status is $status, not OutputFault" ended_with 7
+run replay head.dpj
+check "recorded into head: the replay's status is $status" ended_with 0
+check "recorded into head: the replay doesn't begin with what head got" is_prefix head.out out
+
+timeout 60 "$dpcli" record "$guests/hello.elf" full.dpj >/dev/full 2>note </dev/null
+status=$?
+check "recorded into a full device: the status is $status, not OutputFault" ended_with 7
+check "recorded into a full device: another line" note_has "dpcli: output failed"
+replays "recorded into a full device" full.dpj "$guests/hello.out"
+timeout 60 "$dpcli" replay full.dpj >/dev/full 2>note
+status=$?
+check "replayed into a full device: the status is $status, not OutputFault" ended_with 7
+
+timeout 60 "$dpcli" record "$guests/hello.elf" no_out.dpj >&- 2>note </dev/null
+status=$?
+check "no output at all: the status is $status, not OutputFault" ended_with 7
+replays "no output at all" no_out.dpj "$guests/hello.out"
+
+timeout 60 "$dpcli" record "$guests/hello.elf" no_note.dpj >out 2>/dev/full </dev/null
+status=$?
+check "a report into a full device: the status is $status, not OutputFault" ended_with 7
+check "a report into a full device: another output" same out "$guests/hello.out"
+replays "a report into a full device" no_note.dpj "$guests/hello.out"
+
+# ---- files and words
+
+cp hello.dpj in_use.dpj
+run record "$guests/filter.elf" in_use.dpj </dev/null
+check "a journal that exists already: the status is $status, not JournalInUse" ended_with 8
+check "a journal that exists already: it is changed" same in_use.dpj hello.dpj
+
+: >empty.dpj
+run replay empty.dpj
+check "the replay of an empty file: the status is $status, not NoJournal" ended_with 14
+run record "$guests/hello.elf" empty.dpj </dev/null
+check "recorded into an empty file: the status is $status" ended_with 0
+replays "recorded into an empty file" empty.dpj "$guests/hello.out"
+
+run record "$guests/hello.elf" nowhere/hello.dpj </dev/null
+check "a journal in a folder that isn't there: the status is $status, not DiskFault" ended_with 6
+check "a journal in a folder that isn't there: some output" is_empty out
+check "a journal in a folder that isn't there: now it is" is_missing nowhere
+
+run record "$guests/hello.elf" "$work" </dev/null
+check "a folder as the journal: the status is $status, not DiskFault" ended_with 6
+
+run record nobody.elf nobody.dpj </dev/null
+check "a guest that isn't there: the status is $status, not GuestFault" ended_with 3
+check "a guest that isn't there: a journal is left" is_missing nobody.dpj
+
+run record "$guests" folder.dpj </dev/null
+check "a folder as a guest: the status is $status, not GuestFault" ended_with 3
+check "a folder as a guest: a journal is left" is_missing folder.dpj
+
+run record "$guests/hello.c" text.dpj </dev/null
+check "a text as a guest: the status is $status, not BadImage" ended_with 4
+check "a text as a guest: another line" note_has "dpcli: guest refused: 2 NotElf"
+
+run replay nobody.dpj
+check "the replay of no file: the status is $status, not DiskFault" ended_with 6
+check "the replay of no file: one is left" is_missing nobody.dpj
+run replay "$work"
+check "the replay of a folder: the status is $status, not DiskFault" ended_with 6
+run replay "$guests/hello.c"
+check "the replay of a text: the status is $status, not NoJournal" ended_with 14
+# A program that runs can't be opened for writing, and is read all the same.
+run replay "$dpcli"
+check "the replay of a file that may only be read: the status is $status, not NoJournal" ended_with 14
+
+for words in "" "record" "record a" "replay" "replay a b" "play a" "record a b --slice 0" "record a b --epoch x"; do
+  # shellcheck disable=SC2086
+  run $words </dev/null
+  check "the words '$words': the status is $status, not Usage" ended_with 2
+  check "the words '$words': another line" note_has "usage: dpcli "
+done
+
+# ---- a journal that is cut
+
+# After each of its ten epochs a recording with a limit there has the same records and has printed the same, so it tells what a
+# journal that is cut has to play to.
+for epochs in {1..10}; do
+  run record "$lines" "limit$epochs.dpj" --epoch 30000 --limit "$((30000 * epochs))" </dev/null
+  check "a limit of $epochs epochs: the status is $status, not StepLimit" ended_with 11
+  cp out "limit$epochs.out"
+  replays "a limit of $epochs epochs" "limit$epochs.dpj" "limit$epochs.out"
+  check "a limit of $epochs epochs: the replay's report says something else" note_has "epochs $epochs squashes 0 steps $((30000 * epochs)) sent $(bytes_of out) end none"
+done
+cp limit10.dpj lines.dpj
+: >limit0.out
+header=$((9 + $(bytes_of "$lines")))
+length=$(bytes_of lines.dpj)
+record_ends=("$header")
+for epochs in {1..10}; do
+  record_ends+=("$(($(bytes_of "limit$epochs.dpj") - 1))")
+  check "$epochs epochs: the journal isn't the first part of that with 10" cmp -s -n "${record_ends[epochs]}" "limit$epochs.dpj" lines.dpj
+  check "epoch $epochs has no output" test "$(bytes_of "limit$((epochs - 1)).out")" -lt "$(bytes_of "limit$epochs.out")"
+done
+
+# A cut leaves no journal, or the first records: those that are there whole.
+cut_is_right() {
+  head -c "$1" lines.dpj >cut.dpj
+  run replay cut.dpj
+  if (($1 < header)); then
+    ended_with 14 && is_empty out
+    return
+  fi
+  local epochs=10
+  while ((record_ends[epochs] > $1)); do
+    epochs=$((epochs - 1))
+  done
+  ended_with 0 && same out "limit$epochs.out"
+}
+# 20 cuts in the header, the last before its last byte, and 30 over all records; right before and behind the end of the header
+# and of each record, and three in its gate and its length.
+places=()
+for number in {0..19}; do places+=("$((number * (header - 1) / 19))"); done
+for number in {0..29}; do places+=("$((header + number * (length - header) / 29))"); done
+for end in "${record_ends[@]:0:10}"; do places+=("$((end - 1))" "$end" "$((end + 1))" "$((end + 3))" "$((end + 5))"); done
+for place in "${places[@]}"; do
+  check "cut to $place of $length bytes" cut_is_right "$place"
+done
+
+# ---- a recorder that is killed
+
+# What a recording prints that isn't killed, or the first of it.
+run record "$lines" whole.dpj --limit 6000000 </dev/null
+check "what a recording prints that isn't killed: the status is $status" ended_with 11
+cp out whole.out
+
+# has_counted NUMBER, has_printed BYTES: waits for the moment of a kill.
+has_counted() {
+  local number
+  for ((number = 0; number < $1; number++)); do :; done
+}
+has_printed() {
+  while (($(bytes_of printed) < $1)); do
+    kill -0 "$recorder" 2>/dev/null || return
+    sleep 0.002
+  done
+}
+
+# kill_is_right MOMENT..: what was printed stands in the journal, so a replay sends it first.
+kill_is_right() {
+  rm -f killed.dpj
+  : >printed
+  "$dpcli" record "$lines" killed.dpj >printed 2>note </dev/null &
+  recorder=$!
+  "$@"
+  kill -9 "$recorder"
+  wait "$recorder" 2>wait_note
+  [[ $? == 137 ]] || return 1 # it had ended before
+  if [[ ! -e killed.dpj ]]; then
+    is_empty printed
+    return
+  fi
+  run replay killed.dpj
+  if ended_with 14; then
+    is_empty printed && is_empty out
+  else
+    ended_with 0 && is_prefix printed out && is_prefix_either_way out whole.out
+  fi
+}
+# 20 moments from the program's start on, the first ones before something is printed, and 30 behind that.
+for number in {0..19}; do
+  check "killed at early moment $number" kill_is_right has_counted "$((200 * number))"
+done
+for number in {0..29}; do
+  bytes=$((1 + 250 * number))
+  check "killed once it had printed $bytes bytes" kill_is_right has_printed "$bytes"
+  check "killed once it had printed $bytes bytes: it printed less" test "$(bytes_of printed)" -ge "$bytes"
+done
+
+if ((failed == 0 && passed != checks)); then
+  failed=1
+  echo "FAILED: $passed checks were made, not $checks"
+fi
+if ((failed > 0)); then
+  exit 1
+fi
+echo "$passed checks passed"
