@@ -1,1 +1,3 @@
 pub mod Knowing
+pub mod Moments
+pub mod Images

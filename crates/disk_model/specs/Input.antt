@@ -1,6 +1,6 @@
 -- What may be known of an input: the bytes that it has given, the pieces that it has left, whether its end was seen, and the
 -- readings of its clock. This project's own.
-use Rattle.std.specs.Prelude.{◌≡◌, ◌⊎◌, ℕ, Bool, true, false, ◌||◌, ◌&&◌, nat_lt, List, [], ◌∷◌, ◌++◌, length, take, drop, Option, Some, None, ⊤}
+use Rattle.std.specs.Prelude.{◌≡◌, ◌⊎◌, ℕ, Bool, true, false, ◌||◌, ◌&&◌, nat_lt, List, [], ◌∷◌, ◌++◌, take, drop, Option, Some, None, ⊤}
 
 pub record Input : Type 0 where
   -- all bytes given so far

@@ -3,8 +3,9 @@
 //!
 //! Promises: a call fails only where its own count of faults rises, or is at its greatest value; where the history of a
 //! world is known, each call extends it by exactly one step of `specs/Steps.antt`, whatever the call answers. What a crash
-//! may leave on a disk is in `specs/History.antt`. Where an input is known, a take gives exactly what `specs/Input.antt`
-//! says, and one that fails loses nothing. Stands on `dp_base`.
+//! may leave on a disk is in `specs/History.antt`, and what holds at every moment of several calls in `specs/Moments.antt`.
+//! Where an input is known, a take gives exactly what `specs/Input.antt` says, and one that fails loses nothing. Stands on
+//! `dp_base`.
 //!
 //! ```text
 //! world.attach("journal", true)?;
