@@ -6,11 +6,40 @@ use Rattle.std.proofs.Math.Seq.{take-append-add}
 use Rattle.std.proofs.lemmas.List.{append-nil, length-append, map-append, take_all, take_min, take_more, take-append-le, take-append-drop}
 use Rattle.std.proofs.lemmas.List.Folds.{concat-append}
 use Rattle.disk_model.specs.declared.world.Stream.{Stream}
-use Rattle.disk_model.specs.History.{History}
-use Rattle.device.specs.Sending.{Sent, joined, stream_of}
+use Rattle.disk_model.specs.declared.world.Stream.TheVariants.{Out, Note}
+use Rattle.disk_model.specs.History.{History, IsImage, Pending}
+use Rattle.disk_model.proofs.Moments.{always-then, always-weaker}
+use Rattle.device.specs.Sending.{IsOutSent, IsSending, IsSent, Sent, joined, other, stream_of}
 use Rattle.device.proofs.Sends.{none_sent}
 
+-- a prefix of a text, with the number of its bytes
+prefix_same : (n : ℕ) (a more : List ℕ) → take (min n (length a)) (a ++ more) ≡ take n a
+prefix_same n a more = take-append-le (min n (length a)) a more (omega arith) ∙ take_min n a
+
+-- ---- at every moment
+
+-- a prefix of a text is one of a longer text
+out_longer : (to : Stream) (a more before sent : List ℕ) → IsOutSent to a before sent → IsOutSent to (a ++ more) before sent
+out_longer Out a more before sent is = (min is.0 (length a), is.1 ∙ ap (λ (l : List ℕ). before ++ l) (sym (prefix_same is.0 a more)))
+out_longer Note a more before sent is = is
+
+-- behind a whole text, a prefix of another
+out_behind : (to : Stream) (a b : List ℕ) (s t : History) (sent : List ℕ) → stream_of to t ≡ stream_of to s ++ a → stream_of (other to) t ≡ stream_of (other to) s
+    → IsOutSent to b t.sent sent → IsOutSent to (a ++ b) s.sent sent
+out_behind Out a b s t sent whole same is =
+    (length a + is.0, is.1 ∙ ap (λ (l : List ℕ). l ++ take is.0 b) whole ∙ append_assoc s.sent a (take is.0 b) ∙ ap (λ (l : List ℕ). s.sent ++ l) (sym (take-append-add a b is.0)))
+out_behind Note a b s t sent whole same is = is ∙ same
+
 module _ (to : Stream) where
+  longer : (a more : List ℕ) (s : History) (image sent : List ℕ) → IsSending to a s image sent → IsSending to (a ++ more) s image sent
+  longer a more s image sent is = (is.0, out_longer to a more s.sent sent is.1)
+
+  behind_whole : (a b : List ℕ) (n : ℕ) (s t : History) → IsSent to a n s t → stream_of to t ≡ stream_of to s ++ a
+      → (image sent : List ℕ) → IsSending to b t image sent → IsSending to (a ++ b) s image sent
+  behind_whole a b n s t one whole image sent is = (subst (λ (p : Pending). IsImage p image) one.pending is.0, out_behind to a b s t sent whole one.same is.1)
+
+  -- ---- the texts
+
   pub nothing_sent : (s : History) → Sent to [] true s s
   nothing_sent s = (0, none_sent to [] s, λ ok. omega arith)
 
@@ -27,24 +56,25 @@ module _ (to : Stream) where
           grown = two.grown ∙ ap (λ (l : List ℕ). l ++ take second.0 b) whole ∙ append_assoc (stream_of to s) a (take second.0 b)
               ∙ ap (λ (l : List ℕ). stream_of to s ++ l) (sym (take-append-add a b second.0));
           same = two.same ∙ one.same;
+          moments = always-then (IsSending to (a ++ b) s) s t u (always-weaker (IsSending to a s) (IsSending to (a ++ b) s) s t (longer a b s) one.moments)
+              (always-weaker (IsSending to b t) (IsSending to (a ++ b) s) t u (behind_whole a b first.0 s t one whole) two.moments);
         },
         λ all. omega (arith, second.2 all, length-append a b),
       )
 
   -- a prefix of a text, of which more was to come
   pub prefix_sent : (a more : List ℕ) (s u : History) → Sent to a false s u → Sent to (a ++ more) false s u
-  prefix_sent a more s u is =
-      let count = min is.0 (length a) in
-      let same_bytes : take count (a ++ more) ≡ take is.0 a = take-append-le count a more (omega arith) ∙ take_min is.0 a in (
-        count,
-        record {
-          disk = is.1.disk;
-          pending = is.1.pending;
-          grown = is.1.grown ∙ ap (λ (l : List ℕ). stream_of to s ++ l) (sym same_bytes);
-          same = is.1.same;
-        },
-        λ never. absurd cc,
-      )
+  prefix_sent a more s u is = (
+    min is.0 (length a),
+    record {
+      disk = is.1.disk;
+      pending = is.1.pending;
+      grown = is.1.grown ∙ ap (λ (l : List ℕ). stream_of to s ++ l) (sym (prefix_same is.0 a more));
+      same = is.1.same;
+      moments = always-weaker (IsSending to a s) (IsSending to (a ++ more) s) s u (longer a more s) is.1.moments;
+    },
+    λ never. absurd cc,
+  )
 
 module _ (pieces : List (Bor (List ℕ))) where
   joined-append : (xs ys : List (Bor (List ℕ))) → joined (xs ++ ys) ≡ joined xs ++ joined ys

@@ -5,12 +5,25 @@ use Rattle.std.proofs.lemmas.List.{append-nil, take_all}
 use Rattle.disk_model.specs.declared.world.Failed.{Failed}
 use Rattle.disk_model.specs.declared.world.Stream.{Stream}
 use Rattle.disk_model.specs.declared.world.Stream.TheVariants.{Out, Note}
-use Rattle.disk_model.specs.History.{History}
+use Rattle.disk_model.specs.History.{History, IsImage, Pending, now}
+use Rattle.disk_model.specs.Moments.{Always, Then}
 use Rattle.disk_model.specs.Steps.{Emitted, emitted}
-use Rattle.device.specs.Sending.{IsSent, Sent, stream_of}
+use Rattle.disk_model.proofs.Moments.{always-one, always-start, always-then, got-nothing}
+use Rattle.device.specs.Sending.{IsOutSent, IsSending, IsSent, Sent, stream_of}
+
+-- before the first part
+out-unsent : (to : Stream) (bytes before sent : List ℕ) → sent ≡ before → IsOutSent to bytes before sent
+out-unsent Out bytes before sent is = (0, is ∙ sym (append-nil before))
+out-unsent Note bytes before sent is = is
 
 pub none_sent : (to : Stream) (bytes : List ℕ) (s : History) → IsSent to bytes 0 s s
-none_sent to bytes s = record { disk = refl; pending = refl; grown = sym (append-nil (stream_of to s)); same = refl }
+none_sent to bytes s = record {
+  disk = refl;
+  pending = refl;
+  grown = sym (append-nil (stream_of to s));
+  same = refl;
+  moments = always-start (IsSending to bytes s) s (λ image sent may. (may.on_disk, out-unsent to bytes s.sent sent (may.got ∙ got-nothing s.sent may.taken)));
+}
 
 module _ (bytes : List ℕ) where
   -- the bytes that are left, as the code has them
@@ -25,9 +38,27 @@ module _ (bytes : List ℕ) where
   part_more n k before there is = ap (λ (l : List ℕ). there ++ take k l) (rest-is n) ∙ ap (λ (l : List ℕ). l ++ take k (drop n bytes)) is
       ∙ append_assoc before (take n bytes) (take k (drop n bytes)) ∙ ap (λ (l : List ℕ). before ++ l) (sym (take-add n k bytes))
 
+  module _ (n k : ℕ) (s t : History) where
+    image-same : (image : List ℕ) → t.pending ≡ s.pending → IsImage t.pending image → IsImage s.pending image
+    image-same image same is = subst (λ (p : Pending). IsImage p image) same is
+
+    -- the moment of a part, and the one behind it
+    out-always : IsSent Out bytes n s t → Always (IsSending Out bytes s) s (emitted Out (rest n) k t)
+    out-always a = always-then (IsSending Out bytes s) s t (emitted Out (rest n) k t) a.moments
+        (always-one (IsSending Out bytes s) t (emitted Out (rest n) k t) (record { pending = t.pending; sent = t.sent; piece = rest n }) refl
+        (λ image sent may. (image-same image a.pending may.on_disk, (n + may.taken, may.got ∙ part_more n may.taken s.sent t.sent a.grown)))
+        (λ image sent may. (image-same image a.pending may.on_disk, (n + k, may.got ∙ got-nothing (t.sent ++ take k (rest n)) may.taken ∙ part_more n k s.sent t.sent a.grown))))
+
+    note-then : IsSent Note bytes n s t → Then (IsSending Note bytes s) (now t)
+    note-then a image sent may = (image-same image a.pending may.on_disk, may.got ∙ got-nothing t.sent may.taken ∙ a.same)
+
+    note-always : IsSent Note bytes n s t → Always (IsSending Note bytes s) s (emitted Note (rest n) k t)
+    note-always a = always-then (IsSending Note bytes s) s t (emitted Note (rest n) k t) a.moments
+        (always-one (IsSending Note bytes s) t (emitted Note (rest n) k t) (now t) refl (note-then a) (note-then a))
+
   behind : (to : Stream) (n k : ℕ) (s t : History) → IsSent to bytes n s t → IsSent to bytes (n + k) s (emitted to (rest n) k t)
-  behind Out n k s t a = record { disk = a.disk; pending = a.pending; grown = part_more n k s.sent t.sent a.grown; same = a.same }
-  behind Note n k s t a = record { disk = a.disk; pending = a.pending; grown = part_more n k s.noted t.noted a.grown; same = a.same }
+  behind Out n k s t a = record { disk = a.disk; pending = a.pending; grown = part_more n k s.sent t.sent a.grown; same = a.same; moments = out-always n k s t a }
+  behind Note n k s t a = record { disk = a.disk; pending = a.pending; grown = part_more n k s.noted t.noted a.grown; same = a.same; moments = note-always n k s t a }
 
   sent_on : (to : Stream) (n k : ℕ) (s t u : History) → IsSent to bytes n s t → u ≡ emitted to (rest n) k t → IsSent to bytes (n + k) s u
   sent_on to n k s t u a is = subst (λ (v : History). IsSent to bytes (n + k) s v) (sym is) (behind to n k s t a)

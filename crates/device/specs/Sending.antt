@@ -4,7 +4,8 @@ use Rattle.std.specs.Borrow.{Bor}
 use Rattle.std.specs.List.{concat}
 use Rattle.disk_model.specs.declared.world.Stream.{Stream}
 use Rattle.disk_model.specs.declared.world.Stream.TheVariants.{Out, Note}
-use Rattle.disk_model.specs.History.{History}
+use Rattle.disk_model.specs.History.{History, IsImage}
+use Rattle.disk_model.specs.Moments.{Always}
 
 -- what a stream has got
 abbrev pub stream_of : Stream → History → List ℕ
@@ -15,12 +16,26 @@ abbrev pub other : Stream → Stream
 other Out = Note
 other Note = Out
 
--- Of these bytes so many were sent, and nothing else happened.
+-- this was sent before, and then a prefix of these bytes
+abbrev pub IsPrefixSent : (bytes before sent : List ℕ) → Type 0
+IsPrefixSent bytes before sent = (count : ℕ) × (sent ≡ before ++ take count bytes)
+
+-- what Out has got while these bytes are sent on a stream
+abbrev pub IsOutSent : Stream → (bytes before sent : List ℕ) → Type 0
+IsOutSent Out bytes before sent = IsPrefixSent bytes before sent
+IsOutSent Note bytes before sent = sent ≡ before
+
+-- nothing happens to the disk, and of these bytes a prefix is sent
+abbrev pub IsSending : Stream → List ℕ → History → (image sent : List ℕ) → Type 0
+IsSending to bytes h image sent = IsImage h.pending image × IsOutSent to bytes h.sent sent
+
+-- Of these bytes so many were sent, and nothing else happened. At every moment a prefix of them all was sent.
 pub record IsSent (to : Stream) (bytes : List ℕ) (count : ℕ) (before after : History) : Type 0 where
   pub disk : after.disk ≡ before.disk
   pub pending : after.pending ≡ before.pending
   pub grown : stream_of to after ≡ stream_of to before ++ take count bytes
   pub same : stream_of (other to) after ≡ stream_of (other to) before
+  pub moments : Always (IsSending to bytes before) before after
 
 -- all of them, or a prefix where it failed
 abbrev pub Sent : Stream → List ℕ → Bool → History → History → Type 0

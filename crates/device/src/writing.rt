@@ -6,7 +6,8 @@ ghost use Rattle.device.specs.Writing.{IsWrittenThrough};
 use disk_model::{Failed, World};
 
 /// Writes bytes from offset `at` on, and waits until they are on the disk. What the disk has then is known for an offset up to
-/// its length.
+/// its length. At every moment of the call, on a disk on which nothing was pending, a crash leaves all but these bytes' range as
+/// it was.
 ///
 /// # Errors
 ///
