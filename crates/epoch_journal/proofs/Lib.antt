@@ -1,2 +1,5 @@
+pub mod ReadsAs
+pub mod AtRest
 pub mod OnDisk
+mod OnEmptyDisk
 mod Chunks

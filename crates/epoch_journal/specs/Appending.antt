@@ -1,14 +1,18 @@
 -- What `append` comes to, by its answer. This project's own.
 use Rattle.std.specs.Prelude.{◌≡◌, ◌<◌, ◌≤◌, ◌+◌, ℕ, Bool, true, false, List, [], ◌∷◌, ◌++◌, length, Result, Ok, Err, ⊤}
+use Rattle.std.specs.List.{AllByRecursion}
+use Rattle.dp_base.specs.declared.limits.TheConstants.{MAX_JOURNAL_BYTES}
 use Rattle.dp_base.specs.Encoding.{IsPrefixOf}
-use Rattle.dp_base.specs.Journal.{frame}
+use Rattle.dp_base.specs.Journal.{IsGuest, frame}
 use Rattle.device.specs.Writing.{SentNothing}
 use Rattle.disk_model.specs.History.{History}
+use Rattle.disk_model.specs.Moments.{Always}
 use Rattle.epoch_journal.specs.declared.append.AppendFault.{AppendFault}
 use Rattle.epoch_journal.specs.declared.append.AppendFault.TheVariants as appends
+use Rattle.epoch_journal.specs.Images.{IsBeforeOrAfter}
 use Rattle.epoch_journal.specs.Standing.{Journal, Stands}
 use Rattle.journal_text.specs.Reading.{journal_of}
-use Rattle.journal_text.specs.Records.{Record, body_of}
+use Rattle.journal_text.specs.Records.{IsRecord, Record, body_of}
 
 -- a record's frame is appended to a journal that stands on the disk and ends at this place
 pub record IsAppend (end : ℕ) (added : List ℕ) (before : History) (guest : List ℕ) (records : List Record) (r : Record) : Type 0 where
@@ -16,13 +20,22 @@ pub record IsAppend (end : ℕ) (added : List ℕ) (before : History) (guest : L
   pub at_end : end ≡ length before.disk
   pub framed : added ≡ frame (body_of r)
 
--- A frame was written behind the gate at the end, and then the gate was opened. After a device's fault what the last sync
--- had left on the disk begins with the journal as it was.
+-- What stands behind the two writes of an append. After a device's fault what the last sync had left on the disk begins with
+-- the journal as it was.
+abbrev pub RecordLeft : (end : ℕ) → (added : List ℕ) → Bool → History → History → Type 0
+RecordLeft end added true before after =
+    (guest : List ℕ) (records : List Record) (r : Record) → IsAppend end added before guest records r → Stands guest (records ++ r ∷ []) after
+RecordLeft end added false before after =
+    (guest : List ℕ) (records : List Record) (r : Record) → IsAppend end added before guest records r → IsPrefixOf (journal_of guest records) after.pending.synced
+
+-- At every moment a crash leaves the journal as it was, or the one with the record.
+abbrev pub RecordMoments : (end : ℕ) → (added : List ℕ) → History → History → Type 0
+RecordMoments end added before after = (guest : List ℕ) (records : List Record) (r : Record) → IsAppend end added before guest records r
+    → IsGuest guest → AllByRecursion IsRecord (records ++ r ∷ []) → Always (IsBeforeOrAfter guest records r before) before after
+
+-- A frame was written behind the gate at the end, and then the gate was opened.
 abbrev pub RecordWritten : (end : ℕ) → (added : List ℕ) → Bool → History → History → Type 0
-RecordWritten end added true before after = SentNothing before after
-    × ((guest : List ℕ) (records : List Record) (r : Record) → IsAppend end added before guest records r → Stands guest (records ++ r ∷ []) after)
-RecordWritten end added false before after = SentNothing before after
-    × ((guest : List ℕ) (records : List Record) (r : Record) → IsAppend end added before guest records r → IsPrefixOf (journal_of guest records) after.pending.synced)
+RecordWritten end added ok before after = SentNothing before after × RecordLeft end added ok before after × RecordMoments end added before after
 
 abbrev pub Appended : Journal → (added : List ℕ) → Result (Unit {0}) AppendFault → History → History → Type 0
 Appended j added (Ok done) before after = RecordWritten j.end added true before after
@@ -47,3 +60,10 @@ MakesNoCall (Ok done) = ⊥
 MakesNoCall (Err (appends.Failed last)) = ⊤
 MakesNoCall (Err (appends.Full end need)) = ⊤
 MakesNoCall (Err appends.DiskFault) = ⊥
+
+-- ---- on the way. This serves the contract of the crate's own step.
+
+-- the same, of a frame at any place: the moments are known of one that ends no further than a journal may
+abbrev pub FrameWritten : (end : ℕ) → (added : List ℕ) → Bool → History → History → Type 0
+FrameWritten end added ok before after = SentNothing before after × RecordLeft end added ok before after
+    × (end + length added ≤ MAX_JOURNAL_BYTES → RecordMoments end added before after)

@@ -1,4 +1,5 @@
 pub mod Standing
+pub mod Images
 pub mod Beginning
 pub mod Appending
 pub mod ReadWhole

@@ -2,7 +2,7 @@
 ghost use Rattle.std.specs.Prelude.{◌≡◌, ◌<◌, ◌≤◌, IsErr, IsErrOf, is_ok, length};
 ghost use Rattle.disk_model.specs.Counts.{Rose};
 ghost use Rattle.disk_model.specs.Known.{IfKnown};
-ghost use Rattle.epoch_journal.specs.Appending.{Appended, HasAppended, MakesNoCall, RecordWritten};
+ghost use Rattle.epoch_journal.specs.Appending.{Appended, FrameWritten, HasAppended, MakesNoCall};
 
 use crate::journal::Journal;
 use device::write_through;
@@ -58,7 +58,7 @@ impl Journal {
 // Writes a frame behind the gate at the journal's end, and then opens the gate.
 fn write_record<W: World>(world: &mut W, end: u64, frame: &[u8]) -> Result<(), Failed>
     requires { 0 < end }
-    ensures history { IfKnown (RecordWritten end frame.now (is_ok result)) (W.history world.old) (W.history world.new) }
+    ensures history { IfKnown (FrameWritten end frame.now (is_ok result)) (W.history world.old) (W.history world.new) }
     ensures cause { IsErr result → Rose (W.disk_faults world.old) (W.disk_faults world.new) }
     ensures count { W.disk_faults world.old ≤ W.disk_faults world.new }
     ensures sink { W.sink_faults world.new ≡ W.sink_faults world.old }

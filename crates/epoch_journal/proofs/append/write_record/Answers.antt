@@ -1,6 +1,19 @@
-use Rattle.disk_model.proofs.Knowing.{known-then}
-use Rattle.epoch_journal.proofs.OnDisk.{record_written}
+use Rattle.std.proofs.Common.{false}
+use Rattle.std.proofs.lemmas.Result.{err_from_is_err_and}
+use Rattle.disk_model.proofs.Knowing.{known-map, known-then}
+use Rattle.epoch_journal.specs.Appending.{FrameWritten}
+use Rattle.epoch_journal.proofs.OnDisk.{frame_not_written, gate_not_opened, record_written}
 use Rattle.epoch_journal.proofs.append.write_record.Goals as goal
+
+pub returns-in_err-write_through-clause-history : goal.returns-in_err-write_through-clause-history
+returns-in_err-write_through-clause-history g c =
+    let p = err_from_is_err_and c.from_residual.result c.from_residual.ensures.1 in
+    rw p.1 (known-map _ (FrameWritten c.args.end c.args.frame.now false) _ _ (frame_not_written c.args.end c.args.frame.now) c.in_err-write_through.ensures.history)
+
+pub returns-in_err-write_through-2-clause-history : goal.returns-in_err-write_through-2-clause-history
+returns-in_err-write_through-2-clause-history g c =
+    let p = err_from_is_err_and c.from_residual-in_err-write_through-2.result c.from_residual-in_err-write_through-2.ensures.1 in
+    rw p.1 (known-then _ _ (FrameWritten c.args.end c.args.frame.now false) _ _ _ (gate_not_opened c.args.end c.args.frame.now) c.in_ok-write_through.ensures.history c.in_err-write_through-2.ensures.history)
 
 pub returns-clause-history : goal.returns-clause-history
 returns-clause-history g c =
