@@ -1,5 +1,5 @@
 -- A journal that stands on a disk leaves no image that reads otherwise.
-use Rattle.std.proofs.Common.{◌≡◌, ◌≤◌, ◌⊎◌, inl, inr, List, [], ◌∷◌, ◌++◌, length, ℕ, sym, ◌∙◌, ap, subst}
+use Rattle.std.proofs.Common.{◌≡◌, ◌≤◌, inl, inr, List, [], ◌∷◌, ◌++◌, length, ℕ, sym, ◌∙◌, subst}
 use Rattle.std.specs.List.{AllByRecursion}
 use Rattle.dp_base.specs.declared.limits.TheConstants.{MAX_JOURNAL_BYTES}
 use Rattle.dp_base.specs.Journal.{IsGuest}
@@ -9,7 +9,7 @@ use Rattle.disk_model.proofs.Images.{image-synced}
 use Rattle.disk_model.proofs.Moments.{got-nothing}
 use Rattle.epoch_journal.specs.Images.{IsBeforeOrAfter, Reads}
 use Rattle.epoch_journal.specs.Standing.{Stands}
-use Rattle.epoch_journal.proofs.ReadsAs.{all-before, reads-at-rest}
+use Rattle.epoch_journal.proofs.ReadsAs.{reads-at-rest}
 use Rattle.journal_text.specs.Reading.{journal_of}
 use Rattle.journal_text.specs.Records.{IsRecord, Record}
 

@@ -6,13 +6,13 @@ use Rattle.dp_base.specs.declared.limits.TheConstants.{MAX_JOURNAL_BYTES}
 use Rattle.dp_base.specs.Encoding.{IsPrefixOf}
 use Rattle.dp_base.specs.Field.{AreBytes}
 use Rattle.dp_base.specs.Journal.{IsGuest, open_gate, closed_gate, frame}
-use Rattle.disk_model.specs.History.{History, IsImage, IsSynced, Pending, nothing_pending, write_pending}
+use Rattle.disk_model.specs.History.{History, IsImage, Pending, nothing_pending, write_pending}
 use Rattle.disk_model.specs.Known.{overwritten}
 use Rattle.disk_model.specs.Moments.{Always}
 use Rattle.disk_model.proofs.Images.{image-one-byte, image-past-end, overwritten-end, overwritten-one-byte}
 use Rattle.disk_model.proofs.Moments.{always-then, always-weaker}
 use Rattle.device.specs.Writing.{IsTorn, IsWrittenThrough, SentNothing}
-use Rattle.epoch_journal.specs.Appending.{FrameWritten, IsAppend}
+use Rattle.epoch_journal.specs.Appending.{FrameWritten, IsAppend, RecordWritten}
 use Rattle.epoch_journal.specs.Images.{IsBeforeOrAfter, Reads}
 use Rattle.epoch_journal.specs.Standing.{Stands}
 use Rattle.epoch_journal.proofs.ReadsAs.{all-before, journal-push, journal-records, reads-closed, reads-gate, records}
@@ -122,3 +122,7 @@ module _ (end : ℕ) (added : List ℕ) where
     λ guest records_ r is. opened end added s guest records_ r is t body u gate,
     λ room guest records_ r is is-guest are. gate-moments end added s guest records_ r is room is-guest are t body true u gate,
   )
+
+-- where the frame ends within the room
+pub in_room : (end : ℕ) (added : List ℕ) (ok : Bool) → end + length added ≤ MAX_JOURNAL_BYTES → (s t : History) → FrameWritten end added ok s t → RecordWritten end added ok s t
+in_room end added ok room s t w = (w.0, w.1, w.2 room)

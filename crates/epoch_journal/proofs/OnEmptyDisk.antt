@@ -1,12 +1,12 @@
 -- What the writes of a begin leave on the disk, at every moment and behind them.
-use Rattle.std.proofs.Common.{◌≡◌, ◌≢◌, ◌⊎◌, inl, inr, ℕ, ◌+◌, ◌≤◌, Bool, true, false, List, [], ◌∷◌, ◌++◌, length, drop, get_or, Option, Some, None, Err, refl, sym, ◌∙◌, ap, subst, arith, length-append}
+use Rattle.std.proofs.Common.{◌≡◌, ◌≢◌, ◌⊎◌, inl, inr, ℕ, ◌+◌, ◌≤◌, Bool, true, false, List, [], ◌∷◌, ◌++◌, length, drop, get_or, Option, Some, None, refl, sym, ◌∙◌, ap, subst, arith, length-append}
 use Rattle.dp_base.specs.declared.limits.TheConstants.{MAX_JOURNAL_BYTES}
 use Rattle.dp_base.specs.Field.{AreBytes}
 use Rattle.dp_base.specs.Journal.{IsGuest, open_gate, closed_gate, header, header_body}
 use Rattle.dp_base.proofs.Sizes.{length-header}
 use Rattle.disk_model.specs.History.{History, IsImage, IsSynced, Pending, nothing_pending, now, write_pending}
 use Rattle.disk_model.specs.Known.{IfKnown, IsLength, known_disk, overwritten}
-use Rattle.disk_model.specs.Moments.{Always, Then}
+use Rattle.disk_model.specs.Moments.{Then}
 use Rattle.disk_model.proofs.Images.{image-one-byte, image-past-end, image-synced, overwritten-end}
 use Rattle.disk_model.proofs.Moments.{always-start, always-then, always-weaker, got-nothing}
 use Rattle.device.specs.Writing.{IsTorn, IsWrittenThrough, SentNothing}

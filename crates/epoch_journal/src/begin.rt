@@ -42,6 +42,9 @@ impl From<OutOfMemory> for BeginFault {
 
 impl Journal {
     /// Begins a journal of this guest on an empty disk, with no record. The disk's length is looked at first.
+    ///
+    /// At every moment of the call, also of one that fails, a crash leaves a disk that reads as no journal, or as this guest's with
+    /// no record. Once it has answered `Ok` only the latter is left. This holds of a disk on which nothing was pending.
     pub fn begin<W: World>(
         alloc: Global,
         world: &mut W,
