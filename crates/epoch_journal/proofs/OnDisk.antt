@@ -19,6 +19,12 @@ use Rattle.epoch_journal.proofs.ReadsAs.{all-before, journal-push, journal-recor
 use Rattle.journal_text.specs.Reading.{journal_of}
 use Rattle.journal_text.specs.Records.{IsRecord, Record, body_of}
 
+pub length-journal-push : (guest : List ℕ) (records_ : List Record) (r : Record) → length (journal_of guest (records_ ++ r ∷ [])) ≡ length (journal_of guest records_) + length (frame (body_of r))
+length-journal-push guest records_ r =
+    let old = ap (λ (l : List ℕ). length l) (journal-records guest records_) in
+    let new_ = ap (λ (l : List ℕ). length l) (journal-push guest records_ r) in
+    omega (arith, old, new_, length-append (records guest records_) (closed_gate ∷ []), length-append (records guest records_) (open_gate ∷ frame (body_of r)))
+
 pub then_nothing : (s t u : History) → SentNothing s t → SentNothing t u → SentNothing s u
 then_nothing s t u a b = record { sent = b.sent ∙ a.sent; noted = b.noted ∙ a.noted }
 

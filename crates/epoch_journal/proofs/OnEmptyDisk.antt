@@ -34,14 +34,8 @@ torn-header guest count image fits is =
     inl (ap reads image-is ∙ none)
 
 torn-gate : (guest image : List ℕ) → IsGuest guest → length (journal_of guest []) ≤ MAX_JOURNAL_BYTES → IsImage (write_pending 0 1 (nothing_pending (closed_gate ∷ (header_body guest ++ closed_gate ∷ [])))) image → IsNoneOrBegun guest image
-torn-gate guest image is-guest fits is = subst (IsNoneOrBegun guest) (sym image-is) (cases (gate-cases gate))
+torn-gate guest image is-guest fits is = subst (IsNoneOrBegun guest) (sym image-is) (cases (gate-cases (get_or image 0 0)))
   where
-    behind : List ℕ
-    behind = header_body guest ++ closed_gate ∷ []
-
-    gate : ℕ
-    gate = get_or image 0 0
-
     image-is : image ≡ get_or image 0 0 ∷ (header_body guest ++ closed_gate ∷ [])
     image-is = image-one-byte [] (header_body guest ++ closed_gate ∷ []) closed_gate image is
 

@@ -35,12 +35,6 @@ journal-push guest records_ r =
     (append_assoc (header guest) (flat_map record_bytes records_) (record_bytes r) ∙ ap (λ (l : List ℕ). header guest ++ l) (sym (flat_map-push records_ r)))
     ∙ sym (journal-records guest (records_ ++ r ∷ []))
 
-pub length-journal-push : (guest : List ℕ) (records_ : List Record) (r : Record) → length (journal_of guest (records_ ++ r ∷ [])) ≡ length (journal_of guest records_) + length (frame (body_of r))
-length-journal-push guest records_ r =
-    let old = ap (λ (l : List ℕ). length l) (journal-records guest records_) in
-    let new_ = ap (λ (l : List ℕ). length l) (journal-push guest records_ r) in
-    omega (arith, old, new_, length-append (records guest records_) (closed_gate ∷ []), length-append (records guest records_) (open_gate ∷ frame (body_of r)))
-
 pub all-before : (records_ : List Record) (r : Record) → AllByRecursion IsRecord (records_ ++ r ∷ []) → AllByRecursion IsRecord records_
 all-before [] r are = tt
 all-before (x ∷ xs) r are = (are.0, all-before xs r are.1)
