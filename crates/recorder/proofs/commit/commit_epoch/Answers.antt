@@ -3,7 +3,7 @@ use Rattle.recorder.proofs.Commits.{not_sent, sent_whole}
 use Rattle.recorder.proofs.commit.commit_epoch.Goals as goal
 
 pub returns-in-Err-DiskFault-clause-history : goal.returns-in-Err-DiskFault-clause-history
-returns-in-Err-DiskFault-clause-history g c = known-map _ _ _ _ (λ s t a. a) (rw c.in-Err-DiskFault.field-0-is at c.in-Err-DiskFault.ensures.history)
+returns-in-Err-DiskFault-clause-history g c = known-map _ _ _ _ (λ s t a. (a.0, a.1)) (rw c.in-Err-DiskFault.field-0-is at c.in-Err-DiskFault.ensures.history)
 
 pub returns-in-Err-Full-clause-history : goal.returns-in-Err-Full-clause-history
 returns-in-Err-Full-clause-history g c = known-map _ _ _ _ (λ s t a. a) (rw c.in-Err-Full.field-0-is at c.in-Err-Full.ensures.history)
