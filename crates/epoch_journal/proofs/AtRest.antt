@@ -1,17 +1,22 @@
--- A journal that stands on a disk leaves no image that reads otherwise.
-use Rattle.std.proofs.Common.{◌≡◌, ◌≤◌, inl, inr, List, [], ◌∷◌, ◌++◌, length, ℕ, sym, ◌∙◌, subst}
+-- A journal that stands on a disk leaves no image that reads otherwise, and an empty disk none that reads as a journal.
+use Rattle.std.proofs.Common.{◌≡◌, ◌≤◌, inl, inr, List, [], ◌∷◌, ◌++◌, length, ℕ, sym, ◌∙◌, ap, arith, subst}
 use Rattle.std.specs.List.{AllByRecursion}
 use Rattle.dp_base.specs.declared.limits.TheConstants.{MAX_JOURNAL_BYTES}
 use Rattle.dp_base.specs.Journal.{IsGuest}
-use Rattle.disk_model.specs.History.{History, IsImage, Pending, now}
+use Rattle.disk_model.specs.History.{History, IsImage, IsSynced, Pending, nothing_pending, now}
 use Rattle.disk_model.specs.Moments.{Then}
 use Rattle.disk_model.proofs.Images.{image-synced}
 use Rattle.disk_model.proofs.Moments.{got-nothing}
-use Rattle.epoch_journal.specs.Images.{IsBeforeOrAfter, Reads}
+use Rattle.epoch_journal.specs.Images.{IsBeforeOrAfter, IsBeginning, Reads}
 use Rattle.epoch_journal.specs.Standing.{Stands}
-use Rattle.epoch_journal.proofs.ReadsAs.{reads-at-rest}
+use Rattle.epoch_journal.proofs.ReadsAs.{no-journal-in-a-byte, reads-at-rest}
 use Rattle.journal_text.specs.Reading.{journal_of}
 use Rattle.journal_text.specs.Records.{IsRecord, Record}
+
+pub empty-reads : (guest : List ℕ) (h : History) → IsSynced h → h.disk ≡ [] → Then (IsBeginning guest h) (now h)
+empty-reads guest h synced empty image sent may =
+    let is : image ≡ [] = image-synced [] image (subst (λ (p : Pending). IsImage p image) (synced ∙ ap nothing_pending empty) may.on_disk) in
+    (inl (no-journal-in-a-byte image may.on_disk.bytes (omega (arith, ap (λ (l : List ℕ). length l) is))), may.got ∙ got-nothing h.sent may.taken)
 
 module _ (guest : List ℕ) (is-guest : IsGuest guest) where
   image-reads : (records : List Record) (h : History) (image : List ℕ) → Stands guest records h → AllByRecursion IsRecord records → length (journal_of guest records) ≤ MAX_JOURNAL_BYTES

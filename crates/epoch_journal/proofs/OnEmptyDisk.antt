@@ -4,15 +4,15 @@ use Rattle.dp_base.specs.declared.limits.TheConstants.{MAX_JOURNAL_BYTES}
 use Rattle.dp_base.specs.Field.{AreBytes}
 use Rattle.dp_base.specs.Journal.{IsGuest, open_gate, closed_gate, header, header_body}
 use Rattle.dp_base.proofs.Sizes.{length-header}
-use Rattle.disk_model.specs.History.{History, IsImage, IsSynced, Pending, nothing_pending, now, write_pending}
+use Rattle.disk_model.specs.History.{History, IsImage, IsSynced, Pending, nothing_pending, write_pending}
 use Rattle.disk_model.specs.Known.{IfKnown, IsLength, known_disk, overwritten}
-use Rattle.disk_model.specs.Moments.{Then}
-use Rattle.disk_model.proofs.Images.{image-one-byte, image-past-end, image-synced, overwritten-end}
-use Rattle.disk_model.proofs.Moments.{always-start, always-then, always-weaker, got-nothing}
+use Rattle.disk_model.proofs.Images.{image-one-byte, image-past-end, overwritten-end}
+use Rattle.disk_model.proofs.Moments.{always-start, always-then, always-weaker}
 use Rattle.device.specs.Writing.{IsTorn, IsWrittenThrough, SentNothing}
 use Rattle.epoch_journal.specs.Beginning.{BeginMoments}
 use Rattle.epoch_journal.specs.Images.{IsBeginning, Reads}
 use Rattle.epoch_journal.specs.Standing.{Stands}
+use Rattle.epoch_journal.proofs.AtRest.{empty-reads}
 use Rattle.epoch_journal.proofs.OnDisk.{then_nothing}
 use Rattle.epoch_journal.proofs.ReadsAs.{gate-cases, no-journal-behind-gate, no-journal-in-a-byte, reads-at-rest}
 use Rattle.journal_text.specs.Reading.{journal_of, reads}
@@ -54,12 +54,7 @@ pub record IsPart (guest written : List ℕ) (s t : History) : Type 0 where
   pub moments : BeginMoments guest s t
 
 nothing-begun : (guest : List ℕ) (s : History) → BeginMoments guest s s
-nothing-begun guest s is-guest synced empty = always-start (IsBeginning guest s) s here
-  where
-    here : Then (IsBeginning guest s) (now s)
-    here image sent may =
-        let is = image-synced [] image (subst (λ (p : Pending). IsImage p image) (synced ∙ ap nothing_pending empty) may.on_disk) in
-        (inl (no-journal-in-a-byte image may.on_disk.bytes (omega (arith, ap (λ (l : List ℕ). length l) is))), may.got ∙ got-nothing s.sent may.taken)
+nothing-begun guest s is-guest synced empty = always-start (IsBeginning guest s) s (empty-reads guest s synced empty)
 
 no_bytes : (l : List ℕ) → 0 ≡ length l → l ≡ []
 no_bytes [] e = refl
