@@ -9,18 +9,18 @@ use Rattle.dp_base.specs.Journal.{Epoch, IsGuest}
 use Rattle.disk_model.specs.History.{History}
 use Rattle.disk_model.specs.Input.{Input}
 use Rattle.dp_report.specs.declared.report.Report.{Report}
-use Rattle.epoch_replay.specs.Play.{Played, Refusal, behind, play_from, play_of, played, played_if, plays_to}
-use Rattle.epoch_replay.specs.Replaying.{Ends, epochs_of}
+use Rattle.epoch_replay.specs.Play.{Play, Played, Refusal, bad_image, no_journal, behind, play_from, play_of, played, played_if, plays_to}
+use Rattle.epoch_replay.specs.Replaying.{Ends, Replayed, epochs_of, report_of as report_in}
 use Rattle.guest_kernel.specs.declared.state.State.{State}
 use Rattle.guest_kernel.specs.Call.{After}
 use Rattle.guest_kernel.specs.Slices.{Stop, at, chain, either, onto, run}
 use Rattle.guest_kernel.specs.Start.{IsGuestFile, start_state}
-use Rattle.journal_text.specs.Reading.{Tail, end, ending, journal_of, reads}
+use Rattle.journal_text.specs.Reading.{Reading, Tail, end, ending, journal_of, reads}
 use Rattle.journal_text.specs.Records.{IsRecord, Record}
 use Rattle.recorder.specs.declared.options.Options.{Options}
-use Rattle.recorder.specs.Drawing.{Round, epochs_of as epochs_in, supply_of}
-use Rattle.recorder.specs.Recording.{EachIsNext, HasRoom, Recorded, Run, epochs, first_behind, records_of}
-use Rattle.supply.specs.Supplied.{Supplied, empty}
+use Rattle.recorder.specs.Recording.{HasRoom, Recorded, Run, epochs, records_of, report_of}
+use Rattle.recorder.proofs.Moments.{are_records}
+use Rattle.supply.specs.Supplied.{empty}
 use Rattle.supply.specs.declared.TheConstants.{MAX_ROOM}
 
 -- ---- a chain of epochs plays as it runs
@@ -50,16 +50,52 @@ unfolding chain play_from
 chain_plays [] number place s = refl
 chain_plays (e ∷ epochs) number place s = in_front (run e.slices (at s [] e.answers)) epochs number (end place) _ (chain_plays epochs (number + 1) place)
 
--- ---- a run's records
+-- ---- what was played is one thing
 
-are_records : (options : Options) (first : ℕ) (s : State) (w : Supplied) (rounds : List Round) → EachIsNext options first s w rounds → AllByRecursion IsRecord (records_of (epochs_in rounds))
-are_records options first s w [] each = tt
-are_records options first s w (r ∷ rounds) each =
-    ((each.3.is_epoch, each.3.fits.1), are_records options (first_behind first r.epoch.slices) each.0 (supply_of w r.draw) rounds each.4)
+abbrev played_in : Played → Play → Played
+played_in other (played p) = p
+played_in other no_journal = other
+played_in other (bad_image fault) = other
+
+abbrev state_in : State → Result State Refusal → State
+state_in other (Ok s) = s
+state_in other (Err why) = other
+
+same_play : (s t : State) (a b : List ℕ) → played (made (Ok s) a) ≡ played (made (Ok t) b) → (s ≡ t) × (a ≡ b)
+same_play s t a b is =
+    let same : made (Ok s) a ≡ made (Ok t) b = ap (played_in (made (Ok t) b)) is in
+    (ap (λ (p : Played). state_in t p.stop) same, ap (λ (p : Played). p.output) same)
+
+-- ---- a file that reads as epochs of a chain
 
 epochs_are : (epochs : List Epoch) → epochs_of (records_of epochs) ≡ epochs
 epochs_are [] = refl
 epochs_are (e ∷ epochs) = ap (λ (l : List Epoch). e ∷ l) (epochs_are epochs)
+
+module _ (guest : List ℕ) (accepted : IsGuestFile guest) (bytes : List ℕ) (epochs : List Epoch) (place : ℕ) (reads_as : reads bytes ≡ Some (ending guest (records_of epochs) place)) (end_ : State) (output : List ℕ)
+    (chained : chain (start_state guest) epochs ≡ Ok (end_, output)) where
+  plays : play_of (ending guest (records_of epochs) place) ≡ made (Ok end_) output
+  plays = subst (λ (c : Result (State × List ℕ) ℕ). ended_as c (play_of (ending guest (records_of epochs) place))) chained (chain_plays epochs 1 place (start_state guest))
+
+  pub chain_is_played : plays_to (reads bytes) ≡ played (made (Ok end_) output)
+  chain_is_played = ap plays_to reads_as ∙ ap (λ (fault : Option ℕ). played_if fault (ending guest (records_of epochs) place)) accepted ∙ ap played plays
+
+  -- a replay of it that answers Ok
+  pub replay_is_its_run : (before after : History) (report : Report) → Replayed (reads bytes) (Some before) (Some after) (Ok report) → (after.sent ≡ before.sent ++ output) × (report ≡ report_of epochs end_ output)
+  replay_is_its_run before after report (told, ends, known) =
+      let same = same_play ends.state end_ told output (sym ends.plays ∙ chain_is_played) in
+      let journal : ends.journal ≡ ending guest (records_of epochs) place = same_Some _ _ (sym ends.journal_is ∙ reads_as) in
+      let there : after ≡ known.0 = same_Some _ _ known.1 in (
+        ap (λ (h : History). h.sent) there ∙ known.2.sent ∙ ap (λ (l : List ℕ). before.sent ++ l) same.1,
+        reported ends.journal ends.state told report journal same.0 same.1 ends.reported,
+      )
+    where
+      reported : (r : Reading) (s : State) (a : List ℕ) (report : Report) → r ≡ ending guest (records_of epochs) place → s ≡ end_ → a ≡ output → report ≡ report_in r a s → report ≡ report_of epochs end_ output
+      reported r s a report reading state output_is is =
+          is ∙ ap (λ (x : Reading). report_in x a s) reading ∙ ap (λ (x : State). report_in (ending guest (records_of epochs) place) a x) state ∙ ap (λ (l : List ℕ). report_in (ending guest (records_of epochs) place) l end_) output_is
+          ∙ ap (λ (l : List Epoch). record { epochs = length l; squashes = 0; steps = end_.steps; sent = length output; end = end_.end; state = digest_of end_ }) (epochs_are epochs)
+
+-- ---- a run's records
 
 abbrev AtRest : Type 0
 AtRest = (guest : List ℕ) (records : List Record) → IsGuest guest → AllByRecursion IsRecord records → length (journal_of guest records) ≤ MAX_JOURNAL_BYTES
@@ -75,11 +111,8 @@ module _ (law : AtRest) (size : Short) (guest : List ℕ) (options : Options) (r
   reads_as : reads (journal_of guest (records_of (epochs r))) ≡ Some (ending guest (records_of (epochs r)) place)
   reads_as = law guest (records_of (epochs r)) (omega (arith, size guest accepted), fits) (are_records options 1 (start_state guest) (empty MAX_ROOM) r.rounds r.each) (omega (arith, room, options.room_range))
 
-  plays : play_of (ending guest (records_of (epochs r)) place) ≡ made (Ok r.end) r.output
-  plays = subst (λ (c : Result (State × List ℕ) ℕ). ended_as c (play_of (ending guest (records_of (epochs r)) place))) r.chained (chain_plays (epochs r) 1 place (start_state guest))
-
   pub run_plays : plays_to (reads (journal_of guest (records_of (epochs r)))) ≡ played (made (Ok r.end) r.output)
-  run_plays = ap plays_to reads_as ∙ ap (λ (fault : Option ℕ). played_if fault (ending guest (records_of (epochs r)) place)) accepted ∙ ap played plays
+  run_plays = chain_is_played guest accepted (journal_of guest (records_of (epochs r))) (epochs r) place reads_as r.end r.output r.chained
 
   pub run_ends : (report : Report) → report ≡ record { epochs = length (epochs r); squashes = 0; steps = r.end.steps; sent = length r.output; end = r.end.end; state = digest_of r.end }
       → Ends (reads (journal_of guest (records_of (epochs r)))) r.output (record report { squashes = 0 })

@@ -1,3 +1,4 @@
 pub mod Statuses
 mod Halves
 mod Replays
+mod Moments

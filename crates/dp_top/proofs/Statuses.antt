@@ -18,8 +18,10 @@ use Rattle.recorder.specs.declared.options.Options.{Options}
 use Rattle.dp_report.specs.declared.report.Report.{Report}
 use Rattle.recorder.specs.declared.record_fault.RecordFault.{RecordFault}
 use Rattle.recorder.specs.declared.record_fault.RecordFault.TheVariants as faults
+use Rattle.recorder.specs.Moments.{EachMoment}
 use Rattle.recorder.specs.Recording.{IsInUse, Recorded}
 use Rattle.recorder.proofs.Drawings.{has_drawn, input-same, none_drawn}
+use Rattle.recorder.proofs.Moments.{nothing_left}
 use Rattle.recorder.proofs.Rounds.{no_round}
 use Rattle.recorder.specs.Drawing.{HasDrawn}
 use Rattle.supply.specs.Supplied.{empty}
@@ -49,20 +51,21 @@ not_attached guest start options i j before after first kept same = (
   no_round options start (omega (arith, first)),
   inl refl,
   ([], omega arith, input-same (HasDrawn [] []) i j kept (λ s. has_drawn (empty MAX_ROOM) 0 [] [] s s (none_drawn s))),
-  known-same _ _ _ same (λ s. record { sent = sym (append-nil s.sent); noted = refl; on_disk = inl refl; untouched = inr refl }),
+  known-same _ _ _ same (λ s. record { sent = sym (append-nil s.sent); noted = refl; on_disk = inl refl; untouched = inr refl; left = λ empty_ synced. nothing_left guest s empty_ synced }),
 )
 
 -- the guest that was fetched was recorded
 pub came_by : (name : List ℕ) (options : Options) (files : Option (List File)) (i j : Option Input) (before after : Option History) (guest loaded there : List ℕ) (state : State) (answer : Result Report RecordFault) (status : Status)
     → IsFetched files name guest → loaded ≡ guest → there ≡ guest → IsGuestFile loaded → state ≡ start_state loaded
-    → status ≡ status_of answer → Recorded there state options i j before after answer → CameTo name options files i j before after status
-came_by name options files i j before after guest loaded there state answer status fetched loaded_is there_is accepted state_is status_is recorded =
+    → status ≡ status_of answer → Recorded there state options i j before after answer → EachMoment there state i j before after → CameTo name options files i j before after status
+came_by name options files i j before after guest loaded there state answer status fetched loaded_is there_is accepted state_is status_is recorded moments =
     let started : state ≡ start_state guest = state_is ∙ ap start_state loaded_is in
     let as_ : RecordedAs name options files i j before after answer = record {
       bytes = guest;
       fetched = fetched;
       accepted = subst IsGuestFile loaded_is accepted;
       recorded = subst (λ (s : State). Recorded guest s options i j before after answer) started (subst (λ (g : List ℕ). Recorded g state options i j before after answer) there_is recorded);
+      moments = subst (λ (s : State). EachMoment guest s i j before after) started (subst (λ (g : List ℕ). EachMoment g state i j before after) there_is moments);
     } in
     subst (CameTo name options files i j before after) (sym status_is) (of_answer name options files i j before after answer as_)
 
@@ -74,7 +77,7 @@ guest_named (Some (Replay journal workers)) = []
 guest_named None = []
 
 -- words ask for one guest
-same_name : (words : List (String Global)) (a b : Asked words) → a.guest ≡ b.guest
+pub same_name : (words : List (String Global)) (a b : Asked words) → a.guest ≡ b.guest
 same_name words a b = ap guest_named (sym a.said ∙ b.said)
 
 abbrev asks_to_record : Option Command → Bool

@@ -16,6 +16,7 @@ use Rattle.guest_kernel.specs.Start.{IsGuestFile, start_state}
 use Rattle.recorder.specs.declared.options.Options.{Options}
 use Rattle.recorder.specs.declared.record_fault.RecordFault.{RecordFault}
 use Rattle.recorder.specs.declared.record_fault.RecordFault.TheVariants as faults
+use Rattle.recorder.specs.Moments.{EachMoment}
 use Rattle.recorder.specs.Recording.{Recorded}
 use Rattle.dp_words.specs.Commands.{are_taken}
 use Rattle.epoch_replay.specs.declared.replay_fault.ReplayFault.{ReplayFault}
@@ -30,6 +31,7 @@ pub record RecordedAs (name : List ℕ) (options : Options) (files : Option (Lis
   pub fetched : IsFetched files name bytes
   pub accepted : IsGuestFile bytes
   pub recorded : Recorded bytes (start_state bytes) options i j before after answer
+  pub moments : EachMoment bytes (start_state bytes) i j before after
 
 -- What a record command comes to, before its status is told on Note.
 abbrev pub CameTo : (name : List ℕ) → Options → Option (List File) → (i j : Option Input) → (before after : Option History) → Status → Type 0

@@ -4,6 +4,7 @@ ghost use Rattle.disk_model.specs.Counts.{Rose};
 ghost use Rattle.dp_report.specs.declared.report.Report.{Report};
 ghost use Rattle.guest_kernel.specs.Start.{IsGuestFile, start_state};
 ghost use Rattle.recorder.specs.declared.record_fault.RecordFault.{RecordFault};
+ghost use Rattle.recorder.specs.Moments.{EachMoment};
 ghost use Rattle.recorder.specs.Recording.{Recorded};
 ghost use Rattle.dp_top.specs.Answer.{status_of};
 
@@ -29,6 +30,7 @@ pub fn record_guest<R, I: Inlet, W: World>(
     requires starts { start ≡ start_state guest.now }
     ensures recorded { (answer : Result Report RecordFault) × (result.1 ≡ status_of answer)
         × Recorded guest.now start options (I.input inlet.old) (I.input inlet.new) (W.history world) (W.history result.0) answer }
+    ensures moments { EachMoment guest.now start (I.input inlet.old) (I.input inlet.new) (W.history world) (W.history result.0) }
     ensures input_fault { result.1 ≡ Status.InputFault → Rose (I.input_faults inlet.old) (I.input_faults inlet.new) }
     ensures disk_fault { result.1 ≡ Status.DiskFault → Rose (W.disk_faults world) (W.disk_faults result.0) }
     ensures output_fault { result.1 ≡ Status.OutputFault → Rose (W.sink_faults world) (W.sink_faults result.0) }

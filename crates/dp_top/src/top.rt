@@ -1,12 +1,13 @@
 // The top call.
 ghost use Rattle.std.specs.Prelude.{◌≡◌, ◌≤◌, ◌⊎◌, ℕ, Bool, false};
 ghost use Rattle.disk_model.specs.Counts.{Rose};
-ghost use Rattle.disk_model.specs.Known.{known_disk};
+ghost use Rattle.disk_model.specs.Known.{IfKnown, known_disk};
 ghost use Rattle.epoch_replay.specs.Replaying.{IsKnownToEnd};
 ghost use Rattle.dp_words.specs.Commands.{are_taken};
 ghost use Rattle.elf_image.specs.Faults.{number_of};
 ghost use Rattle.dp_top.specs.Answer.{status_of_image};
 ghost use Rattle.dp_top.specs.Asking.{Asked, AskedReplay};
+ghost use Rattle.dp_top.specs.Moments.{EveryMoment, StillThroughout};
 ghost use Rattle.dp_top.specs.Running.{CameTo, Did, IsBadImage, IsKnownEmpty, IsNoFault, NamesGuest, Ran};
 
 use crate::recording::record_guest;
@@ -43,6 +44,15 @@ pub fn run<R, F: Files, I: Inlet, W: World>(
         × (W.sink_faults world ≤ faults) × (faults ≤ W.sink_faults result.0)
         × (result.1 ≡ Status.OutputFault → Rose (W.sink_faults world) faults)
         × (told ≡ false → Rose faults (W.sink_faults result.0)) }
+
+    // At whatever moment a recording is stopped, within a call or between two: what a crash leaves on a disk that was empty, with nothing
+    // pending, is no journal, and nothing was sent; or whole epochs in order that are one run of the guest on its input, of whose
+    // output a prefix was sent. On a disk that wasn't empty, and where no journal is attached, nothing is written or sent.
+    ensures every_moment { (asked : Asked words.now) →
+        IfKnown (EveryMoment asked.guest (F.directory files.old) (I.input inlet.old) (I.input inlet.new)) (W.history world) (W.history result.0) }
+    ensures still { (result.1 ≡ Status.Usage) ⊎ (result.1 ≡ Status.GuestFault)
+        ⊎ (Asked words.now × IsBadImage result.1) →
+        IfKnown StillThroughout (W.history world) (W.history result.0) }
 
     // When each refusal comes.
     ensures usage { result.1 ≡ Status.Usage → are_taken words.now ≡ false }

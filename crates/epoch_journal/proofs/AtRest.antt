@@ -19,7 +19,7 @@ empty-reads guest h synced empty image sent may =
     (inl (no-journal-in-a-byte image may.on_disk.bytes (omega (arith, ap (λ (l : List ℕ). length l) is))), may.got ∙ got-nothing h.sent may.taken)
 
 module _ (guest : List ℕ) (is-guest : IsGuest guest) where
-  image-reads : (records : List Record) (h : History) (image : List ℕ) → Stands guest records h → AllByRecursion IsRecord records → length (journal_of guest records) ≤ MAX_JOURNAL_BYTES
+  pub image-reads : (records : List Record) (h : History) (image : List ℕ) → Stands guest records h → AllByRecursion IsRecord records → length (journal_of guest records) ≤ MAX_JOURNAL_BYTES
       → IsImage h.pending image → Reads guest records image
   image-reads records h image stands are fits may =
       let is : image ≡ h.disk = image-synced h.disk image (subst (λ (p : Pending). IsImage p image) stands.synced may) in

@@ -1,5 +1,6 @@
 // A record is appended to a journal.
 ghost use Rattle.std.specs.Prelude.{◌≡◌, ◌<◌, ◌≤◌, IsErr, IsErrOf, is_ok, length};
+ghost use Rattle.dp_base.specs.declared.limits.TheConstants.{MAX_JOURNAL_BYTES};
 ghost use Rattle.disk_model.specs.Counts.{Rose};
 ghost use Rattle.disk_model.specs.Known.{IfKnown};
 ghost use Rattle.epoch_journal.specs.Appending.{Appended, FrameWritten, HasAppended, MakesNoCall};
@@ -31,6 +32,7 @@ impl Journal {
     pub fn append<W: World>(&mut self, world: &mut W, added: &Frame) -> Result<(), AppendFault>
         ensures history { IfKnown (Appended self.old added.now result) (W.history world.old) (W.history world.new) }
         ensures numbers { HasAppended self.old (length added.now) self.new result }
+        ensures room { self.old.room ≤ MAX_JOURNAL_BYTES }
         ensures untouched { MakesNoCall result → world.new ≡ world.old }
         ensures cause { IsErrOf result AppendFault.DiskFault →
             Rose (W.disk_faults world.old) (W.disk_faults world.new) }

@@ -99,7 +99,7 @@ bytes_read-append [] ys = refl
 bytes_read-append (Read bytes ∷ xs) ys = ap (λ (l : List ℕ). bytes ++ l) (bytes_read-append xs ys) ∙ sym (append_assoc bytes (bytes_read xs) (bytes_read ys))
 bytes_read-append (Clock reading ∷ xs) ys = bytes_read-append xs ys
 
-clock_readings-append : (xs ys : List Answer) → clock_readings (xs ++ ys) ≡ clock_readings xs ++ clock_readings ys
+pub clock_readings-append : (xs ys : List Answer) → clock_readings (xs ++ ys) ≡ clock_readings xs ++ clock_readings ys
 clock_readings-append [] ys = refl
 clock_readings-append (Read bytes ∷ xs) ys = clock_readings-append xs ys
 clock_readings-append (Clock reading ∷ xs) ys = ap (λ (l : List ℕ). reading ∷ l) (clock_readings-append xs ys)

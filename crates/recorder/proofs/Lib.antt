@@ -1,5 +1,6 @@
 mod Commits
 pub mod Drawings
 pub mod Rounds
-mod Alike
+pub mod Alike
 mod InputReads
+pub mod Moments

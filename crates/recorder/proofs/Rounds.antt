@@ -6,7 +6,7 @@ use Rattle.std.specs.List.{AllByRecursion}
 use Rattle.std.proofs.lemmas.List.Sums.{sum_by-cons}
 use Rattle.dp_base.specs.declared.answer.Answer.{Answer}
 use Rattle.dp_base.specs.declared.slice.Slice.{Slice}
-use Rattle.dp_base.specs.Journal.{Epoch, IsAnswer, IsSlice, steps_of, epoch_body, frame}
+use Rattle.dp_base.specs.Journal.{Epoch, IsAnswer, IsGuest, IsSlice, steps_of, epoch_body, frame}
 use Rattle.epoch_runner.specs.declared.bounds.Bounds.{Bounds}
 use Rattle.epoch_runner.specs.declared.epoch_run.EpochRun.{EpochRun}
 use Rattle.epoch_runner.specs.declared.epoch_run.Ran.{Ran}
@@ -17,9 +17,10 @@ use Rattle.epoch_runner.specs.Supplying.{IsSuppliedBy}
 use Rattle.disk_model.specs.Input.{IfInput, Input, IsLast}
 use Rattle.supply.specs.Supplied.{IsSupply, Supplied, empty, end_of, refilled}
 use Rattle.supply.specs.declared.TheConstants.{MAX_ROOM}
-use Rattle.recorder.specs.Drawing.{Draw, Drew, HasDrawn, Round, answers_of, draws_of, epochs_of, supply_behind, supply_of}
+use Rattle.recorder.specs.Drawing.{Draw, Drew, HasDrawn, IsHonestSince, Round, answers_of, draws_of, epochs_of, supply_behind, supply_of}
 use Rattle.recorder.proofs.Drawings.{IsDrawn, TakeLaws, drawn_more, has_drawn, input-map, input-same, input-then, none_drawn, taken_more}
-use Rattle.disk_model.specs.History.{History}
+use Rattle.disk_model.specs.History.{History, IsSynced}
+use Rattle.disk_model.specs.Moments.{Always}
 use Rattle.disk_model.specs.Known.{IfKnown}
 use Rattle.disk_model.proofs.Knowing.{known-map, known-then}
 use Rattle.guest_kernel.specs.declared.state.State.{State}
@@ -35,19 +36,21 @@ use Rattle.recorder.specs.declared.commit.CommitFault.{CommitFault}
 use Rattle.recorder.specs.declared.commit.CommitFault.TheVariants as commits
 use Rattle.recorder.specs.declared.record_fault.RecordFault.TheVariants as faults
 use Rattle.recorder.specs.Faults.{of_begin, of_commit}
-use Rattle.recorder.specs.Committing.{Committed, HasCommitted}
+use Rattle.recorder.specs.Committing.{CommitMoments, Committed, HasCommitted}
 use Rattle.recorder.specs.Recording.{IsNext, EachIsNext, Run, epoch_steps, first_after, first_behind, HasDrawnOn, HasRoom, IsRecorded, Recorded, records_of, reported}
 use Rattle.checkpoint.specs.State.{digest_of}
 use Rattle.device.specs.Sending.{Sent}
 use Rattle.disk_model.specs.declared.world.Stream.TheVariants.{Note}
 use Rattle.dp_report.specs.declared.report.Report.{Report}
 use Rattle.dp_report.specs.Texts.{report_line}
-use Rattle.epoch_journal.specs.Appending.{IsAppend}
+use Rattle.epoch_journal.specs.Appending.{IsAppend, RecordMoments}
 use Rattle.epoch_journal.specs.Beginning.{Begun, HasBegun}
 use Rattle.epoch_journal.specs.Standing.{Journal, Stands}
 use Rattle.epoch_journal.proofs.OnDisk.{length-journal-push}
-use Rattle.journal_text.specs.Reading.{journal_of}
-use Rattle.journal_text.specs.Records.{Record, epoch}
+use Rattle.journal_text.specs.Reading.{journal_of, reads}
+use Rattle.journal_text.specs.Records.{IsRecord, Record, epoch}
+use Rattle.recorder.specs.Moments.{EachMoment, HoldsAt, answers_in}
+use Rattle.recorder.proofs.Moments.{AlwaysPartly, answers_are, append_left, appends_partly, are_records, begin_left, begins_partly, commits_partly, each_moment, known-both, noted-too, nothing_begun, records_more}
 
 -- ---- runs
 
@@ -145,6 +148,7 @@ pub record SoFar (guest : List ℕ) (options : Options) (start : State) (i there
   pub are_answers : AreAnswers (epochs_of done)
   pub drawn : IfInput (IsDrawn w state.input (draws_of done) (answers_of done)) i there
   pub history : IfKnown (IsRecorded guest (epochs_of done) output) first now
+  pub moments : IfKnown (AlwaysPartly guest start (epochs_of done)) first now
   pub place_is : j.end ≡ length (journal_of guest (records_of (epochs_of done)))
   pub room_is : j.room ≡ options.room
   pub fits : j.end ≤ j.room
@@ -206,7 +210,7 @@ not_idle s w bounds ran t has is some can =
 
 -- ---- it begins
 
-module _ (guest : List ℕ) (options : Options) (start : State) (i : Option Input) (first : Option History) where
+module _ (guest : List ℕ) (guest_is : IsGuest guest) (options : Options) (start : State) (i : Option Input) (first : Option History) where
   pub begun_so_far : (now : Option History) (j : Journal) → start.steps ≡ 0 → start.input ≡ 0 → CanGoOn start → HasBegun (length guest) options.room (Ok j) → length (journal_of guest []) ≡ 10 + length guest
       → IfKnown (Begun guest (Ok j)) first now → (so_far : SoFar guest options start i i first now start (empty MAX_ROOM) j 0 0) × (so_far.done ≡ [])
   unfolding chain
@@ -228,6 +232,7 @@ module _ (guest : List ℕ) (options : Options) (start : State) (i : Option Inpu
           are_answers = tt;
           drawn = input-same (IsDrawn (empty MAX_ROOM) start.input [] []) i i refl (λ s. subst (λ (n : ℕ). IsDrawn (empty MAX_ROOM) n [] [] s s) (sym input) (none_drawn s));
           history = known-map _ _ _ _ (λ s t b. record { empty = b.0; stands = b.1; sent = b.2.sent ∙ sym (append-nil s.sent); noted = b.2.noted }) begun;
+          moments = known-map _ _ _ _ (λ s t b empty synced. begins_partly guest start (no_epochs start) s t (b.3 guest_is synced empty)) begun;
           place_is = end_is ∙ sym size;
           room_is = ap (λ (k : Journal). k.room) begun_is.0;
           fits = omega (arith, begun_is.1, end_is, ap (λ (k : Journal). k.room) begun_is.0);
@@ -247,10 +252,21 @@ module _ (guest : List ℕ) (options : Options) (start : State) (i : Option Inpu
     no_round options start few,
     inl refl,
     ([], omega arith, input-same (HasDrawn [] []) i i refl (λ s. has_drawn (empty MAX_ROOM) 0 [] [] s s (none_drawn s))),
-    known-map _ _ _ _ (λ s t b. record { sent = b.0.sent ∙ sym (append-nil s.sent); noted = b.0.noted; on_disk = inl refl; untouched = b.1 }) begun,
+    known-map _ _ _ _ (λ s t b. record { sent = b.0.sent ∙ sym (append-nil s.sent); noted = b.0.noted; on_disk = inl refl; untouched = b.1; left = λ empty synced. begin_left guest start s t (b.2 guest_is synced empty) }) begun,
   )
   begin_failed now (begins.Full end need) few numbers begun = inl (numbers.0, numbers.1, numbers.2, refl, begun)
   begin_failed now begins.OutOfMemory few numbers begun = inl (refl, begun)
+
+  nothing_written : (s t : History) → t ≡ s → s.disk ≡ [] → IsSynced s → Always (HoldsAt guest start i i s) s t
+  nothing_written s t same empty synced = subst (λ (h : History). Always (HoldsAt guest start i i s) s h) (sym same) (nothing_begun guest start i i s empty synced)
+
+  pub begin_failed_moments : (now : Option History) (fault : BeginFault) → IfKnown (Begun guest (Err fault)) first now → EachMoment guest start i i first now
+  begin_failed_moments now (begins.InUse len) begun = known-map _ _ _ _ (λ s t b. nothing_written s t b.1) begun
+  begin_failed_moments now begins.DiskFault begun =
+      each_moment guest start [] i i (input-same (IsHonestSince []) i i refl (λ s. (has_drawn (empty MAX_ROOM) 0 [] [] s s (none_drawn s)).1)) first now
+      (known-map _ _ _ _ (λ s t b empty_ synced. begins_partly guest start (no_epochs start) s t (b.2 guest_is synced empty_)) begun)
+  begin_failed_moments now (begins.Full end need) begun = known-map _ _ _ _ (λ s t b. nothing_written s t b.1) begun
+  begin_failed_moments now begins.OutOfMemory begun = known-map _ _ _ _ (λ s t b. nothing_written s t b.1) begun
 
   -- ---- it stops
 
@@ -275,6 +291,26 @@ module _ (guest : List ℕ) (options : Options) (start : State) (i : Option Inpu
 
     no_more : HasDrawnOn (draws_of so_far.done) (answers_of so_far.done) i there
     no_more = ([], omega arith, subst (λ (l : List Draw). IfInput (HasDrawn l (answers_of so_far.done)) i there) (sym (append-nil (draws_of so_far.done))) drawn_still)
+
+    honest_of : (later : Option Input) (draws : List Draw) → IfInput (HasDrawn draws (answers_of so_far.done)) i later → IfInput (IsHonestSince (answers_in (epochs_of so_far.done))) i later
+    honest_of later draws drawn = input-map (HasDrawn draws (answers_of so_far.done)) (IsHonestSince (answers_in (epochs_of so_far.done))) i later
+        (λ s t h. subst (λ (l : List Answer). IsHonestSince l s t) (answers_are so_far.done) h.1)
+        drawn
+
+    -- every moment so far
+    pub moments_now : (later : Option Input) → later ≡ there → EachMoment guest start i later first now
+    moments_now later same =
+        let honest = honest_of there (draws_of so_far.done) drawn_still in
+        each_moment guest start (epochs_of so_far.done) i later (subst (λ (o : Option Input). IfInput (IsHonestSince (answers_in (epochs_of so_far.done))) i o) (sym same) honest) first now so_far.moments
+
+    records_are : AllByRecursion IsRecord (records_of (epochs_of so_far.done))
+    records_are = are_records options 1 start (empty MAX_ROOM) so_far.done so_far.each
+
+    -- while its line is sent
+    pub told_moments : (bytes : List ℕ) (ok : Bool) (later : Option History) → IfKnown (Sent Note bytes ok) now later → EachMoment guest start i there first later
+    told_moments bytes ok later known = known-then _ _ _ _ _ _
+        (λ s t u r b empty_ synced. noted-too (HoldsAt guest start i there s) bytes s t u (r empty_ synced) b.1.moments)
+        (moments_now there refl) known
 
     pub step_limit : has_ended state.end ≡ false → options.limit ≤ state.steps → Recorded guest start options i there first now (Err (faults.StepLimit state.steps))
     step_limit going reached = (run_so_far, going, refl, omega (arith, so_far.counted), fits_still, drawn_still, so_far.history)
@@ -373,6 +409,10 @@ module _ (guest : List ℕ) (options : Options) (start : State) (i : Option Inpu
       pub out_of_memory : has_ended state.end ≡ false → state.steps < options.limit → Recorded guest start options i later first now (Err faults.OutOfMemory)
       out_of_memory going left = inr (run_so_far, inr (going, left), fits_still, one_more, so_far.history)
 
+      -- and nothing came of it
+      pub drawn_moments : EachMoment guest start i later first now
+      drawn_moments = each_moment guest start (epochs_of so_far.done) i later (honest_of later (draws_of so_far.done ++ round.draw ∷ []) drawn_round) first now so_far.moments
+
       -- ---- an epoch that is next
 
       module _ (behind : Option History) (e : Epoch) (end : State) (output : List ℕ) (next_ : IsNext options (first_after 1 (epochs_of so_far.done)) state with_ e end output)
@@ -406,6 +446,42 @@ module _ (guest : List ℕ) (options : Options) (start : State) (i : Option Inpu
             (HasDrawn (draws_of so_far.done ++ round.draw ∷ []) (answers_of so_far.done ++ e.answers)) i later
             (λ s t a. has_drawn with_ end.input (draws_of so_far.done ++ round.draw ∷ []) (answers_of so_far.done ++ e.answers) s t a)
             drawn_epoch
+
+        records_there : AllByRecursion IsRecord (records_of (epochs_of so_far.done) ++ epoch e ∷ [])
+        records_there = records_more (records_of (epochs_of so_far.done)) (epoch e) records_are (next_.is_epoch, next_.fits.1)
+
+        abbrev E : List Epoch
+        E = epochs_of so_far.done
+
+        -- every moment of a commit, however far it came
+        module _ (longer : chain start (E ++ e ∷ []) ≡ Ok (end, so_far.output ++ output)) where
+          while_committed : IfKnown (CommitMoments j added output) now behind → IfKnown (AlwaysPartly guest start (E ++ e ∷ [])) first behind
+          while_committed known = known-then _ _ _ _ _ _
+              (λ s t u r k empty_ synced. commits_partly guest start E e state end so_far.output output so_far.chained longer (records-push E e) s t r.0.sent u (r.1 empty_ synced)
+              (k guest (records_of E) (epoch e) (appends_there s t r.0) guest_is records_there))
+              (known-both _ _ _ _ so_far.history so_far.moments) known
+
+          while_appended : IfKnown (RecordMoments j.end added) now behind → IfKnown (AlwaysPartly guest start (E ++ e ∷ [])) first behind
+          while_appended known = known-then _ _ _ _ _ _
+              (λ s t u r k empty_ synced. appends_partly guest start E e state end so_far.output output so_far.chained longer (records-push E e) s t r.0.sent u (r.1 empty_ synced)
+              (k guest (records_of E) (epoch e) (appends_there s t r.0) guest_is records_there))
+              (known-both _ _ _ _ so_far.history so_far.moments) known
+
+          honest_there : IfInput (IsHonestSince (answers_in (E ++ e ∷ []))) i later
+          honest_there = input-map (HasDrawn (draws_of so_far.done ++ round.draw ∷ []) (answers_of so_far.done ++ e.answers)) (IsHonestSince (answers_in (E ++ e ∷ []))) i later
+              (λ s t h. subst (λ (l : List Answer). IsHonestSince l s t)
+              (sym (answers-push so_far.done round_is) ∙ answers_are (so_far.done ++ round_is ∷ []) ∙ ap answers_in (epochs-push so_far.done round_is)) h.1)
+              honest_epoch
+
+          pub commit_failed_moments : (fault : CommitFault) (j' : Journal) → HasCommitted j (length added) j' (Err fault) → IfKnown (Committed j added output (Err fault)) now behind
+              → EachMoment guest start i later first behind
+          commit_failed_moments commits.DiskFault j' numbers known =
+              each_moment guest start (E ++ e ∷ []) i later honest_there first behind (while_appended (known-map _ _ _ _ (λ s t k. k.2) known))
+          commit_failed_moments (commits.Full end_ need) j' numbers known = known-then _ _ _ _ _ _
+              (λ s t u r k empty_ synced. subst (λ (h : History). Always (HoldsAt guest start i later s) s h) (sym k) (r empty_ synced)) drawn_moments known
+          commit_failed_moments (commits.Failed last) j' numbers known = absurd (let bad = sym numbers.0 ∙ so_far.works in cc)
+          commit_failed_moments commits.OutputFault j' numbers known =
+              each_moment guest start (E ++ e ∷ []) i later honest_there first behind (while_committed (known-map _ _ _ _ (λ s t k. k.3) known))
 
         -- it was committed
         pub committed : CanGoOn end → end.steps ≡ state.steps + steps_of e.slices → end.input ≤ state.input + MAX_CALL_BYTES * steps_of e.slices → steps_of e.slices ≤ epoch_steps options state
@@ -444,6 +520,7 @@ module _ (guest : List ℕ) (options : Options) (start : State) (i : Option Inpu
                       noted = k.2 ∙ r.noted;
                     })
                     so_far.history known);
+                moments = subst (λ (l : List Epoch). IfKnown (AlwaysPartly guest start l) first behind) (sym epochs_are) (while_committed chained (known-map _ _ _ _ (λ s t k. k.3) known));
                 place_is = omega (arith, end_is, size_more, so_far.place_is, ap (λ (l : List ℕ). length l) framed) ∙ ap (λ (l : List Epoch). length (journal_of guest (records_of l))) (sym epochs_are);
                 room_is = ap (λ (k : Journal). k.room) numbers.2 ∙ so_far.room_is;
                 fits = omega (arith, end_is, numbers.1, ap (λ (k : Journal). k.room) numbers.2);
@@ -464,7 +541,13 @@ module _ (guest : List ℕ) (options : Options) (start : State) (i : Option Inpu
           inr fits_still,
           one_more,
           known-then _ _ _ _ _ _
-              (λ s t u r k. record { sent = k.0.sent ∙ r.sent; noted = k.0.noted ∙ r.noted; on_disk = inr (k.1 guest (records_of (epochs_of so_far.done)) (epoch e) (appends_there s t r)); untouched = inl r.empty })
+              (λ s t u r k. record {
+                sent = k.0.sent ∙ r.sent;
+                noted = k.0.noted ∙ r.noted;
+                on_disk = inr (k.1 guest (records_of (epochs_of so_far.done)) (epoch e) (appends_there s t r));
+                untouched = inl r.empty;
+                left = λ empty_ synced. append_left guest start E e (records-push E e) t u (k.2 guest (records_of E) (epoch e) (appends_there s t r) guest_is records_there);
+              })
               so_far.history known,
         )
         commit_failed (commits.Full end_ need) going left j' numbers known = inr (

@@ -2,3 +2,4 @@ pub mod Committing
 pub mod Faults
 pub mod Drawing
 pub mod Recording
+pub mod Moments

@@ -1,13 +1,14 @@
 -- What a recording comes to: a run of the guest in rounds, each of which draws from the input and runs an epoch, which is in the
 -- journal and was sent. This project's own.
-use Rattle.std.specs.Prelude.{◌≡◌, ◌⊎◌, ◌<◌, ◌≤◌, ◌+◌, ◌-◌, min, ℕ, true, false, List, [], ◌∷◌, ◌++◌, length, map, take, Option, Result, Ok, Err, ⊤}
+use Rattle.std.specs.Prelude.{◌≡◌, ◌⊎◌, ◌<◌, ◌≤◌, ◌+◌, ◌-◌, min, ℕ, true, false, List, [], ◌∷◌, ◌++◌, length, map, take, Option, None, Result, Ok, Err, ⊤}
 use Rattle.dp_base.specs.Encoding.{IsPrefixOf}
 use Rattle.dp_base.specs.declared.answer.Answer.{Answer}
 use Rattle.dp_base.specs.declared.slice.Slice.{Slice}
 use Rattle.dp_base.specs.Journal.{Epoch, IsBody, IsEpoch, epoch_body, frame}
-use Rattle.disk_model.specs.History.{History}
+use Rattle.disk_model.specs.History.{History, IsSynced, now}
 use Rattle.disk_model.specs.Input.{IfInput, Input}
 use Rattle.disk_model.specs.Known.{IfKnown}
+use Rattle.disk_model.specs.Moments.{Then}
 use Rattle.guest_kernel.specs.declared.state.State.{State}
 use Rattle.guest_kernel.specs.Slices.{at, run, chain}
 use Rattle.guest_kernel.specs.State.{has_ended}
@@ -23,8 +24,9 @@ use Rattle.supply.specs.Supplied.{Supplied, empty}
 use Rattle.supply.specs.declared.TheConstants.{MAX_ROOM}
 use Rattle.recorder.specs.Drawing.{Draw, HasDrawn, Round, answers_of, draws_of, epochs_of, supply_behind, supply_of}
 use Rattle.checkpoint.specs.State.{digest_of}
+use Rattle.epoch_journal.specs.Images.{Reads}
 use Rattle.epoch_journal.specs.Standing.{Stands}
-use Rattle.journal_text.specs.Reading.{journal_of}
+use Rattle.journal_text.specs.Reading.{journal_of, reads}
 use Rattle.journal_text.specs.Records.{Record, epoch}
 
 -- ---- a run in epochs
@@ -124,12 +126,20 @@ pub record IsPartlySent (guest : List ℕ) (epochs : List Epoch) (last : Epoch) 
   pub sent : after.sent ≡ before.sent ++ (output ++ take count last_output)
   pub noted : after.noted ≡ before.noted
 
--- The run's whole output was sent, and no more. What the last sync had left on the disk begins with its journal.
+-- What a crash may leave behind a fault of the disk: the journal of these epochs, or of these and the one that was being written; or
+-- no journal yet, before the first.
+abbrev pub IsLeft : (guest : List ℕ) → List Epoch → (image : List ℕ) → Type 0
+IsLeft guest epochs image = ((epochs ≡ []) × (reads image ≡ None)) ⊎ (Reads guest (records_of epochs) image)
+    ⊎ ((e : Epoch) × Reads guest (records_of (epochs ++ e ∷ [])) image)
+
+-- The run's whole output was sent, and no more. What the last sync had left on the disk begins with its journal, and a crash leaves
+-- that, or that and a record more.
 pub record IsInterrupted (guest : List ℕ) (epochs : List Epoch) (output : List ℕ) (before after : History) : Type 0 where
   pub sent : after.sent ≡ before.sent ++ output
   pub noted : after.noted ≡ before.noted
   pub on_disk : (epochs ≡ []) ⊎ IsPrefixOf (journal_of guest (records_of epochs)) after.pending.synced
   pub untouched : (before.disk ≡ []) ⊎ (after ≡ before)
+  pub left : before.disk ≡ [] → IsSynced before → Then (λ image sent. IsLeft guest epochs image) (now after)
 
 -- nothing was written or sent
 abbrev pub IsUntouched : History → History → Type 0

@@ -1,6 +1,7 @@
 use Rattle.std.proofs.Common.{Err, refl, ap}
 use Rattle.guest_kernel.specs.declared.state.State.{State}
 use Rattle.recorder.specs.declared.record_fault.RecordFault.TheVariants as faults
+use Rattle.dp_top.proofs.Moments.{not_begun}
 use Rattle.dp_top.proofs.Statuses.{not_attached}
 use Rattle.dp_top.proofs.recording.record_guest.Goals as goal
 
@@ -10,3 +11,6 @@ returns-then-is_err-clause-recorded g c = (
   refl,
   not_attached c.args.guest.now c.args.start c.args.options _ _ _ _ (ap (λ (s : State). s.steps) c.requires.starts) refl c.attach.ensures.history,
 )
+
+pub returns-then-is_err-clause-moments : goal.returns-then-is_err-clause-moments
+returns-then-is_err-clause-moments g c = not_begun c.args.guest.now c.args.start _ _ _ c.attach.ensures.history

@@ -1,4 +1,6 @@
+use Rattle.std.proofs.Common.{ap}
 use Rattle.std.specs.Prelude.{is_ok}
+use Rattle.dp_top.proofs.Moments.{command_moments, still_throughout}
 use Rattle.dp_top.proofs.Statuses.{complete, err_where_not_ok, rose_before, rose_same}
 use Rattle.dp_top.proofs.top.run.Goals as goal
 
@@ -23,3 +25,9 @@ returns-clause-ran g c =
       did.output_fault,
       λ cut. told.cause (err_where_not_ok c.emit_fault.result cut),
     )
+
+pub returns-clause-every_moment : goal.returns-clause-every_moment
+returns-clause-every_moment g c = λ asked. command_moments c.args.words.now _ _ _ _ _ _ c.do_command-world.result.1 _ c.do_command-world.ensures.did c.emit_fault.ensures.history asked
+
+pub returns-clause-still : goal.returns-clause-still
+returns-clause-still g c = λ why. still_throughout _ _ _ c.do_command-world.result.1 _ (ap g.W.World.history (c.do_command-world.ensures.no_call why)) c.emit_fault.ensures.history

@@ -1,9 +1,10 @@
+use Rattle.std.proofs.Common.{arith}
 use Rattle.disk_model.proofs.Knowing.{known-map, known-then}
 use Rattle.recorder.proofs.Commits.{not_sent, sent_whole}
 use Rattle.recorder.proofs.commit.commit_epoch.Goals as goal
 
 pub returns-in-Err-DiskFault-clause-history : goal.returns-in-Err-DiskFault-clause-history
-returns-in-Err-DiskFault-clause-history g c = known-map _ _ _ _ (λ s t a. (a.0, a.1)) (rw c.in-Err-DiskFault.field-0-is at c.in-Err-DiskFault.ensures.history)
+returns-in-Err-DiskFault-clause-history g c = known-map _ _ _ _ (λ s t a. a) (rw c.in-Err-DiskFault.field-0-is at c.in-Err-DiskFault.ensures.history)
 
 pub returns-in-Err-Full-clause-history : goal.returns-in-Err-Full-clause-history
 returns-in-Err-Full-clause-history g c = known-map _ _ _ _ (λ s t a. a) (rw c.in-Err-Full.field-0-is at c.in-Err-Full.ensures.history)
@@ -13,8 +14,8 @@ returns-in-Err-Failed-clause-history g c = known-map _ _ _ _ (λ s t a. a) (rw c
 
 pub returns-in-Ok-send_all-clause-history : goal.returns-in-Ok-send_all-clause-history
 returns-in-Ok-send_all-clause-history g c =
-    known-then _ _ _ _ _ _ (sent_whole c.args.journal.now c.args.ready.now.frame c.args.ready.now.out) c.in-Ok.ensures.history (rw c.as_slice.ensures at c.in-Ok-send_all.ensures.history)
+    known-then _ _ _ _ _ _ (sent_whole c.args.journal.now c.args.ready.now.frame c.args.ready.now.out (omega (arith, c.in-Ok.ensures.numbers.1, c.in-Ok.ensures.room))) c.in-Ok.ensures.history (rw c.as_slice.ensures at c.in-Ok-send_all.ensures.history)
 
 pub returns-in-Err-clause-history : goal.returns-in-Err-clause-history
 returns-in-Err-clause-history g c =
-    known-then _ _ _ _ _ _ (not_sent c.args.journal.now c.args.ready.now.frame c.args.ready.now.out) c.in-Ok.ensures.history (rw c.as_slice.ensures at c.in-Err.ensures.history)
+    known-then _ _ _ _ _ _ (not_sent c.args.journal.now c.args.ready.now.frame c.args.ready.now.out (omega (arith, c.in-Ok.ensures.numbers.1, c.in-Ok.ensures.room))) c.in-Ok.ensures.history (rw c.as_slice.ensures at c.in-Err.ensures.history)

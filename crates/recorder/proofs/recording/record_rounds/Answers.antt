@@ -1,7 +1,9 @@
-use Rattle.std.proofs.Common.{◌≡◌, ◌+◌, ◌<◌, ℕ, true, false, List, [], ◌∷◌, ◌++◌, length, Err, refl, sym, ap, ◌∙◌, subst, arith}
+use Rattle.std.proofs.Common.{◌≡◌, ◌+◌, ◌<◌, ◌≤◌, ℕ, true, false, List, [], ◌∷◌, ◌++◌, length, Err, refl, sym, ap, ◌∙◌, subst, arith}
 use Rattle.std.proofs.lemmas.List.{length_push}
 use Rattle.std.proofs.lemmas.Result.{err_from_is_err_and}
-use Rattle.dp_base.specs.Journal.{closed_gate, header}
+use Rattle.dp_base.specs.declared.limits.TheConstants.{MAX_GUEST_BYTES}
+use Rattle.dp_base.specs.Field.{AreBytes}
+use Rattle.dp_base.specs.Journal.{IsGuest, closed_gate, header}
 use Rattle.journal_text.specs.Reading.{journal_of}
 use Rattle.guest_kernel.specs.declared.state.State.{State}
 use Rattle.std.specs.List.{AllByRecursion, list_any}
@@ -20,8 +22,11 @@ use Rattle.recorder.specs.Recording.{IsNext, epoch_steps, first_after, first_beh
 use Rattle.checkpoint.specs.State.{IsEncodable}
 use Rattle.dp_report.specs.declared.report.Report.{Report}
 use Rattle.recorder.proofs.Drawings.{take_laws}
-use Rattle.recorder.proofs.Rounds.{CanGoOn, SoFar, begin_failed, begun_so_far, commit_failed, committed, epochs-push, first_after-push, input_fault, low_numbers, no_line, no_supply, not_idle, not_told, out_of_memory, placed_still, positive_steps, ran_epoch, round_goes, round_of, step_limit, told}
+use Rattle.recorder.proofs.Rounds.{CanGoOn, SoFar, begin_failed, begin_failed_moments, begun_so_far, commit_failed, commit_failed_moments, committed, drawn_moments, epochs-push, first_after-push, input_fault, low_numbers, moments_now, no_line, no_supply, not_idle, not_told, out_of_memory, placed_still, positive_steps, ran_epoch, round_goes, round_of, step_limit, told, told_moments}
 use Rattle.recorder.proofs.recording.record_rounds.Goals as goal
+
+is_guest : (file : List ℕ) → length file ≤ MAX_GUEST_BYTES → AreBytes file → IsGuest file
+is_guest file few bytes = (omega (arith, few), bytes)
 
 -- an epoch that was run within its bounds is next
 is_next : (options : Options) (first : ℕ) (s : State) (w : Supplied) (bounds : Bounds) (r : EpochRun) → bounds.steps ≡ epoch_steps options s → bounds.slice ≡ options.slice → bounds.first ≡ first → HasRunEpoch s w bounds r
@@ -41,7 +46,7 @@ pub returns-in_err-journal-clause-recorded : goal.returns-in_err-journal-clause-
 returns-in_err-journal-clause-recorded g c =
     let p = err_from_is_err_and c.from_residual.result c.from_residual.ensures.1 in
     let none_yet : c.args.start.steps ≡ 0 = ap (λ (s : State). s.steps) c.requires.starts in
-    rw (p.1 ∙ ap (λ e. Err e) p.2) (begin_failed c.args.guest.now c.args.options c.args.start _ _ _ c.in_err-journal.field-0.0 (omega (arith, none_yet)) c.in_err-journal.ensures.numbers c.in_err-journal.ensures.history)
+    rw (p.1 ∙ ap (λ e. Err e) p.2) (begin_failed c.args.guest.now (is_guest c.args.guest.now (c.a_file_without_fault_has_segments.ensures.size c.args.guest.now c.requires.guest) (λ i. omega (arith, c.type_inv.guest i))) c.args.options c.args.start _ _ _ c.in_err-journal.field-0.0 (omega (arith, none_yet)) c.in_err-journal.ensures.numbers c.in_err-journal.ensures.history)
 
 pub returns-in_err-supply-clause-recorded : goal.returns-in_err-supply-clause-recorded
 returns-in_err-supply-clause-recorded g c =
@@ -50,12 +55,12 @@ returns-in_err-supply-clause-recorded g c =
     let going : has_ended c.args.start.end ≡ false = ap (λ (s : State). has_ended s.end) c.requires.starts in
     let guest = c.args.guest.now in
     let size : length (journal_of guest []) ≡ 10 + length guest = omega (arith, c.lengths.ensures.header guest, length_push (header guest) closed_gate) in
-    let begun = begun_so_far guest c.args.options c.args.start (g.I.Inlet.input c.args.inlet.now) (g.W.World.history c.args.world.now) (g.W.World.history c.begin.new.world) c.in_ok-journal.journal none_yet no_input (record {
+    let begun = begun_so_far guest (is_guest c.args.guest.now (c.a_file_without_fault_has_segments.ensures.size c.args.guest.now c.requires.guest) (λ i. omega (arith, c.type_inv.guest i))) c.args.options c.args.start (g.I.Inlet.input c.args.inlet.now) (g.W.World.history c.args.world.now) (g.W.World.history c.begin.new.world) c.in_ok-journal.journal none_yet no_input (record {
       runs = λ going. subst (λ (s : State). list_any is_running s.threads ≡ true) (sym c.requires.starts) (c.a_guest_goes_on_while_a_thread_runs.ensures.start guest);
       few = subst (λ (s : State). AreFew s.threads) (sym c.requires.starts) (c.threads_are_few.ensures.start guest);
     }) c.in_ok-journal.ensures.numbers size c.in_ok-journal.ensures.history in
     let p = err_from_is_err_and c.from_residual-in_err-supply.result c.from_residual-in_err-supply.ensures.1 in
-    rw (p.1 ∙ ap (λ e. Err e) p.2) (no_supply guest c.args.options c.args.start _ _ _ _ c.args.start _ c.in_ok-journal.journal 0 0 begun.0 going (omega (arith, none_yet, c.args.options.limit_range.0)))
+    rw (p.1 ∙ ap (λ e. Err e) p.2) (no_supply guest (is_guest c.args.guest.now (c.a_file_without_fault_has_segments.ensures.size c.args.guest.now c.requires.guest) (λ i. omega (arith, c.type_inv.guest i))) c.args.options c.args.start _ _ _ _ c.args.start _ c.in_ok-journal.journal 0 0 begun.0 going (omega (arith, none_yet, c.args.options.limit_range.0)))
 
 pub rounds-init : goal.rounds-init
 rounds-init g c =
@@ -63,7 +68,7 @@ rounds-init g c =
     let no_input : c.args.start.input ≡ 0 = ap (λ (s : State). s.input) c.requires.starts in
     let guest = c.args.guest.now in
     let size : length (journal_of guest []) ≡ 10 + length guest = omega (arith, c.lengths.ensures.header guest, length_push (header guest) closed_gate) in
-    let begun = begun_so_far guest c.args.options c.args.start (g.I.Inlet.input c.args.inlet.now) (g.W.World.history c.args.world.now) (g.W.World.history c.begin.new.world) c.in_ok-journal.journal none_yet no_input (record {
+    let begun = begun_so_far guest (is_guest c.args.guest.now (c.a_file_without_fault_has_segments.ensures.size c.args.guest.now c.requires.guest) (λ i. omega (arith, c.type_inv.guest i))) c.args.options c.args.start (g.I.Inlet.input c.args.inlet.now) (g.W.World.history c.args.world.now) (g.W.World.history c.begin.new.world) c.in_ok-journal.journal none_yet no_input (record {
       runs = λ going. subst (λ (s : State). list_any is_running s.threads ≡ true) (sym c.requires.starts) (c.a_guest_goes_on_while_a_thread_runs.ensures.start guest);
       few = subst (λ (s : State). AreFew s.threads) (sym c.requires.starts) (c.threads_are_few.ensures.start guest);
     }) c.in_ok-journal.ensures.numbers size c.in_ok-journal.ensures.history in
@@ -80,13 +85,13 @@ rounds-init g c =
 pub returns-then-state-options-clause-recorded : goal.returns-then-state-options-clause-recorded
 returns-then-state-options-clause-recorded g c =
     let l = c.rounds in
-    step_limit c.args.guest.now c.args.options c.args.start _ _ _ _ l.state l.supply l.journal l.epochs l.sent l.invariant.so_far (sym c.ended.ensures ∙ c.rounds-test.true) c.if-state-options.true
+    step_limit c.args.guest.now (is_guest c.args.guest.now (c.a_file_without_fault_has_segments.ensures.size c.args.guest.now c.requires.guest) (λ i. omega (arith, c.type_inv.guest i))) c.args.options c.args.start _ _ _ _ l.state l.supply l.journal l.epochs l.sent l.invariant.so_far (sym c.ended.ensures ∙ c.rounds-test.true) c.if-state-options.true
 
 pub returns-in_err-draw-clause-recorded : goal.returns-in_err-draw-clause-recorded
 returns-in_err-draw-clause-recorded g c =
     let l = c.rounds in
     let p = err_from_is_err_and c.from_residual-in_err-draw.result c.from_residual-in_err-draw.ensures.1 in
-    rw (p.1 ∙ ap (λ e. Err e) p.2) (input_fault c.args.guest.now c.args.options c.args.start _ _ _ _ l.state l.supply l.journal l.epochs l.sent l.invariant.so_far _ (sym c.ended.ensures ∙ c.rounds-test.true) c.if-state-options.false
+    rw (p.1 ∙ ap (λ e. Err e) p.2) (input_fault c.args.guest.now (is_guest c.args.guest.now (c.a_file_without_fault_has_segments.ensures.size c.args.guest.now c.requires.guest) (λ i. omega (arith, c.type_inv.guest i))) c.args.options c.args.start _ _ _ _ l.state l.supply l.journal l.epochs l.sent l.invariant.so_far _ (sym c.ended.ensures ∙ c.rounds-test.true) c.if-state-options.false
     (c.in_err-draw.ensures.due (refl {a = true})) c.in_err-draw.ensures.kept)
 
 pub returns-in_err-run-clause-recorded : goal.returns-in_err-run-clause-recorded
@@ -97,7 +102,7 @@ returns-in_err-run-clause-recorded g c =
     let round = round_of l.supply l.state (g.I.Inlet.input l.inlet) (g.I.Inlet.input c.draw.new.inlet) c.draw.new.supply c.in_ok-draw.ensures.drew
     (c.a_supply_lets_a_guest_step.ensures.used_up l.state l.supply so_far.is_supply so_far.placed so_far.inside) c.in_ok-draw.ensures.is_supply in
     let p = err_from_is_err_and c.from_residual-in_err-run.result c.from_residual-in_err-run.ensures.1 in
-    rw (p.1 ∙ ap (λ e. Err e) p.2) (out_of_memory c.args.guest.now c.args.options c.args.start _ _ _ _ l.state l.supply l.journal l.epochs l.sent so_far laws _ c.draw.new.supply round (sym c.ended.ensures ∙ c.rounds-test.true) c.if-state-options.false)
+    rw (p.1 ∙ ap (λ e. Err e) p.2) (out_of_memory c.args.guest.now (is_guest c.args.guest.now (c.a_file_without_fault_has_segments.ensures.size c.args.guest.now c.requires.guest) (λ i. omega (arith, c.type_inv.guest i))) c.args.options c.args.start _ _ _ _ l.state l.supply l.journal l.epochs l.sent so_far laws _ c.draw.new.supply round (sym c.ended.ensures ∙ c.rounds-test.true) c.if-state-options.false)
 
 pub unreachable-requires : goal.unreachable-requires
 unreachable-requires g c =
@@ -121,7 +126,7 @@ returns-in_err-frame-clause-recorded g c =
     let round = round_of l.supply l.state (g.I.Inlet.input l.inlet) (g.I.Inlet.input c.draw.new.inlet) c.draw.new.supply c.in_ok-draw.ensures.drew
     (c.a_supply_lets_a_guest_step.ensures.used_up l.state l.supply so_far.is_supply so_far.placed so_far.inside) c.in_ok-draw.ensures.is_supply in
     let p = err_from_is_err_and c.from_residual-in_err-frame.result c.from_residual-in_err-frame.ensures.1 in
-    rw (p.1 ∙ ap (λ e. Err e) p.2) (out_of_memory c.args.guest.now c.args.options c.args.start _ _ _ _ l.state l.supply l.journal l.epochs l.sent so_far laws _ c.draw.new.supply round (sym c.ended.ensures ∙ c.rounds-test.true) c.if-state-options.false)
+    rw (p.1 ∙ ap (λ e. Err e) p.2) (out_of_memory c.args.guest.now (is_guest c.args.guest.now (c.a_file_without_fault_has_segments.ensures.size c.args.guest.now c.requires.guest) (λ i. omega (arith, c.type_inv.guest i))) c.args.options c.args.start _ _ _ _ l.state l.supply l.journal l.epochs l.sent so_far laws _ c.draw.new.supply round (sym c.ended.ensures ∙ c.rounds-test.true) c.if-state-options.false)
 
 pub returns-in_err-commit_epoch-clause-recorded : goal.returns-in_err-commit_epoch-clause-recorded
 returns-in_err-commit_epoch-clause-recorded g c =
@@ -131,14 +136,14 @@ returns-in_err-commit_epoch-clause-recorded g c =
     let laws = take_laws c.an_answer_is_of_the_input.ensures.refill c.the_windows_are_the_input.ensures.left c.the_windows_are_the_input.ensures.end in
     let round = round_of l.supply l.state (g.I.Inlet.input l.inlet) (g.I.Inlet.input c.draw.new.inlet) with_ c.in_ok-draw.ensures.drew
     (c.a_supply_lets_a_guest_step.ensures.used_up l.state l.supply so_far.is_supply so_far.placed so_far.inside) c.in_ok-draw.ensures.is_supply in
-    let placed = placed_still c.args.guest.now c.args.options c.args.start _ _ (g.I.Inlet.input l.inlet) (g.W.World.history l.world) l.state l.supply l.journal l.epochs l.sent so_far laws (g.I.Inlet.input c.draw.new.inlet) with_ round in
+    let placed = placed_still c.args.guest.now (is_guest c.args.guest.now (c.a_file_without_fault_has_segments.ensures.size c.args.guest.now c.requires.guest) (λ i. omega (arith, c.type_inv.guest i))) c.args.options c.args.start _ _ (g.I.Inlet.input l.inlet) (g.W.World.history l.world) l.state l.supply l.journal l.epochs l.sent so_far laws (g.I.Inlet.input c.draw.new.inlet) with_ round in
     let run_ = c.in-Epoch.run' in
     let bounds = c.bounds_from-bounds.result in
     let ran = ran_epoch l.state with_ bounds c.in_ok-run.field-0 run_ c.in_ok-run.ensures c.in-Epoch.is in
     let supplied = c.an_epoch_is_supplied.ensures l.state with_ bounds (epoch_of run_.epoch) run_.out run_.end ran.scheduled placed.0 placed.1 in
     let p = err_from_is_err_and c.from_residual-in_err-commit_epoch.result c.from_residual-in_err-commit_epoch.ensures.1 in
     let next_ = is_next c.args.options (first_after 1 (epochs_of so_far.done)) l.state with_ bounds run_ c.bounds_from-bounds.ensures.steps c.bounds_from-bounds.ensures.slice (c.bounds_from-bounds.ensures.first ∙ l.invariant.first_is) ran in
-    rw (p.1 ∙ ap (λ e. Err e) p.2) (commit_failed c.args.guest.now c.args.options c.args.start _ _ _ _ l.state l.supply l.journal l.epochs l.sent so_far laws _ with_ round _ (epoch_of run_.epoch) run_.end run_.out next_ supplied c.in_ok-frame.frame c.in_ok-frame.ensures.frame
+    rw (p.1 ∙ ap (λ e. Err e) p.2) (commit_failed c.args.guest.now (is_guest c.args.guest.now (c.a_file_without_fault_has_segments.ensures.size c.args.guest.now c.requires.guest) (λ i. omega (arith, c.type_inv.guest i))) c.args.options c.args.start _ _ _ _ l.state l.supply l.journal l.epochs l.sent so_far laws _ with_ round _ (epoch_of run_.epoch) run_.end run_.out next_ supplied c.in_ok-frame.frame c.in_ok-frame.ensures.frame
     c.in_err-commit_epoch.field-0.0 (sym c.ended.ensures ∙ c.rounds-test.true) c.if-state-options.false c.commit_epoch.new.journal c.in_err-commit_epoch.ensures.numbers c.in_err-commit_epoch.ensures.history)
 
 pub rounds-smaller : goal.rounds-smaller
@@ -167,7 +172,7 @@ rounds-preserved g c =
     let laws = take_laws c.an_answer_is_of_the_input.ensures.refill c.the_windows_are_the_input.ensures.left c.the_windows_are_the_input.ensures.end in
     let round = round_of l.supply l.state (g.I.Inlet.input l.inlet) (g.I.Inlet.input c.draw.new.inlet) with_ c.in_ok-draw.ensures.drew
     (c.a_supply_lets_a_guest_step.ensures.used_up l.state l.supply so_far.is_supply so_far.placed so_far.inside) c.in_ok-draw.ensures.is_supply in
-    let placed = placed_still c.args.guest.now c.args.options c.args.start _ _ (g.I.Inlet.input l.inlet) (g.W.World.history l.world) l.state l.supply l.journal l.epochs l.sent so_far laws (g.I.Inlet.input c.draw.new.inlet) with_ round in
+    let placed = placed_still c.args.guest.now (is_guest c.args.guest.now (c.a_file_without_fault_has_segments.ensures.size c.args.guest.now c.requires.guest) (λ i. omega (arith, c.type_inv.guest i))) c.args.options c.args.start _ _ (g.I.Inlet.input l.inlet) (g.W.World.history l.world) l.state l.supply l.journal l.epochs l.sent so_far laws (g.I.Inlet.input c.draw.new.inlet) with_ round in
     let run_ = c.in-Epoch.run' in
     let bounds = c.bounds_from-bounds.result in
     let ran = ran_epoch l.state with_ bounds c.in_ok-run.field-0 run_ c.in_ok-run.ensures c.in-Epoch.is in
@@ -179,7 +184,7 @@ rounds-preserved g c =
       runs = c.a_guest_goes_on_while_a_thread_runs.ensures.run l.state e.slices e.answers there ran.runs.ran so_far.goes_on.runs;
       few = c.threads_are_few.ensures.run l.state e.slices e.answers there ran.runs.ran so_far.goes_on.few;
     } in
-    let done = committed c.args.guest.now c.args.options c.args.start _ _ _ _ l.state l.supply l.journal l.epochs l.sent so_far laws _ with_ round _ e run_.end run_.out next_ supplied c.in_ok-frame.frame c.in_ok-frame.ensures.frame
+    let done = committed c.args.guest.now (is_guest c.args.guest.now (c.a_file_without_fault_has_segments.ensures.size c.args.guest.now c.requires.guest) (λ i. omega (arith, c.type_inv.guest i))) c.args.options c.args.start _ _ _ _ l.state l.supply l.journal l.epochs l.sent so_far laws _ with_ round _ e run_.end run_.out next_ supplied c.in_ok-frame.frame c.in_ok-frame.ensures.frame
     goes_on ran.runs.counted (c.a_run_is_as_long_as_its_slices.ensures.reads l.state e.slices e.answers there ran.runs.ran)
     (omega (arith, c.an_epoch_ends_by_a_rule.ensures.few l.state with_ bounds e run_.out run_.end ran.scheduled, c.bounds_from-bounds.ensures.steps)) (c.an_epoch_ends_by_a_rule.ensures.writes l.state with_ bounds e run_.out run_.end ran.scheduled)
     (c.an_epoch_more.ensures c.args.start (epochs_of so_far.done) e l.state so_far.output there so_far.chained ran.runs.ran)
@@ -208,18 +213,97 @@ pub returns-in_err-text-clause-recorded : goal.returns-in_err-text-clause-record
 returns-in_err-text-clause-recorded g c =
     let l = c.rounds in
     let p = err_from_is_err_and c.from_residual-in_err-text.result c.from_residual-in_err-text.ensures.1 in
-    rw (p.1 ∙ ap (λ e. Err e) p.2) (no_line c.args.guest.now c.args.options c.args.start _ _ _ _ l.state l.supply l.journal l.epochs l.sent l.invariant.so_far (sym c.ended.ensures ∙ c.rounds-test.false))
+    rw (p.1 ∙ ap (λ e. Err e) p.2) (no_line c.args.guest.now (is_guest c.args.guest.now (c.a_file_without_fault_has_segments.ensures.size c.args.guest.now c.requires.guest) (λ i. omega (arith, c.type_inv.guest i))) c.args.options c.args.start _ _ _ _ l.state l.supply l.journal l.epochs l.sent l.invariant.so_far (sym c.ended.ensures ∙ c.rounds-test.false))
 
 pub returns-in-Ok-clause-recorded : goal.returns-in-Ok-clause-recorded
 returns-in-Ok-clause-recorded g c =
     let l = c.rounds in
     let made : List ℕ → Report = λ d. record { epochs = l.epochs; squashes = 0; steps = l.state.steps; sent = l.sent; end = l.state.end; state = d } in
     let text = c.deref.ensures.value ∙ c.in_ok-text.ensures in
-    told c.args.guest.now c.args.options c.args.start _ _ _ _ l.state l.supply l.journal l.epochs l.sent l.invariant.so_far _ (sym c.ended.ensures ∙ c.rounds-test.false) (made c.digest.result) (ap made c.digest.ensures) (rw text at c.in-Ok.ensures.history)
+    told c.args.guest.now (is_guest c.args.guest.now (c.a_file_without_fault_has_segments.ensures.size c.args.guest.now c.requires.guest) (λ i. omega (arith, c.type_inv.guest i))) c.args.options c.args.start _ _ _ _ l.state l.supply l.journal l.epochs l.sent l.invariant.so_far _ (sym c.ended.ensures ∙ c.rounds-test.false) (made c.digest.result) (ap made c.digest.ensures) (rw text at c.in-Ok.ensures.history)
 
 pub returns-clause-recorded : goal.returns-clause-recorded
 returns-clause-recorded g c =
     let l = c.rounds in
     let made : List ℕ → Report = λ d. record { epochs = l.epochs; squashes = 0; steps = l.state.steps; sent = l.sent; end = l.state.end; state = d } in
     let text = c.deref.ensures.value ∙ c.in_ok-text.ensures in
-    not_told c.args.guest.now c.args.options c.args.start _ _ _ _ l.state l.supply l.journal l.epochs l.sent l.invariant.so_far _ (sym c.ended.ensures ∙ c.rounds-test.false) (made c.digest.result) (ap made c.digest.ensures) (rw text at c.in-Err.ensures.history)
+    not_told c.args.guest.now (is_guest c.args.guest.now (c.a_file_without_fault_has_segments.ensures.size c.args.guest.now c.requires.guest) (λ i. omega (arith, c.type_inv.guest i))) c.args.options c.args.start _ _ _ _ l.state l.supply l.journal l.epochs l.sent l.invariant.so_far _ (sym c.ended.ensures ∙ c.rounds-test.false) (made c.digest.result) (ap made c.digest.ensures) (rw text at c.in-Err.ensures.history)
+
+-- ---- every moment
+
+pub returns-in_err-journal-clause-moments : goal.returns-in_err-journal-clause-moments
+returns-in_err-journal-clause-moments g c =
+    begin_failed_moments c.args.guest.now (is_guest c.args.guest.now (c.a_file_without_fault_has_segments.ensures.size c.args.guest.now c.requires.guest) (λ i. omega (arith, c.type_inv.guest i))) c.args.options c.args.start _ _ _ c.in_err-journal.field-0.0 c.in_err-journal.ensures.history
+
+pub returns-in_err-supply-clause-moments : goal.returns-in_err-supply-clause-moments
+returns-in_err-supply-clause-moments g c =
+    let none_yet : c.args.start.steps ≡ 0 = ap (λ (s : State). s.steps) c.requires.starts in
+    let no_input : c.args.start.input ≡ 0 = ap (λ (s : State). s.input) c.requires.starts in
+    let guest = c.args.guest.now in
+    let size : length (journal_of guest []) ≡ 10 + length guest = omega (arith, c.lengths.ensures.header guest, length_push (header guest) closed_gate) in
+    let begun = begun_so_far guest (is_guest c.args.guest.now (c.a_file_without_fault_has_segments.ensures.size c.args.guest.now c.requires.guest) (λ i. omega (arith, c.type_inv.guest i))) c.args.options c.args.start (g.I.Inlet.input c.args.inlet.now) (g.W.World.history c.args.world.now) (g.W.World.history c.begin.new.world) c.in_ok-journal.journal none_yet no_input (record {
+      runs = λ going. subst (λ (s : State). list_any is_running s.threads ≡ true) (sym c.requires.starts) (c.a_guest_goes_on_while_a_thread_runs.ensures.start guest);
+      few = subst (λ (s : State). AreFew s.threads) (sym c.requires.starts) (c.threads_are_few.ensures.start guest);
+    }) c.in_ok-journal.ensures.numbers size c.in_ok-journal.ensures.history in
+    moments_now guest (is_guest c.args.guest.now (c.a_file_without_fault_has_segments.ensures.size c.args.guest.now c.requires.guest) (λ i. omega (arith, c.type_inv.guest i))) c.args.options c.args.start _ _ _ _ c.args.start _ c.in_ok-journal.journal 0 0 begun.0 _ refl
+
+pub returns-then-state-options-clause-moments : goal.returns-then-state-options-clause-moments
+returns-then-state-options-clause-moments g c =
+    let l = c.rounds in
+    moments_now c.args.guest.now (is_guest c.args.guest.now (c.a_file_without_fault_has_segments.ensures.size c.args.guest.now c.requires.guest) (λ i. omega (arith, c.type_inv.guest i))) c.args.options c.args.start _ _ _ _ l.state l.supply l.journal l.epochs l.sent l.invariant.so_far _ refl
+
+pub returns-in_err-draw-clause-moments : goal.returns-in_err-draw-clause-moments
+returns-in_err-draw-clause-moments g c =
+    let l = c.rounds in
+    moments_now c.args.guest.now (is_guest c.args.guest.now (c.a_file_without_fault_has_segments.ensures.size c.args.guest.now c.requires.guest) (λ i. omega (arith, c.type_inv.guest i))) c.args.options c.args.start _ _ _ _ l.state l.supply l.journal l.epochs l.sent l.invariant.so_far _ c.in_err-draw.ensures.kept
+
+pub returns-in_err-run-clause-moments : goal.returns-in_err-run-clause-moments
+returns-in_err-run-clause-moments g c =
+    let l = c.rounds in
+    let so_far = l.invariant.so_far in
+    let laws = take_laws c.an_answer_is_of_the_input.ensures.refill c.the_windows_are_the_input.ensures.left c.the_windows_are_the_input.ensures.end in
+    let round = round_of l.supply l.state (g.I.Inlet.input l.inlet) (g.I.Inlet.input c.draw.new.inlet) c.draw.new.supply c.in_ok-draw.ensures.drew
+    (c.a_supply_lets_a_guest_step.ensures.used_up l.state l.supply so_far.is_supply so_far.placed so_far.inside) c.in_ok-draw.ensures.is_supply in
+    drawn_moments c.args.guest.now (is_guest c.args.guest.now (c.a_file_without_fault_has_segments.ensures.size c.args.guest.now c.requires.guest) (λ i. omega (arith, c.type_inv.guest i))) c.args.options c.args.start _ _ _ _ l.state l.supply l.journal l.epochs l.sent so_far laws _ c.draw.new.supply round
+
+pub returns-in_err-frame-clause-moments : goal.returns-in_err-frame-clause-moments
+returns-in_err-frame-clause-moments g c =
+    let l = c.rounds in
+    let so_far = l.invariant.so_far in
+    let laws = take_laws c.an_answer_is_of_the_input.ensures.refill c.the_windows_are_the_input.ensures.left c.the_windows_are_the_input.ensures.end in
+    let round = round_of l.supply l.state (g.I.Inlet.input l.inlet) (g.I.Inlet.input c.draw.new.inlet) c.draw.new.supply c.in_ok-draw.ensures.drew
+    (c.a_supply_lets_a_guest_step.ensures.used_up l.state l.supply so_far.is_supply so_far.placed so_far.inside) c.in_ok-draw.ensures.is_supply in
+    drawn_moments c.args.guest.now (is_guest c.args.guest.now (c.a_file_without_fault_has_segments.ensures.size c.args.guest.now c.requires.guest) (λ i. omega (arith, c.type_inv.guest i))) c.args.options c.args.start _ _ _ _ l.state l.supply l.journal l.epochs l.sent so_far laws _ c.draw.new.supply round
+
+pub returns-in_err-commit_epoch-clause-moments : goal.returns-in_err-commit_epoch-clause-moments
+returns-in_err-commit_epoch-clause-moments g c =
+    let l = c.rounds in
+    let so_far = l.invariant.so_far in
+    let with_ = c.draw.new.supply in
+    let laws = take_laws c.an_answer_is_of_the_input.ensures.refill c.the_windows_are_the_input.ensures.left c.the_windows_are_the_input.ensures.end in
+    let round = round_of l.supply l.state (g.I.Inlet.input l.inlet) (g.I.Inlet.input c.draw.new.inlet) with_ c.in_ok-draw.ensures.drew
+    (c.a_supply_lets_a_guest_step.ensures.used_up l.state l.supply so_far.is_supply so_far.placed so_far.inside) c.in_ok-draw.ensures.is_supply in
+    let placed = placed_still c.args.guest.now (is_guest c.args.guest.now (c.a_file_without_fault_has_segments.ensures.size c.args.guest.now c.requires.guest) (λ i. omega (arith, c.type_inv.guest i))) c.args.options c.args.start _ _ (g.I.Inlet.input l.inlet) (g.W.World.history l.world) l.state l.supply l.journal l.epochs l.sent so_far laws (g.I.Inlet.input c.draw.new.inlet) with_ round in
+    let run_ = c.in-Epoch.run' in
+    let bounds = c.bounds_from-bounds.result in
+    let ran = ran_epoch l.state with_ bounds c.in_ok-run.field-0 run_ c.in_ok-run.ensures c.in-Epoch.is in
+    let supplied = c.an_epoch_is_supplied.ensures l.state with_ bounds (epoch_of run_.epoch) run_.out run_.end ran.scheduled placed.0 placed.1 in
+    let next_ = is_next c.args.options (first_after 1 (epochs_of so_far.done)) l.state with_ bounds run_ c.bounds_from-bounds.ensures.steps c.bounds_from-bounds.ensures.slice (c.bounds_from-bounds.ensures.first ∙ l.invariant.first_is) ran in
+    let longer = c.an_epoch_more.ensures c.args.start (epochs_of so_far.done) (epoch_of run_.epoch) l.state so_far.output (at run_.end run_.out []) so_far.chained ran.runs.ran in
+    commit_failed_moments c.args.guest.now (is_guest c.args.guest.now (c.a_file_without_fault_has_segments.ensures.size c.args.guest.now c.requires.guest) (λ i. omega (arith, c.type_inv.guest i))) c.args.options c.args.start _ _ _ _ l.state l.supply l.journal l.epochs l.sent so_far laws _ with_ round _ (epoch_of run_.epoch) run_.end run_.out next_ supplied c.in_ok-frame.frame c.in_ok-frame.ensures.frame
+    longer c.in_err-commit_epoch.field-0.0 c.commit_epoch.new.journal c.in_err-commit_epoch.ensures.numbers c.in_err-commit_epoch.ensures.history
+
+pub returns-in_err-text-clause-moments : goal.returns-in_err-text-clause-moments
+returns-in_err-text-clause-moments g c =
+    let l = c.rounds in
+    moments_now c.args.guest.now (is_guest c.args.guest.now (c.a_file_without_fault_has_segments.ensures.size c.args.guest.now c.requires.guest) (λ i. omega (arith, c.type_inv.guest i))) c.args.options c.args.start _ _ _ _ l.state l.supply l.journal l.epochs l.sent l.invariant.so_far _ refl
+
+pub returns-in-Ok-clause-moments : goal.returns-in-Ok-clause-moments
+returns-in-Ok-clause-moments g c =
+    let l = c.rounds in
+    told_moments c.args.guest.now (is_guest c.args.guest.now (c.a_file_without_fault_has_segments.ensures.size c.args.guest.now c.requires.guest) (λ i. omega (arith, c.type_inv.guest i))) c.args.options c.args.start _ _ _ _ l.state l.supply l.journal l.epochs l.sent l.invariant.so_far _ _ _ c.in-Ok.ensures.history
+
+pub returns-clause-moments : goal.returns-clause-moments
+returns-clause-moments g c =
+    let l = c.rounds in
+    told_moments c.args.guest.now (is_guest c.args.guest.now (c.a_file_without_fault_has_segments.ensures.size c.args.guest.now c.requires.guest) (λ i. omega (arith, c.type_inv.guest i))) c.args.options c.args.start _ _ _ _ l.state l.supply l.journal l.epochs l.sent l.invariant.so_far _ _ _ c.in-Err.ensures.history

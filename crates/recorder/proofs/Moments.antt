@@ -1,0 +1,226 @@
+-- What a crash leaves at every moment of a recording so far, and how that goes on.
+use Rattle.std.proofs.Common.{◌≡◌, ◌⊎◌, inl, inr, ℕ, List, [], ◌∷◌, ◌++◌, take, drop, Option, Some, None, Ok, refl, sym, ap, subst, ◌∙◌, append_assoc, arith}
+use Rattle.std.specs.List.{AllByRecursion}
+use Rattle.std.proofs.lemmas.List.{append-nil, take-append-drop}
+use Rattle.std.proofs.lemmas.Option.{same_Some}
+use Rattle.dp_base.specs.declared.answer.Answer.{Answer}
+use Rattle.dp_base.specs.declared.answer.Answer.TheVariants.{Read}
+use Rattle.dp_base.specs.Encoding.{IsPrefixOf}
+use Rattle.dp_base.specs.Journal.{Epoch}
+use Rattle.device.specs.Sending.{IsSending}
+use Rattle.disk_model.specs.declared.world.Stream.TheVariants.{Note}
+use Rattle.disk_model.specs.History.{History, IsImage, IsSynced, now, nothing_pending}
+use Rattle.disk_model.specs.Input.{IfInput, Input}
+use Rattle.disk_model.specs.Known.{IfKnown}
+use Rattle.disk_model.specs.Moments.{Always, Then}
+use Rattle.disk_model.proofs.Images.{image-synced}
+use Rattle.disk_model.proofs.Knowing.{known-map}
+use Rattle.disk_model.proofs.Moments.{always-start, always-then, always-weaker, got-nothing}
+use Rattle.epoch_journal.specs.Images.{IsBeforeOrAfter, IsBeginning, Reads}
+use Rattle.epoch_journal.proofs.ReadsAs.{no-journal-in-a-byte}
+use Rattle.guest_kernel.specs.declared.state.State.{State}
+use Rattle.guest_kernel.specs.Answers.{bytes_read, clock_readings}
+use Rattle.guest_kernel.specs.Slices.{chain}
+use Rattle.journal_text.specs.Reading.{reads}
+use Rattle.journal_text.specs.Records.{IsRecord, Record, epoch}
+use Rattle.recorder.specs.declared.options.Options.{Options}
+use Rattle.supply.specs.Supplied.{Supplied}
+use Rattle.recorder.specs.Committing.{IsCommitting}
+use Rattle.recorder.specs.Drawing.{AreFound, IsHonestSince, Round, answers_of, epochs_of, supply_of}
+use Rattle.recorder.specs.Moments.{EachMoment, HoldsAt, IsRecording, answers_in}
+use Rattle.recorder.specs.Recording.{EachIsNext, IsLeft, first_behind, records_of}
+use Rattle.recorder.proofs.Drawings.{bytes_read-append, clock_readings-append, input-map}
+
+-- ---- answers
+
+answers_in-append : (xs ys : List Epoch) → answers_in (xs ++ ys) ≡ answers_in xs ++ answers_in ys
+answers_in-append [] ys = refl
+answers_in-append (x ∷ xs) ys = ap (λ (l : List Answer). x.answers ++ l) (answers_in-append xs ys) ∙ sym (append_assoc x.answers (answers_in xs) (answers_in ys))
+
+-- those of rounds are those of their epochs
+pub answers_are : (rounds : List Round) → answers_of rounds ≡ answers_in (epochs_of rounds)
+answers_are [] = refl
+answers_are (r ∷ rounds) = ap (λ (l : List Answer). r.epoch.answers ++ l) (answers_are rounds)
+
+found-left : (values more readings : List ℕ) → AreFound (values ++ more) readings → AreFound values readings
+found-left [] more readings found = tt
+found-left (v ∷ values) more readings found = (found.0, found.1, found-left values more (drop found.0 readings) found.2)
+
+-- the first of honest answers are honest
+honest-left : (xs ys : List Answer) (i j : Input) → IsHonestSince (xs ++ ys) i j → IsHonestSince xs i j
+honest-left xs ys i j honest =
+    let is = honest.2 in
+    let rest : List ℕ = is.reads.0 in (
+      honest.0,
+      honest.1,
+      record {
+        reads = (bytes_read ys ++ rest, is.reads.1 ∙ ap (λ (l : List ℕ). l ++ rest) (bytes_read-append xs ys) ∙ append_assoc (bytes_read xs) (bytes_read ys) rest);
+        ends = λ before after e. is.ends before (after ++ ys) (ap (λ (l : List Answer). l ++ ys) e ∙ append_assoc before (Read [] ∷ after) ys);
+        clocks = found-left (clock_readings xs) (clock_readings ys) j.readings (subst (λ (l : List ℕ). AreFound l j.readings) (clock_readings-append xs ys) is.clocks);
+      },
+    )
+
+-- ---- records
+
+-- the epochs of rounds are records
+pub are_records : (options : Options) (first : ℕ) (s : State) (w : Supplied) (rounds : List Round) → EachIsNext options first s w rounds → AllByRecursion IsRecord (records_of (epochs_of rounds))
+are_records options first s w [] each = tt
+are_records options first s w (r ∷ rounds) each =
+    ((each.3.is_epoch, each.3.fits.1), are_records options (first_behind first r.epoch.slices) each.0 (supply_of w r.draw) rounds each.4)
+
+pub records_more : (records : List Record) (r : Record) → AllByRecursion IsRecord records → IsRecord r → AllByRecursion IsRecord (records ++ r ∷ [])
+records_more [] r are is = (is, tt)
+records_more (x ∷ xs) r are is = (are.0, records_more xs r are.1 is)
+
+-- ---- at a moment of a recording so far
+
+-- The journal has the first of these epochs, and of their output a prefix was sent.
+pub record IsFront (guest : List ℕ) (start : State) (epochs : List Epoch) (image said : List ℕ) : Type 0 where
+  pub front : List Epoch
+  pub rest : List Epoch
+  pub all : epochs ≡ front ++ rest
+  pub journal : Reads guest (records_of front) image
+  pub end : State
+  pub output : List ℕ
+  pub chained : chain start front ≡ Ok (end, output)
+  pub sent : IsPrefixOf said output
+
+abbrev pub IsPartly : (guest : List ℕ) → (start : State) → List Epoch → History → (image sent : List ℕ) → Type 0
+IsPartly guest start epochs before image sent =
+    (said : List ℕ) × (sent ≡ before.sent ++ said) × (((reads image ≡ None) × (said ≡ [])) ⊎ IsFront guest start epochs image said)
+
+abbrev pub AlwaysPartly : (guest : List ℕ) → (start : State) → List Epoch → History → History → Type 0
+AlwaysPartly guest start epochs s t = s.disk ≡ [] → IsSynced s → Always (IsPartly guest start epochs s) s t
+
+-- an empty disk has no journal
+reads_nothing : reads [] ≡ None
+reads_nothing = no-journal-in-a-byte [] (λ i. omega arith) (omega arith)
+
+pub blank_reads : (s : History) → s.disk ≡ [] → IsSynced s → (image : List ℕ) → IsImage s.pending image → reads image ≡ None
+blank_reads s empty synced image is = ap reads (image-synced [] image (subst (λ p. IsImage p image) (synced ∙ ap nothing_pending empty) is)) ∙ reads_nothing
+
+module _ (guest : List ℕ) (start : State) where
+  -- with an epoch more
+  partly_more : (epochs : List Epoch) (e : Epoch) (s : History) (image sent : List ℕ) → IsPartly guest start epochs s image sent → IsPartly guest start (epochs ++ e ∷ []) s image sent
+  partly_more epochs e s image sent (said, is, inl none) = (said, is, inl none)
+  partly_more epochs e s image sent (said, is, inr f) = (
+    said,
+    is,
+    inr (record {
+      front = f.front;
+      rest = f.rest ++ e ∷ [];
+      all = ap (λ (l : List Epoch). l ++ e ∷ []) f.all ∙ append_assoc f.front f.rest (e ∷ []);
+      journal = f.journal;
+      end = f.end;
+      output = f.output;
+      chained = f.chained;
+      sent = f.sent;
+    }),
+  )
+
+  -- the journal has all of these epochs
+  partly_all : (epochs : List Epoch) (end : State) (output : List ℕ) → chain start epochs ≡ Ok (end, output) → (s : History) (image sent said : List ℕ) → Reads guest (records_of epochs) image
+      → sent ≡ s.sent ++ said → IsPrefixOf said output → IsPartly guest start epochs s image sent
+  partly_all epochs end output chained s image sent said journal is prefix =
+      (said, is, inr (record { front = epochs; rest = []; all = sym (append-nil epochs); journal = journal; end = end; output = output; chained = chained; sent = prefix }))
+
+  -- as a journal begins
+  partly_begun : chain start [] ≡ Ok (start, []) → (s : History) (image sent : List ℕ) → IsBeginning guest s image sent → IsPartly guest start [] s image sent
+  partly_begun none s image sent (inl nothing, same) = ([], same ∙ sym (append-nil s.sent), inl (nothing, refl))
+  partly_begun none s image sent (inr journal, same) = partly_all [] start [] none s image sent [] journal (same ∙ sym (append-nil s.sent)) ([], refl)
+
+  pub begins_partly : chain start [] ≡ Ok (start, []) → (s t : History) → Always (IsBeginning guest s) s t → Always (IsPartly guest start [] s) s t
+  begins_partly none s t a = always-weaker (IsBeginning guest s) (IsPartly guest start [] s) s t (partly_begun none s) a
+
+  -- an epoch is committed behind others whose whole output was sent
+  module _ (epochs : List Epoch) (e : Epoch) (mid end : State) (before output : List ℕ) (chained : chain start epochs ≡ Ok (mid, before)) (longer : chain start (epochs ++ e ∷ []) ≡ Ok (end, before ++ output))
+      (push : records_of (epochs ++ e ∷ []) ≡ records_of epochs ++ epoch e ∷ []) (s t : History) (sent_is : t.sent ≡ s.sent ++ before) where
+    abbrev P : List ℕ → List ℕ → Type 0
+    P = IsPartly guest start (epochs ++ e ∷ []) s
+
+    has_more : (image : List ℕ) → Reads guest (records_of epochs ++ epoch e ∷ []) image → Reads guest (records_of (epochs ++ e ∷ [])) image
+    has_more image journal = subst (λ (l : List Record). Reads guest l image) (sym push) journal
+
+    partly_appending : (image sent : List ℕ) → IsBeforeOrAfter guest (records_of epochs) (epoch e) t image sent → P image sent
+    partly_appending image sent (inl journal, same) =
+        partly_more epochs e s image sent (partly_all epochs mid before chained s image sent before journal (same ∙ sent_is) ([], sym (append-nil before)))
+    partly_appending image sent (inr journal, same) =
+        partly_all (epochs ++ e ∷ []) end (before ++ output) longer s image sent before (has_more image journal) (same ∙ sent_is) (output, refl)
+
+    partly_committing : (image sent : List ℕ) → IsCommitting guest (records_of epochs) (epoch e) output t image sent → P image sent
+    partly_committing image sent (inl appending) = partly_appending image sent appending
+    partly_committing image sent (inr (journal, (count, same))) =
+        partly_all (epochs ++ e ∷ []) end (before ++ output) longer s image sent (before ++ take count output) (has_more image journal)
+        (same ∙ ap (λ (l : List ℕ). l ++ take count output) sent_is ∙ append_assoc s.sent before (take count output))
+        (drop count output, ap (λ (l : List ℕ). before ++ l) (sym (take-append-drop count output)) ∙ sym (append_assoc before (take count output) (drop count output)))
+
+    pub appends_partly : (u : History) → Always (IsPartly guest start epochs s) s t → Always (IsBeforeOrAfter guest (records_of epochs) (epoch e) t) t u → Always P s u
+    appends_partly u a b = always-then P s t u (always-weaker (IsPartly guest start epochs s) P s t (partly_more epochs e s) a)
+        (always-weaker (IsBeforeOrAfter guest (records_of epochs) (epoch e) t) P t u partly_appending b)
+
+    pub commits_partly : (u : History) → Always (IsPartly guest start epochs s) s t → Always (IsCommitting guest (records_of epochs) (epoch e) output t) t u → Always P s u
+    commits_partly u a b = always-then P s t u (always-weaker (IsPartly guest start epochs s) P s t (partly_more epochs e s) a)
+        (always-weaker (IsCommitting guest (records_of epochs) (epoch e) output t) P t u partly_committing b)
+
+  -- what a failed append leaves
+  pub append_left : (epochs : List Epoch) (e : Epoch) → records_of (epochs ++ e ∷ []) ≡ records_of epochs ++ epoch e ∷ [] → (t u : History)
+      → Always (IsBeforeOrAfter guest (records_of epochs) (epoch e) t) t u → Then (λ image sent. IsLeft guest epochs image) (now u)
+  append_left epochs e push t u a image sent may = look (a.last image sent may).0
+    where
+      look : (Reads guest (records_of epochs) image) ⊎ (Reads guest (records_of epochs ++ epoch e ∷ []) image) → IsLeft guest epochs image
+      look (inl journal) = inr (inl journal)
+      look (inr journal) = inr (inr (e, subst (λ (l : List Record). Reads guest l image) (sym push) journal))
+
+  -- what a failed beginning leaves
+  pub begin_left : (s t : History) → Always (IsBeginning guest s) s t → Then (λ image sent. IsLeft guest [] image) (now t)
+  begin_left s t a image sent may = look (a.last image sent may).0
+    where
+      look : (reads image ≡ None) ⊎ (Reads guest [] image) → IsLeft guest [] image
+      look (inl nothing) = inl (refl, nothing)
+      look (inr journal) = inr (inl journal)
+
+  -- ---- it is over
+
+  module _ (epochs : List Epoch) (i j : Option Input) (honest : IfInput (IsHonestSince (answers_in epochs)) i j) where
+    front_recorded : (image said : List ℕ) → IsFront guest start epochs image said → IsRecording guest start i j image said
+    front_recorded image said f = record {
+      epochs = f.front;
+      journal = f.journal;
+      end = f.end;
+      output = f.output;
+      chained = f.chained;
+      honest = input-map (IsHonestSince (answers_in epochs)) (IsHonestSince (answers_in f.front)) i j
+          (λ a b h. honest-left (answers_in f.front) (answers_in f.rest) a b (subst (λ (l : List Answer). IsHonestSince l a b) (ap answers_in f.all ∙ answers_in-append f.front f.rest) h))
+          honest;
+      sent = f.sent;
+    }
+
+    holds : (s : History) (image sent : List ℕ) → IsPartly guest start epochs s image sent → HoldsAt guest start i j s image sent
+    holds s image sent (said, is, inl none) = (said, is, inl none)
+    holds s image sent (said, is, inr f) = (said, is, inr (front_recorded image said f))
+
+    pub each_moment : (first later : Option History) → IfKnown (AlwaysPartly guest start epochs) first later → EachMoment guest start i j first later
+    each_moment first later known = known-map (AlwaysPartly guest start epochs) (λ s t. s.disk ≡ [] → IsSynced s → Always (HoldsAt guest start i j s) s t) first later
+        (λ s t f empty synced. always-weaker (IsPartly guest start epochs s) (HoldsAt guest start i j s) s t (holds s) (f empty synced))
+        known
+
+  -- nothing was done
+  pub nothing_begun : (i j : Option Input) (s : History) → s.disk ≡ [] → IsSynced s → Always (HoldsAt guest start i j s) s s
+  nothing_begun i j s empty synced = always-start (HoldsAt guest start i j s) s
+      (λ image sent may. ([], may.got ∙ got-nothing s.sent may.taken ∙ sym (append-nil s.sent), inl (blank_reads s empty synced image may.on_disk, refl)))
+
+pub nothing_left : (guest : List ℕ) (s : History) → s.disk ≡ [] → IsSynced s → Then (λ image sent. IsLeft guest [] image) (now s)
+nothing_left guest s empty synced image sent may = inl (refl, blank_reads s empty synced image may.on_disk)
+
+-- ---- a line on Note
+
+-- it changes nothing of what a crash leaves
+pub noted-too : (P : List ℕ → List ℕ → Type 0) (bytes : List ℕ) (s t u : History) → Always P s t → Always (IsSending Note bytes t) t u → Always P s u
+noted-too P bytes s t u a b = always-then P s t u a (always-weaker (IsSending Note bytes t) P t u
+    (λ image sent x. a.last image sent (record { on_disk = x.0; taken = 0; got = x.1 ∙ sym (append-nil t.sent) })) b)
+
+-- ---- what is known of a world twice
+
+pub known-both : (R S : History → History → Type 0) (a b : Option History) → IfKnown R a b → IfKnown S a b → IfKnown (λ s t. R s t × S s t) a b
+known-both R S None b h k = tt
+known-both R S (Some s) b h k = (h.0, h.1, (h.2, subst (λ (t : History). S s t) (sym (same_Some _ _ (sym h.1 ∙ k.1))) k.2))

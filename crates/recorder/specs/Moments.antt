@@ -1,0 +1,44 @@
+-- What a crash leaves at every moment of a recording. This project's own.
+use Rattle.std.specs.Prelude.{◌≡◌, ◌⊎◌, ℕ, List, [], ◌++◌, Option, None, Ok}
+use Rattle.std.specs.List.{flat_map}
+use Rattle.dp_base.specs.declared.answer.Answer.{Answer}
+use Rattle.dp_base.specs.Encoding.{IsPrefixOf}
+use Rattle.dp_base.specs.Journal.{Epoch}
+use Rattle.disk_model.specs.History.{History, IsSynced}
+use Rattle.disk_model.specs.Input.{IfInput, Input}
+use Rattle.disk_model.specs.Known.{IfKnown}
+use Rattle.disk_model.specs.Moments.{Always}
+use Rattle.epoch_journal.specs.Images.{Reads}
+use Rattle.guest_kernel.specs.declared.state.State.{State}
+use Rattle.guest_kernel.specs.Slices.{chain}
+use Rattle.journal_text.specs.Reading.{reads}
+use Rattle.recorder.specs.Drawing.{IsHonestSince}
+use Rattle.recorder.specs.Recording.{records_of}
+
+-- all answers of epochs, in order
+abbrev pub answers_in : List Epoch → List Answer
+answers_in epochs = flat_map (λ e. e.answers) epochs
+
+-- The image reads as this guest's journal. Its epochs, all of them whole and in order, are one run of the guest from its start, their
+-- answers are honest of what the input has given by the end of the call, and what was said is a prefix of the run's output.
+pub record IsRecording (guest : List ℕ) (start : State) (i j : Option Input) (image said : List ℕ) : Type 0 where
+  pub epochs : List Epoch
+  pub journal : Reads guest (records_of epochs) image
+  pub end : State
+  pub output : List ℕ
+  pub chained : chain start epochs ≡ Ok (end, output)
+  pub honest : IfInput (IsHonestSince (answers_in epochs)) i j
+  pub sent : IsPrefixOf said output
+
+-- No journal yet, and nothing was said; or a recording.
+abbrev pub StandsAt : (guest : List ℕ) → (start : State) → (i j : Option Input) → (image said : List ℕ) → Type 0
+StandsAt guest start i j image said = ((reads image ≡ None) × (said ≡ [])) ⊎ IsRecording guest start i j image said
+
+-- The same of all that Out has got since a recording began.
+abbrev pub HoldsAt : (guest : List ℕ) → (start : State) → (i j : Option Input) → History → (image sent : List ℕ) → Type 0
+HoldsAt guest start i j before image sent = (said : List ℕ) × (sent ≡ before.sent ++ said) × StandsAt guest start i j image said
+
+-- At every moment, where the disk was empty and nothing was pending on it.
+abbrev pub EachMoment : (guest : List ℕ) → (start : State) → (i j : Option Input) → (before after : Option History) → Type 0
+EachMoment guest start i j before after =
+    IfKnown (λ s t. s.disk ≡ [] → IsSynced s → Always (HoldsAt guest start i j s) s t) before after
