@@ -16,6 +16,7 @@
 mod append;
 mod begin;
 mod journal;
+pub mod laws;
 mod whole;
 
 pub use append::AppendFault;
