@@ -23,6 +23,9 @@ pub enum CommitFault {
 }
 
 /// Appends an epoch's record, and sends its output once the record is on the disk. Takes no memory.
+///
+/// At every moment of the call a crash leaves the journal as it was, and nothing of this output was sent; or the journal with this
+/// record, and a prefix of the output was sent.
 pub fn commit_epoch<W: World>(
     journal: &mut Journal,
     world: &mut W,

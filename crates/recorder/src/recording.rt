@@ -31,6 +31,9 @@ use supply::{MAX_ROOM, Supply};
 /// the epoch's record is on the disk; and once the guest has ended, sends the report's line on Note. A round takes from the input
 /// exactly where a thread waits for it, and reads the clock once. The world comes back whatever happens.
 ///
+/// On a disk that was empty, with nothing pending, a crash at any moment of the call leaves the journal of whole epochs that are one
+/// run of the guest from its start, with honest answers, and of that run's output a prefix was sent; or no journal, and nothing was sent.
+///
 /// # Errors
 ///
 /// See [`RecordFault`]. The disk's length is looked at first; after `JournalInUse` nothing was written, sent or taken.
