@@ -12,7 +12,7 @@ replay-none : (h : History) (calls : List Call) → calls ≡ [] → replay h ca
 unfolding replay
 replay-none h calls e = ap (λ (l : List Call). replay h l) e
 
-replay-push : (h : History) (calls : List Call) (call : Call) → replay h (calls ++ call ∷ []) ≡ after_call call (replay h calls)
+pub replay-push : (h : History) (calls : List Call) (call : Call) → replay h (calls ++ call ∷ []) ≡ after_call call (replay h calls)
 unfolding replay
 replay-push h [] call = refl
 replay-push h (c ∷ calls) call = replay-push (after_call c h) calls call

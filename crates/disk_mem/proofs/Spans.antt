@@ -20,12 +20,12 @@ pub record Spans (p : Pending) (disk : List ℕ) : Type 0 where
 length-filled : (at : ℕ) (disk : List ℕ) → length (filled at disk) ≡ max (length disk) at
 length-filled at disk = omega (arith, length-append disk (replicate (at - length disk) 0), length-replicate {A = ℕ} (at - length disk) 0)
 
-length-overwritten : (at : ℕ) (bytes disk : List ℕ) → at ≤ length disk → length (overwritten at bytes disk) ≡ max (length disk) (at + length bytes)
+pub length-overwritten : (at : ℕ) (bytes disk : List ℕ) → at ≤ length disk → length (overwritten at bytes disk) ≡ max (length disk) (at + length bytes)
 length-overwritten at bytes disk within =
     omega (arith, length-append (take at disk ++ bytes) (drop (at + length bytes) disk), length-append (take at disk) bytes, length-take at disk, length-drop (at + length bytes) disk)
 
 -- outside of its range a write leaves what was there
-overwritten-outside : (at : ℕ) (bytes disk : List ℕ) (i : ℕ) → at ≤ length disk → i < length disk → (i < at) ⊎ (at + length bytes ≤ i) → get_or (overwritten at bytes disk) i 0 ≡ get_or disk i 0
+pub overwritten-outside : (at : ℕ) (bytes disk : List ℕ) (i : ℕ) → at ≤ length disk → i < length disk → (i < at) ⊎ (at + length bytes ≤ i) → get_or (overwritten at bytes disk) i 0 ≡ get_or disk i 0
 overwritten-outside at bytes disk i within below (inl before) = search (rules, places)
 overwritten-outside at bytes disk i within below (inr behind) = search (rules, places)
 
@@ -72,7 +72,7 @@ spans-call (Sync false) h is = is
 spans-call (Emit Out piece count ok) h is = is
 spans-call (Emit Note piece count ok) h is = is
 
-spans-replay : (calls : List Call) (h : History) → Spans h.pending h.disk → Spans (replay h calls).pending (replay h calls).disk
+pub spans-replay : (calls : List Call) (h : History) → Spans h.pending h.disk → Spans (replay h calls).pending (replay h calls).disk
 unfolding replay
 spans-replay [] h is = is
 spans-replay (call ∷ calls) h is = spans-replay calls (after_call call h) (spans-call call h is)

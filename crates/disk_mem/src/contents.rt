@@ -6,8 +6,10 @@ ghost use Rattle.disk_model.specs.Known.{overwritten};
 ghost use Rattle.disk_mem.specs.declared.call.Call.TheVariants.{Write, Cut, Emit};
 ghost use Rattle.disk_mem.specs.Replay.{filled, start, stream_of, replay};
 ghost use Rattle.disk_mem.specs.Recording.{started, recorded, IsQuiet};
+ghost use Rattle.disk_mem.specs.Crashing.{left_by};
 
 use crate::Call;
+use crate::crash::{bytes_with_ones, kept_bytes};
 use disk_model::Stream;
 use dp_base::{Bytes, OutOfMemory};
 use std::alloc::Global;
@@ -77,6 +79,26 @@ impl Contents {
         let bytes = self.disk.as_slice();
         are_bytes(bytes);
         bytes
+    }
+
+    /// One of the images that a crash may leave now: 0 picks the disk without what is pending, 1 what a read gives, and any
+    /// other number the disk with each pending byte 1.
+    pub fn crash(&self, alloc: Global, pick: u32) -> Result<Vec<u8>, OutOfMemory>
+        ensures left { IfOk result (λ bytes. bytes.items ≡ left_by pick self.now.history) }
+        ensures image { IfOk result (λ bytes. IsImage self.now.history.pending bytes.items) }
+    {
+        if pick == 0 {
+            let kept = kept_bytes(alloc, &self.first, &self.calls)?;
+            are_bytes(&kept);
+            return Ok(kept);
+        }
+        if pick == 1 {
+            let read = self.disk().to_vec(alloc)?;
+            return Ok(read);
+        }
+        let marked = bytes_with_ones(alloc, &self.first, &self.calls)?;
+        are_bytes(&marked);
+        Ok(marked)
     }
 
     /// What a stream has got.
@@ -260,7 +282,7 @@ fn send(
 }
 
 // Makes them at least this many, with zero bytes at the end.
-fn fill_up(content: &mut Vec<u8>, count: usize) -> Result<(), OutOfMemory>
+pub(crate) fn fill_up(content: &mut Vec<u8>, count: usize) -> Result<(), OutOfMemory>
     ensures ok { OnOk result (content.new.items ≡ filled count content.old.items) }
     ensures err { OnErr result (content.new.items ≡ content.old.items) }
 {
@@ -270,7 +292,7 @@ fn fill_up(content: &mut Vec<u8>, count: usize) -> Result<(), OutOfMemory>
     Ok(())
 }
 
-fn write_within(content: &mut Vec<u8>, start: usize, bytes: &[u8])
+pub(crate) fn write_within(content: &mut Vec<u8>, start: usize, bytes: &[u8])
     requires { start + length bytes.now ≤ length content.old.items }
     ensures { content.new.items ≡ overwritten start bytes.now content.old.items }
 {

@@ -4,7 +4,8 @@
 //! Promises: a call on a `MemWorld` fails only by its number, as the `Fails` of its kind says, or with `allocation_failed`
 //! true from then on. A fetch fails only by its number or at a name that no file has, or it answers `OutOfMemory`. A
 //! take from a `MemInlet` fails only by its number. What stands after each call is known exactly, also after one that fails.
-//! A `MemWorld` keeps a record of all its calls, and its history is the replay of that record. Stands on `disk_model` for the
+//! A `MemWorld` keeps a record of all its calls, and its history is the replay of that record. Its `crash` gives one of the
+//! images that a crash may leave now. Stands on `disk_model` for the
 //! traits that these meet, and on `dp_base`.
 //!
 //! ```text
@@ -21,6 +22,9 @@
 mod call;
 mod contents;
 mod counter;
+mod crash;
+#[cfg(test)]
+mod crash_tests;
 mod fails;
 mod mem_files;
 mod mem_inlet;

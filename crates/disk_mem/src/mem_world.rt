@@ -7,6 +7,7 @@ ghost use Rattle.disk_model.specs.Steps.{IsRead, Wrote, Truncated, Synced, Emitt
 ghost use Rattle.disk_mem.specs.declared.fails.Fails.TheVariants.{Never};
 ghost use Rattle.disk_mem.specs.declared.call.Call.TheVariants.{Attach, Len, Read, Write, Cut, Sync, Emit};
 ghost use Rattle.disk_mem.specs.Replay.{start, stream_of, replay};
+ghost use Rattle.disk_mem.specs.Crashing.{left_by};
 ghost use Rattle.disk_mem.specs.MemoryWorld.{fresh, restarted, fails_next, emit_fails_next, did, did_emit, IsFailed, IsFailedEmit};
 
 use crate::contents::Contents;
@@ -78,6 +79,18 @@ impl MemWorld {
         ensures image { IsImage self.now.history.pending result.now }
     {
         self.contents.disk()
+    }
+
+    /// One of the images that a crash may leave now, by a pick. All of one takes memory, also where the disk is short now:
+    /// a write far past the end that failed is pending.
+    ///
+    /// 0 picks the disk without what is pending, at its least length; 1 what a read gives, as `bytes`; any other number the
+    /// disk with each pending byte 1, at its greatest length.
+    pub fn crash(&self, alloc: Global, pick: u32) -> Result<Vec<u8>, OutOfMemory>
+        ensures left { IfOk result (λ bytes. bytes.items ≡ left_by pick self.now.history) }
+        ensures image { IfOk result (λ bytes. IsImage self.now.history.pending bytes.items) }
+    {
+        self.contents.crash(alloc, pick)
     }
 
     /// What a stream has got.

@@ -8,6 +8,7 @@ ghost use Rattle.disk_mem.specs.declared.fails.Fails.TheVariants.{Never, At, Fro
 ghost use Rattle.disk_mem.specs.Counted.{counted};
 ghost use Rattle.disk_mem.specs.Fails.{fails_at};
 ghost use Rattle.disk_mem.specs.Replay.{filled, start, after_call};
+ghost use Rattle.disk_mem.specs.Crashing.{left_by};
 
 // A count at both its ends.
 fn counts()
@@ -77,4 +78,14 @@ fn clocks()
     ensures past { reading_at (5 ∷ 7 ∷ []) 4 ≡ 7 }
     ensures none { reading_at [] 1 ≡ 0 }
     ensures noted { noted 7 (5 ∷ []) ≡ 5 ∷ 7 ∷ [] }
+{}
+
+// What a crash leaves of a disk of five bytes behind a write over two of them and one past the end, and behind a cut.
+#[tactic(auto, unfolding(crate::specs::Crashing::with_ones))]
+fn crashes()
+    ensures kept { left_by 0 (after_call (Write 5 (8 ∷ 8 ∷ []) true) (after_call (Write 1 (9 ∷ 9 ∷ []) true) (start (1 ∷ 2 ∷ 3 ∷ 4 ∷ 5 ∷ [])))) ≡ 1 ∷ 2 ∷ 3 ∷ 4 ∷ 5 ∷ [] }
+    ensures read { left_by 1 (after_call (Write 5 (8 ∷ 8 ∷ []) true) (after_call (Write 1 (9 ∷ 9 ∷ []) true) (start (1 ∷ 2 ∷ 3 ∷ 4 ∷ 5 ∷ [])))) ≡ 1 ∷ 9 ∷ 9 ∷ 4 ∷ 5 ∷ 8 ∷ 8 ∷ [] }
+    ensures marked { left_by 2 (after_call (Write 5 (8 ∷ 8 ∷ []) true) (after_call (Write 1 (9 ∷ 9 ∷ []) true) (start (1 ∷ 2 ∷ 3 ∷ 4 ∷ 5 ∷ [])))) ≡ 1 ∷ 1 ∷ 1 ∷ 4 ∷ 5 ∷ 1 ∷ 1 ∷ [] }
+    ensures cut_kept { left_by 0 (after_call (Cut 1 false) (start (1 ∷ 2 ∷ 3 ∷ []))) ≡ 1 ∷ [] }
+    ensures cut_marked { left_by 3 (after_call (Cut 1 true) (start (4 ∷ 2 ∷ 3 ∷ []))) ≡ 4 ∷ 1 ∷ 1 ∷ [] }
 {}
