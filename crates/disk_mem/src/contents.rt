@@ -81,8 +81,8 @@ impl Contents {
         bytes
     }
 
-    /// One of the images that a crash may leave now: 0 picks the disk without what is pending, 1 what a read gives, and any
-    /// other number the disk with each pending byte 1.
+    /// One of the images that a crash may leave now: 0 picks the disk without what is pending, 1 what a read gives, any other
+    /// number the disk with each pending byte 1.
     pub fn crash(&self, alloc: Global, pick: u32) -> Result<Vec<u8>, OutOfMemory>
         ensures left { IfOk result (λ bytes. bytes.items ≡ left_by pick self.now.history) }
         ensures image { IfOk result (λ bytes. IsImage self.now.history.pending bytes.items) }

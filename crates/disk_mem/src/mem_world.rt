@@ -81,11 +81,10 @@ impl MemWorld {
         self.contents.disk()
     }
 
-    /// One of the images that a crash may leave now, by a pick. All of one takes memory, also where the disk is short now:
-    /// a write far past the end that failed is pending.
+    /// One of the images that a crash may leave now: 0 picks the disk without what is pending, at its least length; 1 what a
+    /// read gives, as `bytes`; any other number the disk with each pending byte 1, at its greatest length.
     ///
-    /// 0 picks the disk without what is pending, at its least length; 1 what a read gives, as `bytes`; any other number the
-    /// disk with each pending byte 1, at its greatest length.
+    /// The greatest length may be more than any memory holds: a write far past the end that failed by its number is pending.
     pub fn crash(&self, alloc: Global, pick: u32) -> Result<Vec<u8>, OutOfMemory>
         ensures left { IfOk result (λ bytes. bytes.items ≡ left_by pick self.now.history) }
         ensures image { IfOk result (λ bytes. IsImage self.now.history.pending bytes.items) }
