@@ -1,0 +1,204 @@
+// Recordings that stop at a call, and replays of what a crash leaves of them.
+ghost use Rattle.std.specs.Prelude.{◌<◌};
+
+use disk_mem::{CallNumbers, Fails, MemFiles, MemInlet, MemWorld, NamedFile};
+use disk_model::Stream;
+use dp_report::Status;
+use dp_top::run;
+use std::alloc::{AllocError, Global};
+use std::test::Fail;
+
+// A file's headers up to p_filesz, and those behind p_memsz: ELF32, little-endian, RISC-V, one segment that is the whole file at
+// 00010000, entry 00010054.
+const HEADERS_START: [u8; 68] = [
+    0x7f, 0x45, 0x4c, 0x46, 0x01, 0x01, 0x01, 0x00, 0x00, 0x00, 0x00, 0x00, 0x00, 0x00, 0x00, 0x00,
+    0x02, 0x00, 0xf3, 0x00, 0x01, 0x00, 0x00, 0x00, 0x54, 0x00, 0x01, 0x00, 0x34, 0x00, 0x00, 0x00,
+    0x00, 0x00, 0x00, 0x00, 0x00, 0x00, 0x00, 0x00, 0x34, 0x00, 0x20, 0x00, 0x01, 0x00, 0x00, 0x00,
+    0x00, 0x00, 0x00, 0x00, 0x01, 0x00, 0x00, 0x00, 0x00, 0x00, 0x00, 0x00, 0x00, 0x00, 0x01, 0x00,
+    0x00, 0x00, 0x01, 0x00,
+];
+
+const HEADERS_END: [u8; 8] = [0x05, 0x00, 0x00, 0x00, 0x00, 0x10, 0x00, 0x00];
+
+// The file of a guest of these words.
+pub(crate) fn file_of(alloc: Global, words: &[u32]) -> Result<Vec<u8>, AllocError> {
+    let size = words.len().min(1000) as u32 * 4 + 84;
+    let mut file = HEADERS_START.to_vec(alloc)?;
+    file.extend_from_slice(&size.to_le_bytes())?;
+    file.extend_from_slice(&size.to_le_bytes())?;
+    file.extend_from_slice(&HEADERS_END)?;
+    for word in words {
+        file.extend_from_slice(&word.to_le_bytes())?;
+    }
+    Ok(file)
+}
+
+// The call with this number fails.
+pub(crate) fn at(alloc: Global, number: u64) -> Result<Fails, Fail> {
+    Ok(Fails::At(CallNumbers::from_vec([number].to_vec(alloc)?)))
+}
+
+// Which calls of a recording fail, and how many bytes one emit takes at most.
+#[derive(Drop)]
+pub(crate) struct Faults {
+    pub disk: Fails,
+    pub sink: Fails,
+    pub piece: u32,
+}
+
+// A run by these words, where `g` is the file of these words and the input has these pieces.
+fn ran(
+    rt: &HostRuntime,
+    asked: &[&str],
+    words: &[u32],
+    pieces: &[&[u8]],
+    world: MemWorld,
+) -> Result<(MemWorld, Status), Fail> {
+    let alloc = rt.alloc();
+    let mut texts = Vec::new(alloc);
+    for word in asked {
+        texts.push(String::from_str(alloc, word)?)?;
+    }
+    let mut named = Vec::new(alloc);
+    named.push(NamedFile {
+        name: String::from_str(alloc, "g")?,
+        bytes: file_of(alloc, words)?,
+    })?;
+    let mut owned = Vec::new(alloc);
+    for piece in pieces {
+        owned.push(piece.to_vec(alloc)?)?;
+    }
+    let mut files = MemFiles::new(named, Fails::Never);
+    let mut inlet = MemInlet::new(owned, Vec::new(alloc), Fails::Never);
+    Ok(run(rt, alloc, &texts, &mut files, &mut inlet, world))
+}
+
+// What a recording came to, what it sent, and what a crash leaves behind it: the image of each pick, without what is pending, as it
+// reads, and with each pending byte 1.
+#[derive(Drop)]
+pub(crate) struct Stopped {
+    pub status: Status,
+    pub sent: Vec<u8>,
+    pub kept: Vec<u8>,
+    pub read: Vec<u8>,
+    pub marked: Vec<u8>,
+}
+
+fn images_of(alloc: Global, world: &MemWorld, status: Status) -> Result<Stopped, Fail> {
+    Ok(Stopped {
+        status,
+        sent: world.sent(Stream::Out).to_vec(alloc)?,
+        kept: world.crash(alloc, 0)?,
+        read: world.crash(alloc, 1)?,
+        marked: world.crash(alloc, 2)?,
+    })
+}
+
+// A recording on an empty disk.
+pub(crate) fn recording(
+    rt: &HostRuntime,
+    asked: &[&str],
+    words: &[u32],
+    pieces: &[&[u8]],
+    faults: Faults,
+) -> Result<Stopped, Fail> {
+    let alloc = rt.alloc();
+    let world = MemWorld::new(alloc, faults.disk, faults.sink, faults.piece.max(1))?;
+    let (after, status) = ran(rt, asked, words, pieces, world)?;
+    images_of(alloc, &after, status)
+}
+
+// What a replay came to, and what it sent.
+#[derive(Drop)]
+pub(crate) struct Played {
+    pub status: Status,
+    pub sent: Vec<u8>,
+    pub noted: Vec<u8>,
+}
+
+fn look_at(alloc: Global, world: &MemWorld, status: Status) -> Result<Played, Fail> {
+    Ok(Played {
+        status,
+        sent: world.sent(Stream::Out).to_vec(alloc)?,
+        noted: world.sent(Stream::Note).to_vec(alloc)?,
+    })
+}
+
+// A replay of an image that meets no fault.
+pub(crate) fn replay(rt: &HostRuntime, image: &[u8]) -> Result<Played, Fail> {
+    let alloc = rt.alloc();
+    let world = MemWorld::new(alloc, Fails::Never, Fails::Never, 65_536)?.of_disk(alloc, image)?;
+    let (after, status) = ran(rt, &["dpcli", "replay", "j"], &[], &[], world)?;
+    look_at(alloc, &after, status)
+}
+
+pub(crate) fn is_prefix(front: &[u8], all: &[u8]) -> bool {
+    front.iter().zip(all).all(|(a, b)| a == b) && front.len() <= all.len()
+}
+
+// The number of epochs in a report's line, of one digit.
+fn epochs_in(noted: &[u8]) -> Result<u8, Fail> {
+    if !is_prefix(b"epochs ", noted) {
+        return Err("no report".into());
+    }
+    let digit = noted.get(7).copied().unwrap_or(0);
+    if !digit.is_ascii_digit() || noted.get(8) != Some(&b' ') {
+        return Err("no number of epochs".into());
+    }
+    Ok(digit - b'0')
+}
+
+// What an image plays to: the status, how many epochs, and how many bytes of output. It has none if it is no journal.
+pub(crate) type Plays = (Status, u8, usize);
+
+pub(crate) const NO_JOURNAL: Plays = (Status::NoJournal, 0, 0);
+
+// What an image plays to, where the output begins with what a recording has sent, and the guest's whole output begins with it.
+pub(crate) fn plays(
+    rt: &HostRuntime,
+    image: &[u8],
+    said: &[u8],
+    whole: &[u8],
+) -> Result<Plays, Fail> {
+    let seen = replay(rt, image)?;
+    if !is_prefix(said, &seen.sent) || !is_prefix(&seen.sent, whole) {
+        return Err("what was sent, the replay's output, and the whole output".into());
+    }
+    if seen.status == Status::NoJournal {
+        return Ok((seen.status, 0, seen.sent.len()));
+    }
+    if seen.status != Status::Ok {
+        return Err("an image is a journal or none".into());
+    }
+    Ok((seen.status, epochs_in(&seen.noted)?, seen.sent.len()))
+}
+
+// What a recording came to, how many bytes it sent, and what each image plays to.
+#[derive(Clone, Copy, Debug, PartialEq, Eq)]
+pub(crate) struct Left {
+    pub status: Status,
+    pub sent: usize,
+    pub plays: [Plays; 3],
+}
+
+// The same of a recording some of whose calls fail, of a guest whose whole output this is.
+pub(crate) fn what_is_left(
+    rt: &HostRuntime,
+    asked: &[&str],
+    words: &[u32],
+    pieces: &[&[u8]],
+    whole: &[u8],
+    faults: Faults,
+) -> Result<Left, Fail> {
+    let seen = recording(rt, asked, words, pieces, faults)?;
+    let said = seen.sent.as_slice();
+    Ok(Left {
+        status: seen.status,
+        sent: said.len(),
+        plays: [
+            plays(rt, &seen.kept, said, whole)?,
+            plays(rt, &seen.read, said, whole)?,
+            plays(rt, &seen.marked, said, whole)?,
+        ],
+    })
+}
