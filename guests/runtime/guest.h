@@ -33,7 +33,8 @@ enum {
 #define BAD_ARGUMENT (-22)
 #define NO_SUCH_CALL (-38)
 
-// The number is in a7, the arguments are in a0 to a3, and the answer is in a0. All other registers stay.
+// Any call but clock, which changes a1 too: use clock() below. The number is in a7, the arguments are in a0 to a3, and the answer
+// is in a0. All other registers stay.
 static inline unsigned kernel_call(unsigned number, unsigned first, unsigned second, unsigned third, unsigned fourth) {
     register unsigned a0 __asm__("a0") = first;
     register unsigned a1 __asm__("a1") = second;
