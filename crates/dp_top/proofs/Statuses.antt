@@ -19,7 +19,7 @@ use Rattle.dp_report.specs.declared.report.Report.{Report}
 use Rattle.recorder.specs.declared.record_fault.RecordFault.{RecordFault}
 use Rattle.recorder.specs.declared.record_fault.RecordFault.TheVariants as faults
 use Rattle.recorder.specs.Moments.{EachMoment}
-use Rattle.recorder.specs.Recording.{IsInUse, Recorded}
+use Rattle.recorder.specs.Recording.{IsInUse, MayFollow, Recorded}
 use Rattle.recorder.proofs.Drawings.{has_drawn, input-same, none_drawn}
 use Rattle.recorder.proofs.Moments.{nothing_left}
 use Rattle.recorder.proofs.Rounds.{no_round}
@@ -50,8 +50,8 @@ pub not_attached : (guest : List ℕ) (start : State) (options : Options) (i j :
 not_attached guest start options i j before after first kept same = (
   no_round options start (omega (arith, first)),
   inl refl,
-  ([], omega arith, input-same (HasDrawn [] []) i j kept (λ s. has_drawn (empty MAX_ROOM) 0 [] [] s s (none_drawn s))),
-  known-same _ _ _ same (λ s. record { sent = sym (append-nil s.sent); noted = refl; on_disk = inl refl; untouched = inr refl; left = λ empty_ synced. nothing_left guest s empty_ synced }),
+  inl (input-same (HasDrawn [] []) i j kept (λ s. has_drawn (empty MAX_ROOM) 0 [] [] s s (none_drawn s))),
+  known-same _ _ _ same (λ s. record { sent = sym (append-nil s.sent); noted = refl; on_disk = inl refl; untouched = inr refl; left = λ empty_ synced. nothing_left guest (MayFollow (no_round options start (omega (arith, first)))) s empty_ synced }),
 )
 
 -- the guest that was fetched was recorded

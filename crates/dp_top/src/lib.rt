@@ -2,8 +2,9 @@
 //!
 //! Promises (the contract of `run`): if a recording answers `Ok`, `StepLimit` or `JournalFull`, the disk reads as the journal
 //! of this guest with a chain of epochs from its start state, and what was sent is exactly that chain's output. At whatever
-//! moment a recording is stopped, what a crash leaves is whole epochs in order that are one execution on the guest's input, of
-//! whose output a prefix was sent (`every_moment`), and plays to just that execution (`laws::a_crash_plays_to_its_run`). A replay
+//! moment a recording is stopped, what a crash leaves is no journal, and nothing was sent; or whole epochs in order that are one
+//! execution on the guest's input, of whose output a prefix was sent (`every_moment`), and plays to just that execution
+//! (`laws::a_crash_plays_to_its_run`). A replay
 //! answers what its journal plays to, sends exactly that output, and doesn't write the disk. After each other status what
 //! stands is named, and each comes only for its own cause. On Note goes the report's line at `Ok`, and else the status's line:
 //! all of it, or a prefix where the stream failed. Where the report's line was cut off, its prefix stands before the line of

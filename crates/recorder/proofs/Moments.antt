@@ -163,19 +163,19 @@ module _ (guest : List ℕ) (start : State) where
         (always-weaker (IsCommitting guest (records_of epochs) (epoch e) output t) P t u partly_committing b)
 
   -- what a failed append leaves
-  pub append_left : (epochs : List Epoch) (e : Epoch) → records_of (epochs ++ e ∷ []) ≡ records_of epochs ++ epoch e ∷ [] → (t u : History)
-      → Always (IsBeforeOrAfter guest (records_of epochs) (epoch e) t) t u → Then (λ image sent. IsLeft guest epochs image) (now u)
-  append_left epochs e push t u a image sent may = look (a.last image sent may).0
+  pub append_left : (epochs : List Epoch) (e : Epoch) (Follows : Epoch → Type 0) → Follows e → records_of (epochs ++ e ∷ []) ≡ records_of epochs ++ epoch e ∷ [] → (t u : History)
+      → Always (IsBeforeOrAfter guest (records_of epochs) (epoch e) t) t u → Then (λ image sent. IsLeft guest epochs Follows image) (now u)
+  append_left epochs e Follows follows push t u a image sent may = look (a.last image sent may).0
     where
-      look : (Reads guest (records_of epochs) image) ⊎ (Reads guest (records_of epochs ++ epoch e ∷ []) image) → IsLeft guest epochs image
+      look : (Reads guest (records_of epochs) image) ⊎ (Reads guest (records_of epochs ++ epoch e ∷ []) image) → IsLeft guest epochs Follows image
       look (inl journal) = inr (inl journal)
-      look (inr journal) = inr (inr (e, subst (λ (l : List Record). Reads guest l image) (sym push) journal))
+      look (inr journal) = inr (inr (e, follows, subst (λ (l : List Record). Reads guest l image) (sym push) journal))
 
   -- what a failed beginning leaves
-  pub begin_left : (s t : History) → Always (IsBeginning guest s) s t → Then (λ image sent. IsLeft guest [] image) (now t)
-  begin_left s t a image sent may = look (a.last image sent may).0
+  pub begin_left : (Follows : Epoch → Type 0) (s t : History) → Always (IsBeginning guest s) s t → Then (λ image sent. IsLeft guest [] Follows image) (now t)
+  begin_left Follows s t a image sent may = look (a.last image sent may).0
     where
-      look : (reads image ≡ None) ⊎ (Reads guest [] image) → IsLeft guest [] image
+      look : (reads image ≡ None) ⊎ (Reads guest [] image) → IsLeft guest [] Follows image
       look (inl nothing) = inl (refl, nothing)
       look (inr journal) = inr (inl journal)
 
@@ -209,8 +209,8 @@ module _ (guest : List ℕ) (start : State) where
   nothing_begun i j s empty synced = always-start (HoldsAt guest start i j s) s
       (λ image sent may. ([], may.got ∙ got-nothing s.sent may.taken ∙ sym (append-nil s.sent), inl (blank_reads s empty synced image may.on_disk, refl)))
 
-pub nothing_left : (guest : List ℕ) (s : History) → s.disk ≡ [] → IsSynced s → Then (λ image sent. IsLeft guest [] image) (now s)
-nothing_left guest s empty synced image sent may = inl (refl, blank_reads s empty synced image may.on_disk)
+pub nothing_left : (guest : List ℕ) (Follows : Epoch → Type 0) (s : History) → s.disk ≡ [] → IsSynced s → Then (λ image sent. IsLeft guest [] Follows image) (now s)
+nothing_left guest Follows s empty synced image sent may = inl (refl, blank_reads s empty synced image may.on_disk)
 
 -- ---- a line on Note
 

@@ -37,7 +37,7 @@ use Rattle.recorder.specs.declared.commit.CommitFault.TheVariants as commits
 use Rattle.recorder.specs.declared.record_fault.RecordFault.TheVariants as faults
 use Rattle.recorder.specs.Faults.{of_begin, of_commit}
 use Rattle.recorder.specs.Committing.{CommitMoments, Committed, HasCommitted}
-use Rattle.recorder.specs.Recording.{IsNext, EachIsNext, Run, epoch_steps, first_after, first_behind, HasDrawnOn, HasRoom, IsRecorded, Recorded, records_of, reported}
+use Rattle.recorder.specs.Recording.{IsNext, EachIsNext, Run, epoch_steps, first_after, first_behind, HasDrawnOn, HasRoom, IsRecorded, MayFollow, Recorded, records_of, reported}
 use Rattle.checkpoint.specs.State.{digest_of}
 use Rattle.device.specs.Sending.{Sent}
 use Rattle.disk_model.specs.declared.world.Stream.TheVariants.{Note}
@@ -251,8 +251,8 @@ module _ (guest : List ℕ) (guest_is : IsGuest guest) (options : Options) (star
   begin_failed now begins.DiskFault few numbers begun = (
     no_round options start few,
     inl refl,
-    ([], omega arith, input-same (HasDrawn [] []) i i refl (λ s. has_drawn (empty MAX_ROOM) 0 [] [] s s (none_drawn s))),
-    known-map _ _ _ _ (λ s t b. record { sent = b.0.sent ∙ sym (append-nil s.sent); noted = b.0.noted; on_disk = inl refl; untouched = b.1; left = λ empty synced. begin_left guest start s t (b.2 guest_is synced empty) }) begun,
+    inl (input-same (HasDrawn [] []) i i refl (λ s. has_drawn (empty MAX_ROOM) 0 [] [] s s (none_drawn s))),
+    known-map _ _ _ _ (λ s t b. record { sent = b.0.sent ∙ sym (append-nil s.sent); noted = b.0.noted; on_disk = inl refl; untouched = b.1; left = λ empty_ synced. begin_left guest start (MayFollow (no_round options start few)) s t (b.2 guest_is synced empty_) }) begun,
   )
   begin_failed now (begins.Full end need) few numbers begun = inl (numbers.0, numbers.1, numbers.2, refl, begun)
   begin_failed now begins.OutOfMemory few numbers begun = inl (refl, begun)
@@ -289,8 +289,8 @@ module _ (guest : List ℕ) (guest_is : IsGuest guest) (options : Options) (star
         (λ s t is. has_drawn w state.input (draws_of so_far.done) (answers_of so_far.done) s t is)
         so_far.drawn
 
-    no_more : HasDrawnOn (draws_of so_far.done) (answers_of so_far.done) i there
-    no_more = ([], omega arith, subst (λ (l : List Draw). IfInput (HasDrawn l (answers_of so_far.done)) i there) (sym (append-nil (draws_of so_far.done))) drawn_still)
+    no_more : HasDrawnOn run_so_far i there
+    no_more = inl drawn_still
 
     honest_of : (later : Option Input) (draws : List Draw) → IfInput (HasDrawn draws (answers_of so_far.done)) i later → IfInput (IsHonestSince (answers_in (epochs_of so_far.done))) i later
     honest_of later draws drawn = input-map (HasDrawn draws (answers_of so_far.done)) (IsHonestSince (answers_in (epochs_of so_far.done))) i later
@@ -397,11 +397,11 @@ module _ (guest : List ℕ) (guest_is : IsGuest guest) (options : Options) (star
           (λ s t a. has_drawn (supply_of w round.draw) state.input (draws_of so_far.done ++ round.draw ∷ []) (answers_of so_far.done) s t a.0)
           with_round
 
-      one_more : HasDrawnOn (draws_of so_far.done) (answers_of so_far.done) i later
-      one_more = (round.draw ∷ [], omega arith, drawn_round)
-
       due_is : round.draw.due ≡ input_due state (supply_behind (empty MAX_ROOM) (draws_of so_far.done))
       due_is = round.due ∙ ap (input_due state) so_far.supply_is
+
+      one_more : HasDrawnOn run_so_far i later
+      one_more = inr (round.draw, due_is, drawn_round)
 
       with_is : with_ ≡ supply_of (supply_behind (empty MAX_ROOM) (draws_of so_far.done)) round.draw
       with_is = round.is ∙ ap (λ (x : Supplied). supply_of x round.draw) so_far.supply_is
@@ -546,7 +546,7 @@ module _ (guest : List ℕ) (guest_is : IsGuest guest) (options : Options) (star
                 noted = k.0.noted ∙ r.noted;
                 on_disk = inr (k.1 guest (records_of (epochs_of so_far.done)) (epoch e) (appends_there s t r));
                 untouched = inl r.empty;
-                left = λ empty_ synced. append_left guest start E e (records-push E e) t u (k.2 guest (records_of E) (epoch e) (appends_there s t r) guest_is records_there);
+                left = λ empty_ synced. append_left guest start E e (MayFollow run_so_far) (round.draw, due_is, end, output, next_there) (records-push E e) t u (k.2 guest (records_of E) (epoch e) (appends_there s t r) guest_is records_there);
               })
               so_far.history known,
         )

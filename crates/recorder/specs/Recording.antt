@@ -35,7 +35,7 @@ use Rattle.journal_text.specs.Records.{Record, epoch}
 abbrev pub epoch_steps : Options → State → ℕ
 epoch_steps options s = min options.epoch (options.limit - s.steps)
 
--- which thread is first behind these slices, if it runs: the one behind the thread of the last of them
+-- which thread is first behind these slices, if it can step: the one behind the thread of the last of them
 abbrev pub first_behind : ℕ → List Slice → ℕ
 first_behind first [] = first
 first_behind first (x ∷ xs) = first_behind (x.tid.0 + 1) xs
@@ -126,20 +126,20 @@ pub record IsPartlySent (guest : List ℕ) (epochs : List Epoch) (last : Epoch) 
   pub sent : after.sent ≡ before.sent ++ (output ++ take count last_output)
   pub noted : after.noted ≡ before.noted
 
--- What a crash may leave behind a fault of the disk: the journal of these epochs, or of these and the one that was being written; or
--- no journal yet, before the first.
-abbrev pub IsLeft : (guest : List ℕ) → List Epoch → (image : List ℕ) → Type 0
-IsLeft guest epochs image = ((epochs ≡ []) × (reads image ≡ None)) ⊎ (Reads guest (records_of epochs) image)
-    ⊎ ((e : Epoch) × Reads guest (records_of (epochs ++ e ∷ [])) image)
+-- What a crash may leave behind a fault of the disk: the journal of these epochs, or of these and one that may follow them; or no journal
+-- yet, before the first.
+abbrev pub IsLeft : (guest : List ℕ) → List Epoch → (Epoch → Type 0) → (image : List ℕ) → Type 0
+IsLeft guest epochs Follows image = ((epochs ≡ []) × (reads image ≡ None)) ⊎ (Reads guest (records_of epochs) image)
+    ⊎ ((e : Epoch) × Follows e × Reads guest (records_of (epochs ++ e ∷ [])) image)
 
 -- The run's whole output was sent, and no more. What the last sync had left on the disk begins with its journal, and a crash leaves
--- that, or that and a record more.
-pub record IsInterrupted (guest : List ℕ) (epochs : List Epoch) (output : List ℕ) (before after : History) : Type 0 where
+-- that, or that and an epoch that may follow.
+pub record IsInterrupted (guest : List ℕ) (epochs : List Epoch) (output : List ℕ) (Follows : Epoch → Type 0) (before after : History) : Type 0 where
   pub sent : after.sent ≡ before.sent ++ output
   pub noted : after.noted ≡ before.noted
   pub on_disk : (epochs ≡ []) ⊎ IsPrefixOf (journal_of guest (records_of epochs)) after.pending.synced
   pub untouched : (before.disk ≡ []) ⊎ (after ≡ before)
-  pub left : before.disk ≡ [] → IsSynced before → Then (λ image sent. IsLeft guest epochs image) (now after)
+  pub left : before.disk ≡ [] → IsSynced before → Then (λ image sent. IsLeft guest epochs Follows image) (now after)
 
 -- nothing was written or sent
 abbrev pub IsUntouched : History → History → Type 0
@@ -171,9 +171,15 @@ HasNoRoom guest start options end need i j before after =
     × (end ≡ length (journal_of guest (records_of (epochs r)))) × (need ≡ length (frame (epoch_body next))) × (options.room < end + need)
     × IfInput (HasDrawn (draws r ++ d ∷ []) (answers r)) i j × IfKnown (IsRecorded guest (epochs r) r.output) before after)
 
--- what rounds drew, and maybe one round more
-abbrev pub HasDrawnOn : List Draw → List Answer → (i j : Option Input) → Type 0
-HasDrawnOn draws answers i j = (more : List Draw) × (length more ≤ 1) × IfInput (HasDrawn (draws ++ more) answers) i j
+-- what a run's rounds drew, and maybe one round more, which took from the input exactly where some was due
+abbrev pub HasDrawnOn : {options : Options} {start : State} → Run options start → (i j : Option Input) → Type 0
+HasDrawnOn r i j = IfInput (HasDrawn (draws r) (answers r)) i j
+    ⊎ ((d : Draw) × (d.due ≡ input_due r.end (supply r)) × IfInput (HasDrawn (draws r ++ d ∷ []) (answers r)) i j)
+
+-- an epoch that is next behind a run, with what a round draws that takes from the input exactly where some is due
+abbrev pub MayFollow : {options : Options} {start : State} → Run options start → Epoch → Type 0
+MayFollow {options} r e = (d : Draw) × (d.due ≡ input_due r.end (supply r)) × (there : State) × (output : List ℕ)
+    × IsNext options (first_next r) r.end (supply_of (supply r) d) e there output
 
 -- By the answer: what stands in the journal and was sent; and what was drawn from the input, of which the answers in the journal are
 -- honest.
@@ -190,11 +196,11 @@ Recorded guest start options i j before after (Err faults.InputFault) =
 Recorded guest start options i j before after (Err (faults.JournalFull end need)) = HasNoRoom guest start options end need i j before after
 Recorded guest start options i j before after (Err faults.OutOfMemory) =
     ((j ≡ i) × IfKnown IsUntouched before after) ⊎ ((r : Run options start) × ((has_ended r.end.end ≡ true) ⊎ GoesOn options r.end)
-    × HasRoom guest options (epochs r) × HasDrawnOn (draws r) (answers r) i j × IfKnown (IsRecorded guest (epochs r) r.output) before after)
+    × HasRoom guest options (epochs r) × HasDrawnOn r i j × IfKnown (IsRecorded guest (epochs r) r.output) before after)
 Recorded guest start options i j before after (Err (faults.JournalInUse len)) = (0 < len) × (j ≡ i) × IfKnown (IsInUse len) before after
 Recorded guest start options i j before after (Err faults.DiskFault) =
-    (r : Run options start) × ((epochs r ≡ []) ⊎ HasRoom guest options (epochs r)) × HasDrawnOn (draws r) (answers r) i j
-    × IfKnown (IsInterrupted guest (epochs r) r.output) before after
+    (r : Run options start) × ((epochs r ≡ []) ⊎ HasRoom guest options (epochs r)) × HasDrawnOn r i j
+    × IfKnown (IsInterrupted guest (epochs r) r.output (MayFollow r)) before after
 Recorded guest start options i j before after (Err faults.OutputFault) =
     ((r : Run options start) × (last : Round) × (last.draw.due ≡ input_due r.end (supply r)) × (there : State) × (output : List ℕ)
     × IsNext options (first_next r) r.end (supply_of (supply r) last.draw) last.epoch there output × HasRoom guest options (epochs r ++ last.epoch ∷ [])

@@ -12,7 +12,7 @@ use supply::InputFault;
 #[derive(Clone, Copy, Debug, PartialEq, Eq)]
 pub enum RecordFault {
     /// The disk failed. What was synced begins with the journal of the epochs whose output was sent, whole, and nothing of a
-    /// later epoch was sent. A crash leaves that journal, or that and the epoch that was being written; before the first maybe none.
+    /// later epoch was sent. A crash leaves that journal, or that and one epoch more that may follow; before the first maybe none.
     DiskFault,
     /// The output failed. The journal has the epoch whose output was being sent, and a prefix of that output was sent; or the
     /// guest has ended, its whole output was sent, and a prefix of the report's line was.
