@@ -1,5 +1,5 @@
 // The system's files by name.
-ghost use Rattle.std.specs.Prelude.{◌≤◌, IfOk, length};
+ghost use Rattle.std.specs.Prelude.{◌≡◌, ◌≤◌, IfOk, length};
 
 use crate::fault_count::FaultCount;
 use crate::transfer::fill;
@@ -19,7 +19,9 @@ pub struct RealFiles {
 
 impl RealFiles {
     /// The files of this system.
-    pub fn new(runtime: HostRuntime) -> RealFiles {
+    pub fn new(runtime: HostRuntime) -> RealFiles
+        ensures no_fault { result.file_faults.faults ≡ 0 }
+    {
         RealFiles {
             runtime,
             file_faults: FaultCount::new(),

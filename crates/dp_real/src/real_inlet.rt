@@ -1,5 +1,5 @@
 // Standard input, and the system's clock.
-ghost use Rattle.std.specs.Prelude.{◌≡◌, ◌≤◌, ◌-◌, ◌^◌, ◌<◌, Ok, IfOk, IsErr, IsTrue, length, drop, min};
+ghost use Rattle.std.specs.Prelude.{◌≡◌, ◌≤◌, ◌-◌, ◌^◌, ◌<◌, Ok, IfOk, IsErr, IsTrue, false, length, drop, min};
 ghost use Rattle.std.specs.Duration.{as_nanos};
 ghost use Rattle.disk_model.specs.Counts.{Rose};
 
@@ -24,14 +24,21 @@ pub struct RealInlet<R: Read> {
 
 impl RealInlet<Stdin> {
     /// Standard input.
-    pub fn new(runtime: HostRuntime) -> RealInlet<Stdin> {
+    pub fn new(runtime: HostRuntime) -> RealInlet<Stdin>
+        ensures no_fault { result.input_faults.faults ≡ 0 }
+        ensures no_end { result.ended ≡ false }
+    {
         RealInlet::of_reader(runtime, runtime.stdin())
     }
 }
 
 impl<R: Read> RealInlet<R> {
     /// This reader.
-    pub fn of_reader(runtime: HostRuntime, reader: R) -> RealInlet<R> {
+    pub fn of_reader(runtime: HostRuntime, reader: R) -> RealInlet<R>
+        ensures no_fault { result.input_faults.faults ≡ 0 }
+        ensures no_end { result.ended ≡ false }
+        ensures reader { result.reader ≡ reader }
+    {
         RealInlet {
             runtime,
             reader,

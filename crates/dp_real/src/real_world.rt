@@ -1,4 +1,6 @@
 // A journal's file, standard output and standard error.
+ghost use Rattle.std.specs.Prelude.{◌≡◌};
+
 use crate::fault_count::FaultCount;
 use crate::file_at::FileAt;
 use crate::transfer::{fill, write_some, write_whole};
@@ -21,7 +23,9 @@ pub struct RealWorld {
 
 impl RealWorld {
     /// The streams of this system, and no file yet.
-    pub fn new(runtime: HostRuntime) -> RealWorld {
+    pub fn new(runtime: HostRuntime) -> RealWorld
+        ensures no_fault { (result.disk_faults.faults ≡ 0) × (result.sink_faults.faults ≡ 0) }
+    {
         RealWorld {
             runtime,
             file: None,
