@@ -1,5 +1,5 @@
 // A count of faults of one kind.
-ghost use Rattle.std.specs.Prelude.{◌≡◌, ◌≤◌, IsErr, OnOk};
+ghost use Rattle.std.specs.Prelude.{◌≡◌, ◌≤◌, ◌+◌, ◌-◌, ◌^◌, min, IsErr, OnOk};
 ghost use Rattle.disk_model.specs.Counts.{Rose};
 
 use disk_model::Failed;
@@ -20,6 +20,7 @@ impl FaultCount {
 
     /// Counts a fault.
     pub fn count_fault(&mut self)
+        ensures number { self.new.faults ≡ min (self.old.faults + 1) (2 ^ 64 - 1) }
         ensures cause { Rose self.old.faults self.new.faults }
         ensures count { self.old.faults ≤ self.new.faults }
     {
