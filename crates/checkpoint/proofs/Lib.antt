@@ -7,4 +7,3 @@ mod PageLists
 mod Turning
 mod Running
 mod Starting
-mod Written

@@ -38,7 +38,7 @@ use Rattle.checkpoint.specs.State.{IsEncodable, checkpoint_of}
 use Rattle.checkpoint.proofs.Keeping.{PagesFit, RestFits, all_at, all_set, built, bytes_of, live_set, pages_alike, pages_fit, set_at, set_twice}
 use Rattle.checkpoint.proofs.Lists.{each_append, each_woken, set_append, set_woken}
 use Rattle.checkpoint.proofs.PageLists.{contents, pages_rise, risen_pages}
-use Rattle.checkpoint.proofs.Written.{put_bytes_bytes, put_bytes_shape}
+use Rattle.rv_step.proofs.Memories.{put_bytes_bytes, put_bytes_shape}
 
 -- ---- harts
 
@@ -440,7 +440,7 @@ module _ (laws : TurnLaws) (s : State) (tid : Tid) (hart : Hart) (clear : ℕ) (
       let fits : AllByRecursion IsAnswer (Read bytes ∷ rest) = subst (AllByRecursion IsAnswer) is_ answers_are in
       went (counted (has_read s tid hart clear bytes)) (next (with_register hart 10 (length bytes))) refl
       (next_is (with_register hart 10 (length bytes)) (with_word hart 10 (length bytes) hart_is (omega (arith, few)))) refl heap_is end_is within_is
-      (pages_alike s.pages (put_bytes (a1 hart) bytes s.pages) pages_are (put_bytes_bytes (a1 hart) bytes s.pages bytes_are fits.0.1) (put_bytes_shape (a1 hart) bytes s.pages))
+      (pages_alike s.pages (put_bytes (a1 hart) bytes s.pages) pages_are (put_bytes_bytes bytes (a1 hart) s.pages fits.0.1 bytes_are) (put_bytes_shape bytes (a1 hart) s.pages))
 
   -- the clock was read
   clock_keeps : (reading : ℕ) (rest : List Answer) → log ≡ Clock reading ∷ rest → Fits s (counted (has_clock s tid hart clear reading)) tid

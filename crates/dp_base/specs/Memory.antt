@@ -74,7 +74,7 @@ unfoldable pub put_bytes : ℕ → List ℕ → Memory → Memory
 put_bytes address [] memory = memory
 put_bytes address (byte ∷ bytes) memory = put_bytes (address + 1) bytes (put_byte address byte memory)
 
--- ---- loads and stores: little-endian (1.4), of 1, 2 or 4 bytes, aligned or not (2.6)
+-- ---- loads and stores, of 1, 2 or 4 bytes: little-endian, aligned or not (2.6)
 
 abbrev pub width_bytes : Width → ℕ
 width_bytes One = 1

@@ -43,7 +43,7 @@ overlap (s ∷ others) = list_any (λ t. meet s.addr s.size t.addr t.size) other
 abbrev pub rounded_up : ℕ → ℕ
 rounded_up n = (n + (PAGE_BYTES - 1)) / PAGE_BYTES * PAGE_BYTES
 
--- behind the span that ends last
+-- the first page's start that isn't before the end of any span
 abbrev pub heap_start : List Span → ℕ
 heap_start spans = rounded_up (fold (λ top s. max top (s.addr + s.size)) 0 spans)
 

@@ -3,5 +3,5 @@ mod Forms
 mod Encodings
 mod Decodings
 mod Frames
-mod Memories
+pub mod Memories
 mod Kept

@@ -54,7 +54,7 @@ change_page_bytes number offset byte (p ∷ m) small all =
     cond_both (p.number == number) _ _ HasBytes (λ _. All-cons IsOfBytes (with_byte offset byte p) m (with_byte_is offset byte p small here) others)
     (λ _. All-cons IsOfBytes p (change_page number (with_byte offset byte) m) here (change_page_bytes number offset byte m small others))
 
-put_bytes_bytes : (bytes : List ℕ) (address : ℕ) (m : Memory) → AreBytes bytes → HasBytes m → HasBytes (put_bytes address bytes m)
+pub put_bytes_bytes : (bytes : List ℕ) (address : ℕ) (m : Memory) → AreBytes bytes → HasBytes m → HasBytes (put_bytes address bytes m)
 unfolding put_bytes
 put_bytes_bytes [] address m fits all = all
 put_bytes_bytes (b ∷ bytes) address m fits all =
@@ -76,7 +76,7 @@ change_page_shape number offset byte (p ∷ m) =
     cond_both (p.number == number) _ _ (HasSameShape (p ∷ m)) (λ _. ap (λ (s : ℕ × ℕ × ℕ). s ∷ map shape_of m) (with_byte_shape offset byte p))
     (λ _. ap (λ (l : List (ℕ × ℕ × ℕ)). shape_of p ∷ l) (change_page_shape number offset byte m))
 
-put_bytes_shape : (bytes : List ℕ) (address : ℕ) (m : Memory) → HasSameShape m (put_bytes address bytes m)
+pub put_bytes_shape : (bytes : List ℕ) (address : ℕ) (m : Memory) → HasSameShape m (put_bytes address bytes m)
 unfolding put_bytes
 put_bytes_shape [] address m = refl
 put_bytes_shape (b ∷ bytes) address m = put_bytes_shape bytes (address + 1) (put_byte address b m) ∙ change_page_shape (address / PAGE_BYTES) (address % PAGE_BYTES) b m

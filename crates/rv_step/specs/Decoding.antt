@@ -97,7 +97,7 @@ op word =
     else if funct7 word == 0x20 then op_other word
     else None
 
--- MISC-MEM: FENCE, whose other fields are reserved and ignored (2.7)
+-- MISC-MEM: FENCE, all of whose other fields are ignored (2.7)
 abbrev pub misc_mem : ℕ → Option Instr
 misc_mem word = if funct3 word == 0 then Some instrs.Fence else None
 
