@@ -112,13 +112,11 @@ fn each_disk_call_of_a_filter(rt: HostRuntime) -> Result<(), Fail> {
     Ok(())
 }
 
-// Seven epochs of 17 steps at most, in slices of 9. The four bytes of output are one write, of an epoch that isn't said here. Every
-// third call, so that each of the four kinds has its turn.
+// Seven epochs of 17 steps at most, in slices of 9. The four bytes of output are one write, of an epoch that isn't said here.
 #[test]
 fn disk_calls_of_two_threads(rt: HostRuntime) -> Result<(), Fail> {
     let asked = ["dpcli", "record", "g", "j", "--epoch", "17", "--slice", "9"];
-    for third in 0..=12 {
-        let number = third * 3 + 1;
+    for number in 1..=36 {
         let came = what_is_left(
             &rt,
             &asked,

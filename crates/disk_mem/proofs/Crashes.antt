@@ -145,25 +145,27 @@ ones-write at count p ordered =
     ])
 
 -- a cut more
-pub ones-cut : (size : ℕ) (p : Pending) → with_ones (cut_pending size p) ≡ take size (with_ones p) ++ replicate (length (with_ones p) - size) 1
-ones-cut size p =
+pub ones-cut : (size : ℕ) (p : Pending) → p.least ≤ p.greatest → with_ones (cut_pending size p) ≡ take size (longer size (with_ones p)) ++ replicate (length (with_ones p) - size) 1
+ones-cut size p ordered =
     let q = cut_pending size p in
+    let long = longer size (with_ones p) in
     let ones : List ℕ = replicate (length (with_ones p) - size) 1 in
     let all = length-ones p in
-    let part : length (take size (with_ones p)) ≡ min size p.greatest = omega (arith, length-take size (with_ones p), all) in
+    let whole : length long ≡ max p.greatest size = omega (arith, length-longer size (with_ones p), all) in
+    let part : length (take size long) ≡ size = omega (arith, length-take size long, whole) in
     let rest : length ones ≡ p.greatest - size = omega (arith, length-replicate {A = ℕ} (length (with_ones p) - size) 1, all) in
-    ext_get_or 0 (with_ones q) (take size (with_ones p) ++ ones)
-    (omega (arith, length-ones q, length-append (take size (with_ones p)) ones, part, rest))
+    ext_get_or 0 (with_ones q) (take size long ++ ones)
+    (omega (arith, length-ones q, length-append (take size long) ones, part, rest))
     (λ i below.
-    let fits : i < p.greatest = omega (arith, below, length-ones q) in
+    let fits : i < max p.greatest size = omega (arith, below, length-ones q) in
     one-of q i fits
     ∙ elim (cases_lt i size) [
       | inl before ↦
-          before-cut size p i before ∙ sym (one-of p i fits) ∙ sym (get_or-take size (with_ones p) i 0 before)
-          ∙ sym (get_or-append (take size (with_ones p)) ones 0 i (omega (arith, part, before, fits)))
+          before-cut size p i before ∙ sym (one-of-longer size p i ordered fits) ∙ sym (get_or-take size long i 0 before)
+          ∙ sym (get_or-append (take size long) ones 0 i (omega (arith, part, before)))
       | inr behind ↦
           past-least q i (omega (arith, behind))
-          ∙ sym (get_or-append_right (take size (with_ones p)) ones size i 0 (omega (arith, part, behind, fits)) behind
+          ∙ sym (get_or-append_right (take size long) ones size i 0 part behind
           ∙ get_or-replicate (length (with_ones p) - size) (i - size) 1 0 (omega (arith, all, behind, fits)))
     ])
 
@@ -187,12 +189,12 @@ marked-write call at count bytes old new false h is size e same ordered =
     ∙ ap (λ (n : ℕ). with_ones (write_pending at n h.pending)) size
     ∙ ap (λ (c : Call). with_ones (after_call c h).pending) (sym is)
 
-pub marked-cut : (call : Call) (size : ℕ) (old new : List ℕ) (ok : Bool) (h : History) → call ≡ Cut size ok → new ≡ take size old ++ replicate (length old - size) 1 → old ≡ with_ones h.pending → new ≡ with_ones (after_call call h).pending
-marked-cut call size old new true h is e same =
-    e ∙ ap (λ (l : List ℕ). take size l ++ replicate (length l - size) 1) same ∙ sym (ones-cut size h.pending)
+pub marked-cut : (call : Call) (size : ℕ) (old new : List ℕ) (ok : Bool) (h : History) → call ≡ Cut size ok → new ≡ take size (longer size old) ++ replicate (length old - size) 1 → old ≡ with_ones h.pending → h.pending.least ≤ h.pending.greatest → new ≡ with_ones (after_call call h).pending
+marked-cut call size old new true h is e same ordered =
+    e ∙ ap (λ (l : List ℕ). take size (longer size l) ++ replicate (length l - size) 1) same ∙ sym (ones-cut size h.pending ordered)
     ∙ ap (λ (c : Call). with_ones (after_call c h).pending) (sym is)
-marked-cut call size old new false h is e same =
-    e ∙ ap (λ (l : List ℕ). take size l ++ replicate (length l - size) 1) same ∙ sym (ones-cut size h.pending)
+marked-cut call size old new false h is e same ordered =
+    e ∙ ap (λ (l : List ℕ). take size (longer size l) ++ replicate (length l - size) 1) same ∙ sym (ones-cut size h.pending ordered)
     ∙ ap (λ (c : Call). with_ones (after_call c h).pending) (sym is)
 
 pub marked-sync : (call : Call) (disk old new : List ℕ) (ok : Bool) (h : History) → call ≡ Sync ok → new ≡ (if ok then disk else old) → disk ≡ h.disk → old ≡ with_ones h.pending → new ≡ with_ones (after_call call h).pending

@@ -54,10 +54,10 @@ last-again clocks n reading short many here =
           ∙ ap (λ (r : ℕ). first_readings clocks (n - 1) ++ r ∷ []) (ap (slice_index clocks) same ∙ sym here),
     )
 
-pub is-noted : (clocks : List ℕ) (n reading : ℕ) → length clocks < 2 ^ 63 → reading ≡ reading_at clocks n → IsNoted reading (first_readings clocks n) (noted reading (first_readings clocks n))
-is-noted clocks n reading short here =
+pub is-noted : (clocks : List ℕ) (n reading : ℕ) → n < 2 ^ 64 → length clocks < 2 ^ 63 → reading ≡ reading_at clocks n → IsNoted reading (first_readings clocks n) (noted reading (first_readings clocks n))
+is-noted clocks n reading counted_ short here =
     let size : length (first_readings clocks n) ≡ n = length-readings clocks n in
     elim (cases_lt n (2 ^ 64 - 1)) [
       | inl few ↦ inl (noted-few reading (first_readings clocks n) (omega arith))
-      | inr many ↦ inr (noted-all reading (first_readings clocks n) (omega arith), last-again clocks n reading short many here)
+      | inr many ↦ inr (noted-all reading (first_readings clocks n) (omega arith), last-again clocks n reading short many here, omega (arith, size, many, counted_))
     ]

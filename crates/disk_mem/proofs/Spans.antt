@@ -57,7 +57,7 @@ spans-cut size p disk is = record {
 }
 
 spans-failed-cut : (size : ℕ) (p : Pending) (disk : List ℕ) → Spans p disk → Spans (cut_pending size p) disk
-spans-failed-cut size p disk is = record { no_shorter = omega (arith, is.no_shorter); no_longer = is.no_longer; stays = λ i below out. is.stays i (omega (arith, below)) out }
+spans-failed-cut size p disk is = record { no_shorter = omega (arith, is.no_shorter); no_longer = omega (arith, is.no_longer); stays = λ i below out. is.stays i (omega (arith, below)) out }
 
 spans-call : (call : Call) (h : History) → Spans h.pending h.disk → Spans (after_call call h).pending (after_call call h).disk
 spans-call (Attach ok) h is = is

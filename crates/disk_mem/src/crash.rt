@@ -145,12 +145,18 @@ fn put_ones(alloc: Global, content: &mut Vec<u8>, at: u64, count: usize) -> Resu
     Ok(())
 }
 
-// Puts ones over all bytes from an offset on.
+// Puts ones over all bytes from an offset on, and over a gap before it.
 fn put_ones_behind(content: &mut Vec<u8>, at: u64) -> Result<(), OutOfMemory>
-    ensures { OnOk result (content.new.items ≡ take at content.old.items ++ replicate (length content.old.items - at) 1) }
+    ensures { OnOk result (content.new.items ≡ take at (content.old.items ++ replicate (at - length content.old.items) 1)
+        ++ replicate (length content.old.items - at) 1) }
 {
+    let start = at as usize;
     let len = content.len();
-    content.truncate(at as usize);
+    if len < start {
+        content.resize(start, 1)?;
+        return Ok(());
+    }
+    content.truncate(start);
     content.resize(len, 1)?;
     Ok(())
 }

@@ -148,7 +148,7 @@ fn images_behind_cuts(rt: HostRuntime) -> Result<(), Fail> {
         (
             [Cut(9), Nothing, Nothing],
             0,
-            [b"abcde", b"abcde", b"abcde"],
+            [b"abcde", b"abcde", b"abcde\x01\x01\x01\x01"],
         ),
         // the greatest length stays the one before the cut, or is the end of the write
         (

@@ -1,6 +1,6 @@
 -- What may be known of an input: the bytes that it has given, the pieces that it has left, whether its end was seen, and the
 -- readings of its clock. This project's own.
-use Rattle.std.specs.Prelude.{◌≡◌, ◌⊎◌, ℕ, Bool, true, false, ◌||◌, ◌&&◌, nat_lt, List, [], ◌∷◌, ◌++◌, take, drop, Option, Some, None, ⊤}
+use Rattle.std.specs.Prelude.{◌≡◌, ◌⊎◌, ℕ, Bool, true, false, ◌||◌, ◌&&◌, nat_lt, ◌-◌, ◌^◌, List, [], ◌∷◌, ◌++◌, length, take, drop, Option, Some, None, ⊤}
 
 pub record Input : Type 0 where
   -- all bytes given so far
@@ -58,9 +58,10 @@ Gave bytes i there = there.given ≡ i.given ++ bytes
 abbrev pub IsLast : ℕ → List ℕ → Type 0
 IsLast reading readings = (front : List ℕ) × (readings ≡ front ++ reading ∷ [])
 
--- The readings with one more. One that is the same as the one before it may be noted once for both.
+-- The readings with one more. They are counted in a word: behind 2^64 - 1 of them one that is the last again isn't noted.
 abbrev pub IsNoted : ℕ → (before after : List ℕ) → Type 0
-IsNoted reading before after = (after ≡ before ++ reading ∷ []) ⊎ ((after ≡ before) × IsLast reading before)
+IsNoted reading before after =
+    (after ≡ before ++ reading ∷ []) ⊎ ((after ≡ before) × IsLast reading before × (length before ≡ 2 ^ 64 - 1))
 
 -- The clock was read.
 abbrev pub ReadClock : ℕ → Input → Input → Type 0

@@ -1,5 +1,5 @@
 -- How each call of a world extends its history. This project's own.
-use Rattle.std.specs.Prelude.{◌≡◌, ◌≤◌, ◌⊎◌, ℕ, ◌-◌, min, Bool, true, false, List, [], ◌∷◌, ◌++◌, length, take, drop, Result, Ok, Err, Option, Some, None, ⊤}
+use Rattle.std.specs.Prelude.{◌≡◌, ◌≤◌, ◌⊎◌, ℕ, ◌-◌, min, max, Bool, true, false, List, [], ◌∷◌, ◌++◌, length, take, drop, Result, Ok, Err, Option, Some, None, ⊤}
 use Rattle.disk_model.specs.declared.world.Failed.{Failed}
 use Rattle.disk_model.specs.declared.world.Stream.{Stream}
 use Rattle.disk_model.specs.declared.world.Stream.TheVariants.{Out, Note}
@@ -32,9 +32,9 @@ abbrev pub Wrote : ℕ → List ℕ → Bool → History → History → Type 0
 Wrote at bytes true h there = (disk : List ℕ) × (there ≡ written at (length bytes) disk h) × (at ≤ length h.disk → disk ≡ overwritten at bytes h.disk)
 Wrote at bytes false h there = (there ≡ h) ⊎ ((disk : List ℕ) × (there ≡ written at (length bytes) disk h))
 
--- a cut to this length is pending too
+-- A cut to this length is pending too. One past the end may lengthen the disk.
 abbrev pub cut_pending : ℕ → Pending → Pending
-cut_pending size p = record p { least = min p.least size }
+cut_pending size p = record p { least = min p.least size; greatest = max p.greatest size }
 
 -- behind a cut that gave the disk this content, whole or in part
 abbrev pub truncated : (size : ℕ) → (disk : List ℕ) → History → History

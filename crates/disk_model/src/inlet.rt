@@ -1,5 +1,5 @@
 // The input of a guest, and a clock.
-ghost use Rattle.std.specs.Prelude.{◌≡◌, ◌≤◌, ℕ, Option, IsErr, IfOk, OnErr, length, take, drop};
+ghost use Rattle.std.specs.Prelude.{◌≡◌, ◌≤◌, ℕ, Option, IsErr, IfOk, OnErr, OnOk, length, take, drop};
 ghost use Rattle.disk_model.specs.Counts.{Rose};
 ghost use Rattle.disk_model.specs.Input.{Input, IfInput, Took, Gave, ReadClock};
 
@@ -25,6 +25,7 @@ pub trait Inlet {
         ensures taken { IfOk result (λ n. IfInput (Took (length buf.old) (take n buf.new)) (input self.old) (input self.new)) }
         ensures given { IfOk result (λ n. IfInput (Gave (take n buf.new)) (input self.old) (input self.new)) }
         ensures kept { OnErr result (input self.new ≡ input self.old) }
+        ensures none { OnOk result (input_faults self.new ≡ input_faults self.old) }
         ensures cause { IsErr result → Rose (input_faults self.old) (input_faults self.new) }
         ensures count { input_faults self.old ≤ input_faults self.new };
 

@@ -46,6 +46,7 @@ pub trait World {
     fn len(&mut self) -> Result<u64, Failed>
         ensures length { IfOk result (λ n. IsLength (known_disk (history self.old)) n) }
         ensures history { history self.new ≡ history self.old }
+        ensures none { OnOk result (disk_faults self.new ≡ disk_faults self.old) }
         ensures cause { IsErr result → Rose (disk_faults self.old) (disk_faults self.new) }
         ensures count { disk_faults self.old ≤ disk_faults self.new }
         ensures sink { sink_faults self.new ≡ sink_faults self.old };
@@ -56,6 +57,7 @@ pub trait World {
         ensures read { IfOk result (λ n. IsRead (known_disk (history self.old)) at buf.old buf.new n) }
         ensures within { IfOk result (λ n. n ≤ length buf.old) }
         ensures history { history self.new ≡ history self.old }
+        ensures none { OnOk result (disk_faults self.new ≡ disk_faults self.old) }
         ensures cause { IsErr result → Rose (disk_faults self.old) (disk_faults self.new) }
         ensures count { disk_faults self.old ≤ disk_faults self.new }
         ensures sink { sink_faults self.new ≡ sink_faults self.old };
@@ -66,6 +68,7 @@ pub trait World {
         ensures written { OnOk result (IsWritten (known_disk (history self.old)) at bytes.now
             (known_disk (history self.new))) }
         ensures history { IfKnown (Wrote at bytes.now (is_ok result)) (history self.old) (history self.new) }
+        ensures none { OnOk result (disk_faults self.new ≡ disk_faults self.old) }
         ensures cause { IsErr result → Rose (disk_faults self.old) (disk_faults self.new) }
         ensures count { disk_faults self.old ≤ disk_faults self.new }
         ensures sink { sink_faults self.new ≡ sink_faults self.old };
@@ -73,6 +76,7 @@ pub trait World {
     /// Cuts the disk to a length, in bytes. What is said of the content holds if `len` is at most the disk's length.
     fn cut(&mut self, len: u64) -> Result<(), Failed>
         ensures history { IfKnown (Truncated len (is_ok result)) (history self.old) (history self.new) }
+        ensures none { OnOk result (disk_faults self.new ≡ disk_faults self.old) }
         ensures cause { IsErr result → Rose (disk_faults self.old) (disk_faults self.new) }
         ensures count { disk_faults self.old ≤ disk_faults self.new }
         ensures sink { sink_faults self.new ≡ sink_faults self.old };
@@ -81,6 +85,7 @@ pub trait World {
     fn sync(&mut self) -> Result<(), Failed>
         ensures content { OnOk result (known_disk (history self.new) ≡ known_disk (history self.old)) }
         ensures history { IfKnown (Synced (is_ok result)) (history self.old) (history self.new) }
+        ensures none { OnOk result (disk_faults self.new ≡ disk_faults self.old) }
         ensures cause { IsErr result → Rose (disk_faults self.old) (disk_faults self.new) }
         ensures count { disk_faults self.old ≤ disk_faults self.new }
         ensures sink { sink_faults self.new ≡ sink_faults self.old };
@@ -94,6 +99,7 @@ pub trait World {
         ensures some { IfOk result (λ n. 0 < length bytes.now → 0 < n) }
         ensures within { IfOk result (λ n. n ≤ length bytes.now) }
         ensures history { IfKnown (Emitted to bytes.now result) (history self.old) (history self.new) }
+        ensures none { OnOk result (sink_faults self.new ≡ sink_faults self.old) }
         ensures cause { IsErr result → Rose (sink_faults self.old) (sink_faults self.new) }
         ensures count { sink_faults self.old ≤ sink_faults self.new }
         ensures disk { disk_faults self.new ≡ disk_faults self.old };

@@ -1,5 +1,5 @@
 // Standard input, and the system's clock.
-ghost use Rattle.std.specs.Prelude.{◌≡◌, ◌≤◌, ◌-◌, ◌^◌, ◌<◌, Ok, IfOk, IsErr, IsTrue, false, length, drop, min};
+ghost use Rattle.std.specs.Prelude.{◌≡◌, ◌≤◌, ◌-◌, ◌^◌, ◌<◌, Ok, IfOk, IsErr, IsTrue, OnOk, false, length, drop, min};
 ghost use Rattle.std.specs.Duration.{as_nanos};
 ghost use Rattle.disk_model.specs.Counts.{Rose};
 
@@ -61,6 +61,7 @@ impl<R: Read> Inlet for RealInlet<R> {
         ensures rest { IfOk result (λ n. drop n buf.new ≡ drop n buf.old) }
         ensures cause { IsErr result → Rose self.old.input_faults.faults self.new.input_faults.faults }
         ensures count { self.old.input_faults.faults ≤ self.new.input_faults.faults }
+        ensures none { OnOk result (self.new.input_faults.faults ≡ self.old.input_faults.faults) }
         ensures end { IfOk result (λ n. n ≡ 0 → 0 < length buf.old → IsTrue self.new.ended) }
         ensures ended { IsTrue self.old.ended → (result ≡ Ok 0) × (self.new ≡ self.old) }
     {

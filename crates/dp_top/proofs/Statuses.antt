@@ -21,7 +21,7 @@ use Rattle.recorder.specs.declared.record_fault.RecordFault.TheVariants as fault
 use Rattle.recorder.specs.Moments.{EachMoment}
 use Rattle.recorder.specs.Recording.{IsInUse, MayFollow, Recorded}
 use Rattle.recorder.proofs.Drawings.{has_drawn, input-same, none_drawn}
-use Rattle.recorder.proofs.Moments.{nothing_left}
+use Rattle.recorder.proofs.Moments.{nothing_left, nothing_synced}
 use Rattle.recorder.proofs.Rounds.{no_round}
 use Rattle.recorder.specs.Drawing.{HasDrawn}
 use Rattle.supply.specs.Supplied.{empty}
@@ -51,7 +51,7 @@ not_attached guest start options i j before after first kept same = (
   no_round options start (omega (arith, first)),
   inl refl,
   inl (input-same (HasDrawn [] []) i j kept (λ s. has_drawn (empty MAX_ROOM) 0 [] [] s s (none_drawn s))),
-  known-same _ _ _ same (λ s. record { sent = sym (append-nil s.sent); noted = refl; on_disk = inl refl; untouched = inr refl; left = λ empty_ synced. nothing_left guest (MayFollow (no_round options start (omega (arith, first)))) s empty_ synced }),
+  known-same _ _ _ same (λ s. record { sent = sym (append-nil s.sent); noted = refl; on_disk = inl (refl, nothing_synced s); untouched = inr refl; left = λ empty_ synced. nothing_left guest (MayFollow (no_round options start (omega (arith, first)))) s empty_ synced }),
 )
 
 -- the guest that was fetched was recorded

@@ -1,15 +1,16 @@
 -- What the writes of a begin leave on the disk, at every moment and behind them.
-use Rattle.std.proofs.Common.{◌≡◌, ◌≢◌, ◌⊎◌, inl, inr, ℕ, ◌+◌, ◌≤◌, Bool, true, false, List, [], ◌∷◌, ◌++◌, length, drop, get_or, Option, Some, None, refl, sym, ◌∙◌, ap, subst, arith, length-append}
+use Rattle.std.proofs.Common.{◌≡◌, ◌≢◌, ◌⊎◌, inl, inr, ℕ, zero, suc, ◌+◌, ◌≤◌, Bool, true, false, List, [], ◌∷◌, ◌++◌, length, drop, get_or, Option, Some, None, refl, sym, ◌∙◌, ap, subst, arith, length-append}
 use Rattle.dp_base.specs.declared.limits.TheConstants.{MAX_JOURNAL_BYTES}
 use Rattle.dp_base.specs.Field.{AreBytes}
 use Rattle.dp_base.specs.Journal.{IsGuest, open_gate, closed_gate, header, header_body}
-use Rattle.dp_base.proofs.Sizes.{length-header}
+use Rattle.dp_base.proofs.Fields.{AreBytes-append, AreBytes-right}
+use Rattle.dp_base.proofs.Sizes.{AreBytes-header, length-header}
 use Rattle.disk_model.specs.History.{History, IsImage, IsSynced, Pending, nothing_pending, write_pending}
 use Rattle.disk_model.specs.Known.{IfKnown, IsLength, known_disk, overwritten}
 use Rattle.disk_model.proofs.Images.{image-one-byte, image-past-end, overwritten-end}
 use Rattle.disk_model.proofs.Moments.{always-start, always-then, always-weaker}
 use Rattle.device.specs.Writing.{IsTorn, IsWrittenThrough, SentNothing}
-use Rattle.epoch_journal.specs.Beginning.{BeginMoments}
+use Rattle.epoch_journal.specs.Beginning.{BeginMoments, LeftNone}
 use Rattle.epoch_journal.specs.Images.{IsBeginning, Reads}
 use Rattle.epoch_journal.specs.Standing.{Stands}
 use Rattle.epoch_journal.proofs.AtRest.{empty-reads}
@@ -81,27 +82,43 @@ module _ (guest written : List ℕ) (at : ℕ) (bytes : List ℕ) (s t u : Histo
       always-then P s t u (part.moments is-guest synced empty)
       (always-weaker (IsTorn at (length bytes) t) P t u torn (w.moments before (omega (arith, within, ap (λ (l : List ℕ). length l) part.disk))))
 
+  -- a write that fails leaves what the last sync had left
+  left_none : ok ≡ false → (IsGuest guest → reads written ≡ None) → LeftNone guest s u
+  left_none failed none is-guest synced empty = ap reads (w.kept failed ∙ ap (λ (p : Pending). p.synced) (part.synced synced) ∙ part.disk) ∙ none is-guest
+
   part_on : (now_ : List ℕ) → u.disk ≡ now_ → IsSynced u → BeginMoments guest s u → IsPart guest now_ s u
   part_on now_ is synced moments = record { empty = part.empty; disk = is; synced = λ old. synced; streams = then_nothing s t u part.streams w.streams; moments = moments }
 
 -- ---- the three writes
 
 abbrev pub IsNotBegun : List ℕ → History → History → Type 0
-IsNotBegun guest s t = SentNothing s t × ((s.disk ≡ []) ⊎ (t ≡ s)) × BeginMoments guest s t
+IsNotBegun guest s t = SentNothing s t × ((s.disk ≡ []) ⊎ (t ≡ s)) × BeginMoments guest s t × LeftNone guest s t
 
 abbrev pub IsBegun : List ℕ → History → History → Type 0
 IsBegun guest s t = (s.disk ≡ []) × Stands guest [] t × SentNothing s t × BeginMoments guest s t
 
+no-bytes : AreBytes []
+no-bytes i = omega arith
+
+gate-is-byte : AreBytes (closed_gate ∷ [])
+gate-is-byte zero = omega arith
+gate-is-byte (suc i) = omega arith
+
 -- the disk's length isn't known
 pub not_looked : (guest : List ℕ) (s : History) → IsNotBegun guest s s
-not_looked guest s = (nothing_sent s, inr refl, nothing-begun guest s)
+not_looked guest s = (
+  nothing_sent s,
+  inr refl,
+  nothing-begun guest s,
+  λ is-guest synced empty. ap reads (ap (λ (p : Pending). p.synced) synced ∙ empty) ∙ no-journal-in-a-byte [] no-bytes (omega arith),
+)
 
 module _ (guest : List ℕ) where
   first-moments : (ok : Bool) (s t u : History) → IsPart guest [] s t → IsWrittenThrough 0 (closed_gate ∷ []) ok t u → BeginMoments guest s u
   first-moments ok s t u part w = moments_on guest [] 0 (closed_gate ∷ []) s t u part ok w (omega arith) (λ is-guest. torn-first guest)
 
   pub first_not_put : (s t u : History) → IsPart guest [] s t → IsWrittenThrough 0 (closed_gate ∷ []) false t u → IsNotBegun guest s u
-  first_not_put s t u part w = (then_nothing s t u part.streams w.streams, inl part.empty, first-moments false s t u part w)
+  first_not_put s t u part w = (then_nothing s t u part.streams w.streams, inl part.empty, first-moments false s t u part w, left_none guest [] 0 (closed_gate ∷ []) s t u part false w refl (λ is-guest. no-journal-in-a-byte [] no-bytes (omega arith)))
 
   pub first_put : (s t u : History) → IsPart guest [] s t → IsWrittenThrough 0 (closed_gate ∷ []) true t u → IsPart guest (closed_gate ∷ []) s u
   first_put s t u part w = part_on guest [] 0 (closed_gate ∷ []) s t u part true w (closed_gate ∷ [])
@@ -116,7 +133,7 @@ module _ (guest : List ℕ) where
         moments_on guest (closed_gate ∷ []) 1 header_ s t u part ok w (omega arith) (λ is-guest image. torn-header guest (length header_) image (omega (arith, size, few)))
 
     pub second_not_put : (s t u : History) → IsPart guest (closed_gate ∷ []) s t → IsWrittenThrough 1 header_ false t u → IsNotBegun guest s u
-    second_not_put s t u part w = (then_nothing s t u part.streams w.streams, inl part.empty, second-moments false s t u part w)
+    second_not_put s t u part w = (then_nothing s t u part.streams w.streams, inl part.empty, second-moments false s t u part w, left_none guest (closed_gate ∷ []) 1 header_ s t u part false w refl (λ is-guest. no-journal-in-a-byte (closed_gate ∷ []) gate-is-byte (omega arith)))
 
     pub second_put : (s t u : History) → IsPart guest (closed_gate ∷ []) s t → IsWrittenThrough 1 header_ true t u → IsPart guest (closed_gate ∷ header_) s u
     second_put s t u part w =
@@ -127,13 +144,18 @@ module _ (guest : List ℕ) where
     fits : length (journal_of guest []) ≤ MAX_JOURNAL_BYTES
     fits = omega (arith, few, size, ap (λ (l : List ℕ). length l) header-is)
 
+    closed-bytes : IsGuest guest → AreBytes (closed_gate ∷ header_)
+    closed-bytes is-guest = subst (λ (l : List ℕ). AreBytes (closed_gate ∷ l)) (sym header-is)
+        (AreBytes-append (closed_gate ∷ []) (header_body guest ++ closed_gate ∷ []) gate-is-byte
+        (AreBytes-append (header_body guest) (closed_gate ∷ []) (AreBytes-right (open_gate ∷ []) (header_body guest) (AreBytes-header guest is-guest)) gate-is-byte))
+
     third-moments : (ok : Bool) (s t u : History) → IsPart guest (closed_gate ∷ header_) s t → IsWrittenThrough 0 (open_gate ∷ []) ok t u → BeginMoments guest s u
     third-moments ok s t u part w =
         moments_on guest (closed_gate ∷ header_) 0 (open_gate ∷ []) s t u part ok w (omega arith)
         (λ is-guest image is. torn-gate guest image is-guest fits (subst (λ (l : List ℕ). IsImage (write_pending 0 1 (nothing_pending (closed_gate ∷ l))) image) header-is is))
 
     pub third_not_put : (s t u : History) → IsPart guest (closed_gate ∷ header_) s t → IsWrittenThrough 0 (open_gate ∷ []) false t u → IsNotBegun guest s u
-    third_not_put s t u part w = (then_nothing s t u part.streams w.streams, inl part.empty, third-moments false s t u part w)
+    third_not_put s t u part w = (then_nothing s t u part.streams w.streams, inl part.empty, third-moments false s t u part w, left_none guest (closed_gate ∷ header_) 0 (open_gate ∷ []) s t u part false w refl (λ is-guest. no-journal-behind-gate closed_gate header_ (λ e. absurd cc) (closed-bytes is-guest) (omega (arith, size, few))))
 
     pub begun : (s t u : History) → IsPart guest (closed_gate ∷ header_) s t → IsWrittenThrough 0 (open_gate ∷ []) true t u → IsBegun guest s u
     begun s t u part w =

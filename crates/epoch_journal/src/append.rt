@@ -1,5 +1,5 @@
 // A record is appended to a journal.
-ghost use Rattle.std.specs.Prelude.{◌≡◌, ◌<◌, ◌≤◌, IsErr, IsErrOf, is_ok, length};
+ghost use Rattle.std.specs.Prelude.{◌≡◌, ◌<◌, ◌≤◌, IsErr, IsErrOf, OnOk, is_ok, length};
 ghost use Rattle.dp_base.specs.declared.limits.TheConstants.{MAX_JOURNAL_BYTES};
 ghost use Rattle.disk_model.specs.Counts.{Rose};
 ghost use Rattle.disk_model.specs.Known.{IfKnown};
@@ -36,6 +36,7 @@ impl Journal {
         ensures untouched { MakesNoCall result → world.new ≡ world.old }
         ensures cause { IsErrOf result AppendFault.DiskFault →
             Rose (W.disk_faults world.old) (W.disk_faults world.new) }
+        ensures none { OnOk result (W.disk_faults world.new ≡ W.disk_faults world.old) }
         ensures count { W.disk_faults world.old ≤ W.disk_faults world.new }
         ensures sink { W.sink_faults world.new ≡ W.sink_faults world.old }
     {
@@ -66,6 +67,7 @@ fn write_record<W: World>(world: &mut W, end: u64, frame: &[u8]) -> Result<(), F
     requires { 0 < end }
     ensures history { IfKnown (FrameWritten end frame.now (is_ok result)) (W.history world.old) (W.history world.new) }
     ensures cause { IsErr result → Rose (W.disk_faults world.old) (W.disk_faults world.new) }
+    ensures none { OnOk result (W.disk_faults world.new ≡ W.disk_faults world.old) }
     ensures count { W.disk_faults world.old ≤ W.disk_faults world.new }
     ensures sink { W.sink_faults world.new ≡ W.sink_faults world.old }
 {

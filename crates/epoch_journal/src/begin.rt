@@ -2,7 +2,7 @@
 ghost use Rattle.std.specs.Prelude.{◌≡◌, ◌<◌, ◌≤◌, ◌^◌, IsErrOf, length};
 ghost use Rattle.disk_model.specs.Counts.{Rose};
 ghost use Rattle.disk_model.specs.Known.{IfKnown};
-ghost use Rattle.epoch_journal.specs.Beginning.{Begun, HasBegun};
+ghost use Rattle.epoch_journal.specs.Beginning.{Begun, HasBegun, MetNoFault};
 ghost use Rattle.epoch_journal.specs.declared.begin.BeginFault.TheVariants as begins;
 
 use crate::journal::Journal;
@@ -55,6 +55,7 @@ impl Journal {
         requires room { room ≤ 2 ^ 30 }
         ensures history { IfKnown (Begun guest.now result) (W.history world.old) (W.history world.new) }
         ensures numbers { HasBegun (length guest.now) room result }
+        ensures none { MetNoFault result (W.disk_faults world.old) (W.disk_faults world.new) }
         ensures cause { IsErrOf result BeginFault.DiskFault →
             Rose (W.disk_faults world.old) (W.disk_faults world.new) }
         ensures count { W.disk_faults world.old ≤ W.disk_faults world.new }

@@ -8,7 +8,7 @@ pub struct Bounds {
     pub steps: u32,
     /// How many steps each of its slices may have, at least 1.
     pub slice: u32,
-    /// It begins with the lowest thread that runs from this number on, or else with the lowest of all.
+    /// It begins with the lowest thread that can step from this number on, or else with the lowest of all that can.
     pub first: u16,
     ghost few_steps: { steps ≤ MAX_EPOCH_STEPS },
     ghost some_slice: { 0 < slice },

@@ -1,5 +1,5 @@
 -- What rounds have drawn from an input so far, and that the answers that were taken are honest of it.
-use Rattle.std.proofs.Common.{◌≡◌, ◌⊎◌, inl, inr, ◌+◌, ◌-◌, ◌<◌, ◌≤◌, ℕ, zero, suc, Bool, true, false, List, [], ◌∷◌, ◌++◌, length, take, drop, Option, Some, None, refl, sym, ap, subst, ◌∙◌, append_assoc, arith}
+use Rattle.std.proofs.Common.{◌≡◌, ◌⊎◌, inl, inr, ◌+◌, ◌-◌, ◌^◌, ◌<◌, ◌≤◌, min, ℕ, zero, suc, Bool, true, false, List, [], ◌∷◌, ◌++◌, length, take, drop, Option, Some, None, refl, sym, ap, subst, ◌∙◌, append_assoc, arith}
 use Rattle.std.specs.Prelude.{◌&&◌, ◌||◌, ◌↔◌, nat_lt, slice_get}
 use Rattle.std.specs.List.{AllByRecursion, concat}
 use Rattle.std.proofs.lemmas.Bool.{cases_lt, eqb-true, or_right}
@@ -13,7 +13,7 @@ use Rattle.guest_kernel.specs.Answers.{bytes_read, clock_readings}
 use Rattle.supply.specs.Supplied.{IsLastOf, Supplied, empty, refilled}
 use Rattle.supply.specs.Windows.{behind_takes, bytes_left, windows}
 use Rattle.supply.specs.declared.TheConstants.{MAX_ROOM}
-use Rattle.recorder.specs.Drawing.{AreFound, Draw, Drew, DrewAll, HasDrawn, TookIf, supply_of}
+use Rattle.recorder.specs.Drawing.{AreFound, Draw, Drew, DrewAll, HasDrawn, TookIf, readings_since, supply_of}
 
 -- ---- inputs that may be known or not
 
@@ -130,7 +130,8 @@ pub record IsDrawn (w : Supplied) (place : ℕ) (draws : List Draw) (answers : L
   pub read : bytes_read answers ≡ take place given
   pub ended : w.ended ≡ true → (j.ended ≡ true) × (is_at_end j.left ≡ true)
   pub empties : (before after : List Answer) → answers ≡ before ++ Read [] ∷ after → (bytes_read before ≡ given) × (w.ended ≡ true)
-  pub clocks : AreFound (clock_readings answers) j.readings
+  pub kept : length i.readings ≤ length j.readings
+  pub clocks : AreFound (clock_readings answers) (readings_since i j)
 
 pub none_drawn : (i : Input) → IsDrawn (empty MAX_ROOM) 0 [] [] i i
 none_drawn i = record {
@@ -143,6 +144,7 @@ none_drawn i = record {
   read = refl;
   ended = λ never. absurd cc;
   empties = λ before after is. absurd (no_item before after is);
+  kept = omega arith;
   clocks = tt;
 }
   where
@@ -174,11 +176,26 @@ record IsTaken (w : Supplied) (place : ℕ) (answers : List Answer) (i j mid : I
   empties : (before after : List Answer) → answers ≡ before ++ Read [] ∷ after → (bytes_read before ≡ given) × (now.ended ≡ true)
   readings_are : mid.readings ≡ j.readings
 
-noted-found : (values : List ℕ) (reading : ℕ) (before after : List ℕ) → IsNoted reading before after → AreFound values before → AreFound values after × IsLast reading after
-noted-found values reading before after (inl more) found =
-    (subst (AreFound values) (sym more) (found-more values before (reading ∷ []) found), (before, more))
-noted-found values reading before after (inr same) found =
-    (subst (AreFound values) (sym same.0) found, subst (IsLast reading) (sym same.0) same.1)
+-- past a place before the last of them readings still end with it
+last-past : (reading first : ℕ) (readings : List ℕ) → IsLast reading readings → first < length readings → IsLast reading (drop first readings)
+last-past reading first readings last inside =
+    let front : List ℕ = last.0 in
+    let within : first ≤ length front = omega (arith, inside, ap (λ (l : List ℕ). length l) last.1, length-append front (reading ∷ [])) in
+    (drop first front, ap (drop first) last.1 ∙ drop-append-le first front (reading ∷ []) within)
+
+noted-found : (values : List ℕ) (reading first : ℕ) (before after : List ℕ) → first ≤ length before → first ≤ 2 ^ 64 - 2 → IsNoted reading before after → AreFound values (drop first before)
+    → AreFound values (drop first after) × IsLast reading (drop first after) × (length before ≤ length after)
+noted-found values reading first before after within low (inl more) found =
+    let there : drop first after ≡ drop first before ++ reading ∷ [] = ap (drop first) more ∙ drop-append-le first before (reading ∷ []) within in (
+      subst (AreFound values) (sym there) (found-more values (drop first before) (reading ∷ []) found),
+      (drop first before, there),
+      omega (arith, ap (λ (l : List ℕ). length l) more, length-append before (reading ∷ [])),
+    )
+noted-found values reading first before after within low (inr same) found = (
+  subst (λ (l : List ℕ). AreFound values (drop first l)) (sym same.0) found,
+  subst (λ (l : List ℕ). IsLast reading (drop first l)) (sym same.0) (last-past reading first before same.1 (omega (arith, low, same.2))),
+  omega (arith, ap (λ (l : List ℕ). length l) same.0),
+)
 
 module _ (laws : TakeLaws) where
   took_more : (w : Supplied) (place : ℕ) (draws : List Draw) (answers : List Answer) (due : Bool) (bytes : List ℕ) (i j mid : Input)
@@ -222,7 +239,7 @@ module _ (laws : TakeLaws) where
 
   pub drawn_more : (w : Supplied) (place : ℕ) (draws : List Draw) (answers : List Answer) (d : Draw) (i j k : Input)
       → IsDrawn w place draws answers i j → (d.due ≡ true → w.ended ≡ false) → Drew d j k
-      → IsDrawn (supply_of w d) place (draws ++ d ∷ []) answers i k × IsLast d.reading k.readings
+      → IsDrawn (supply_of w d) place (draws ++ d ∷ []) answers i k × IsLast d.reading (readings_since i k)
   drawn_more w place draws answers d i j k so_far going step =
       let mid : Input = step.0 in
       let t = took_more w place draws answers d.due d.taken i j mid so_far going step.1 in
@@ -230,8 +247,10 @@ module _ (laws : TakeLaws) where
       let m = t.1 in
       let readings : List ℕ = step.2.0 in
       let there : k ≡ record mid { readings = readings } = step.2.2 in
-      let found : AreFound (clock_readings answers) mid.readings = subst (AreFound (clock_readings answers)) (sym m.readings_are) so_far.clocks in
-      let noted = noted-found (clock_readings answers) d.reading mid.readings readings step.2.1 found in
+      let first : ℕ = min (length i.readings) (2 ^ 64 - 2) in
+      let found : AreFound (clock_readings answers) (drop first mid.readings) = subst (λ (l : List ℕ). AreFound (clock_readings answers) (drop first l)) (sym m.readings_are) so_far.clocks in
+      let long : length i.readings ≤ length mid.readings = omega (arith, so_far.kept, ap (λ (l : List ℕ). length l) m.readings_are) in
+      let noted = noted-found (clock_readings answers) d.reading first mid.readings readings (omega (arith, long)) (omega arith) step.2.1 found in
       let back : record mid { readings = readings } ≡ k = sym there in (
         record {
           drew = drew-push draws d i j k so_far.drew step;
@@ -243,9 +262,10 @@ module _ (laws : TakeLaws) where
           read = m.read;
           ended = λ e. let both = m.ended e in (ap (λ (x : Input). x.ended) there ∙ both.0, ap (λ (x : Input). is_at_end x.left) there ∙ both.1);
           empties = m.empties;
-          clocks = subst (λ (x : Input). AreFound (clock_readings answers) x.readings) back noted.0;
+          kept = omega (arith, long, noted.2, ap (λ (x : Input). length x.readings) there);
+          clocks = subst (λ (x : Input). AreFound (clock_readings answers) (readings_since i x)) back noted.0;
         },
-        subst (λ (x : Input). IsLast d.reading x.readings) back noted.1,
+        subst (λ (x : Input). IsLast d.reading (readings_since i x)) back noted.1,
       )
 
 -- ---- an epoch takes answers
@@ -261,7 +281,7 @@ prefix_whole xs ys given n is size =
         absurd (omega (arith, whole, length-append xs ys, length-take-le n given (omega (arith, few, size)), few))
 
 pub taken_more : (w : Supplied) (place behind : ℕ) (draws : List Draw) (answers more : List Answer) (i k : Input) → IsDrawn w place draws answers i k → w.place ≤ place
-    → IsSuppliedBy w place behind more → IsLast w.stamp k.readings → IsDrawn w behind draws (answers ++ more) i k
+    → IsSuppliedBy w place behind more → IsLast w.stamp (readings_since i k) → IsDrawn w behind draws (answers ++ more) i k
 taken_more w place behind draws answers more i k so_far early supplied last = record {
   drew = so_far.drew;
   given = so_far.given;
@@ -272,7 +292,8 @@ taken_more w place behind draws answers more i k so_far early supplied last = re
   read = all_read;
   ended = so_far.ended;
   empties = λ before after is. by_side before after is (split-item answers more before after (Read []) is);
-  clocks = subst (λ (l : List ℕ). AreFound l k.readings) (sym (clock_readings-append answers more)) (found-append w.stamp (clock_readings answers) (clock_readings more) k.readings so_far.clocks last supplied.clocks);
+  kept = so_far.kept;
+  clocks = subst (λ (l : List ℕ). AreFound l (readings_since i k)) (sym (clock_readings-append answers more)) (found-append w.stamp (clock_readings answers) (clock_readings more) (readings_since i k) so_far.clocks last supplied.clocks);
 }
   where
     given : List ℕ

@@ -9,7 +9,7 @@ use Rattle.dp_base.specs.Encoding.{IsPrefixOf}
 use Rattle.dp_base.specs.Journal.{Epoch}
 use Rattle.device.specs.Sending.{IsSending}
 use Rattle.disk_model.specs.declared.world.Stream.TheVariants.{Note}
-use Rattle.disk_model.specs.History.{History, IsImage, IsSynced, now, nothing_pending}
+use Rattle.disk_model.specs.History.{History, IsImage, IsSynced, Pending, now, nothing_pending}
 use Rattle.disk_model.specs.Input.{IfInput, Input}
 use Rattle.disk_model.specs.Known.{IfKnown}
 use Rattle.disk_model.specs.Moments.{Always, Then}
@@ -26,7 +26,7 @@ use Rattle.journal_text.specs.Records.{IsRecord, Record, epoch}
 use Rattle.recorder.specs.declared.options.Options.{Options}
 use Rattle.supply.specs.Supplied.{Supplied}
 use Rattle.recorder.specs.Committing.{IsCommitting}
-use Rattle.recorder.specs.Drawing.{AreFound, IsHonestSince, Round, answers_of, epochs_of, supply_of}
+use Rattle.recorder.specs.Drawing.{AreFound, IsHonestSince, Round, answers_of, epochs_of, readings_since, supply_of}
 use Rattle.recorder.specs.Moments.{EachMoment, HoldsAt, IsRecording, answers_in}
 use Rattle.recorder.specs.Recording.{EachIsNext, IsLeft, first_behind, records_of}
 use Rattle.recorder.proofs.Drawings.{bytes_read-append, clock_readings-append, input-map}
@@ -56,7 +56,7 @@ honest-left xs ys i j honest =
       record {
         reads = (bytes_read ys ++ rest, is.reads.1 ∙ ap (λ (l : List ℕ). l ++ rest) (bytes_read-append xs ys) ∙ append_assoc (bytes_read xs) (bytes_read ys) rest);
         ends = λ before after e. is.ends before (after ++ ys) (ap (λ (l : List Answer). l ++ ys) e ∙ append_assoc before (Read [] ∷ after) ys);
-        clocks = found-left (clock_readings xs) (clock_readings ys) j.readings (subst (λ (l : List ℕ). AreFound l j.readings) (clock_readings-append xs ys) is.clocks);
+        clocks = found-left (clock_readings xs) (clock_readings ys) (readings_since i j) (subst (λ (l : List ℕ). AreFound l (readings_since i j)) (clock_readings-append xs ys) is.clocks);
       },
     )
 
@@ -211,6 +211,10 @@ module _ (guest : List ℕ) (start : State) where
 
 pub nothing_left : (guest : List ℕ) (Follows : Epoch → Type 0) (s : History) → s.disk ≡ [] → IsSynced s → Then (λ image sent. IsLeft guest [] Follows image) (now s)
 nothing_left guest Follows s empty synced image sent may = inl (refl, blank_reads s empty synced image may.on_disk)
+
+-- nor has the last sync left one there
+pub nothing_synced : (s : History) → s.disk ≡ [] → IsSynced s → reads s.pending.synced ≡ None
+nothing_synced s empty synced = ap reads (ap (λ (p : Pending). p.synced) synced ∙ empty) ∙ reads_nothing
 
 -- ---- a line on Note
 

@@ -17,7 +17,7 @@ use Rattle.epoch_runner.specs.Supplying.{IsSuppliedBy}
 use Rattle.disk_model.specs.Input.{IfInput, Input, IsLast}
 use Rattle.supply.specs.Supplied.{IsSupply, Supplied, empty, end_of, refilled}
 use Rattle.supply.specs.declared.TheConstants.{MAX_ROOM}
-use Rattle.recorder.specs.Drawing.{Draw, Drew, HasDrawn, IsHonestSince, Round, answers_of, draws_of, epochs_of, supply_behind, supply_of}
+use Rattle.recorder.specs.Drawing.{Draw, Drew, HasDrawn, IsHonestSince, Round, answers_of, draws_of, epochs_of, readings_since, supply_behind, supply_of}
 use Rattle.recorder.proofs.Drawings.{IsDrawn, TakeLaws, drawn_more, has_drawn, input-map, input-same, input-then, none_drawn, taken_more}
 use Rattle.disk_model.specs.History.{History, IsSynced}
 use Rattle.disk_model.specs.Moments.{Always}
@@ -252,7 +252,7 @@ module _ (guest : List ℕ) (guest_is : IsGuest guest) (options : Options) (star
     no_round options start few,
     inl refl,
     inl (input-same (HasDrawn [] []) i i refl (λ s. has_drawn (empty MAX_ROOM) 0 [] [] s s (none_drawn s))),
-    known-map _ _ _ _ (λ s t b. record { sent = b.0.sent ∙ sym (append-nil s.sent); noted = b.0.noted; on_disk = inl refl; untouched = b.1; left = λ empty_ synced. begin_left guest start (MayFollow (no_round options start few)) s t (b.2 guest_is synced empty_) }) begun,
+    known-map _ _ _ _ (λ s t b. record { sent = b.0.sent ∙ sym (append-nil s.sent); noted = b.0.noted; on_disk = inl (refl, λ empty_ synced. b.3 guest_is synced empty_); untouched = b.1; left = λ empty_ synced. begin_left guest start (MayFollow (no_round options start few)) s t (b.2 guest_is synced empty_) }) begun,
   )
   begin_failed now (begins.Full end need) few numbers begun = inl (numbers.0, numbers.1, numbers.2, refl, begun)
   begin_failed now begins.OutOfMemory few numbers begun = inl (refl, begun)
@@ -385,14 +385,14 @@ module _ (guest : List ℕ) (guest_is : IsGuest guest) (options : Options) (star
       placed_still = subst (λ (x : Supplied). (x.place ≤ state.input) × (state.input ≤ end_of x)) (sym round.is)
           (still_placed w state.input round.draw.due round.draw.taken round.draw.reading so_far.placed so_far.inside (λ e. (round.used e).0))
 
-      with_round : IfInput (λ (s t : Input). IsDrawn (supply_of w round.draw) state.input (draws_of so_far.done ++ round.draw ∷ []) (answers_of so_far.done) s t × IsLast round.draw.reading t.readings) i later
+      with_round : IfInput (λ (s t : Input). IsDrawn (supply_of w round.draw) state.input (draws_of so_far.done ++ round.draw ∷ []) (answers_of so_far.done) s t × IsLast round.draw.reading (readings_since s t)) i later
       with_round = input-then (IsDrawn w state.input (draws_of so_far.done) (answers_of so_far.done)) (Drew round.draw)
-          (λ (s t : Input). IsDrawn (supply_of w round.draw) state.input (draws_of so_far.done ++ round.draw ∷ []) (answers_of so_far.done) s t × IsLast round.draw.reading t.readings) i there later
+          (λ (s t : Input). IsDrawn (supply_of w round.draw) state.input (draws_of so_far.done ++ round.draw ∷ []) (answers_of so_far.done) s t × IsLast round.draw.reading (readings_since s t)) i there later
           (λ s t u a b. drawn_more laws w state.input (draws_of so_far.done) (answers_of so_far.done) round.draw s t u a (λ e. (round.used e).1) b)
           so_far.drawn round.drew
 
       drawn_round : IfInput (HasDrawn (draws_of so_far.done ++ round.draw ∷ []) (answers_of so_far.done)) i later
-      drawn_round = input-map (λ (s t : Input). IsDrawn (supply_of w round.draw) state.input (draws_of so_far.done ++ round.draw ∷ []) (answers_of so_far.done) s t × IsLast round.draw.reading t.readings)
+      drawn_round = input-map (λ (s t : Input). IsDrawn (supply_of w round.draw) state.input (draws_of so_far.done ++ round.draw ∷ []) (answers_of so_far.done) s t × IsLast round.draw.reading (readings_since s t))
           (HasDrawn (draws_of so_far.done ++ round.draw ∷ []) (answers_of so_far.done)) i later
           (λ s t a. has_drawn (supply_of w round.draw) state.input (draws_of so_far.done ++ round.draw ∷ []) (answers_of so_far.done) s t a.0)
           with_round
@@ -433,11 +433,11 @@ module _ (guest : List ℕ) (guest_is : IsGuest guest) (options : Options) (star
         size_more = ap (λ (l : List Record). length (journal_of guest l)) (records-push (epochs_of so_far.done) e) ∙ length-journal-push guest (records_of (epochs_of so_far.done)) (epoch e)
 
         drawn_epoch : IfInput (IsDrawn with_ end.input (draws_of so_far.done ++ round.draw ∷ []) (answers_of so_far.done ++ e.answers)) i later
-        drawn_epoch = input-map (λ (s t : Input). IsDrawn (supply_of w round.draw) state.input (draws_of so_far.done ++ round.draw ∷ []) (answers_of so_far.done) s t × IsLast round.draw.reading t.readings)
+        drawn_epoch = input-map (λ (s t : Input). IsDrawn (supply_of w round.draw) state.input (draws_of so_far.done ++ round.draw ∷ []) (answers_of so_far.done) s t × IsLast round.draw.reading (readings_since s t))
             (IsDrawn with_ end.input (draws_of so_far.done ++ round.draw ∷ []) (answers_of so_far.done ++ e.answers)) i later
             (λ s t a.
             let drawn = subst (λ (x : Supplied). IsDrawn x state.input (draws_of so_far.done ++ round.draw ∷ []) (answers_of so_far.done) s t) (sym round.is) a.0 in
-            let last : IsLast with_.stamp t.readings = subst (λ (n : ℕ). IsLast n t.readings) (sym (ap (λ (x : Supplied). x.stamp) round.is)) a.1 in
+            let last : IsLast with_.stamp (readings_since s t) = subst (λ (n : ℕ). IsLast n (readings_since s t)) (sym (ap (λ (x : Supplied). x.stamp) round.is)) a.1 in
             taken_more with_ state.input end.input (draws_of so_far.done ++ round.draw ∷ []) (answers_of so_far.done) e.answers s t drawn placed_still.0 supplied last)
             with_round
 

@@ -48,3 +48,11 @@ HasCommitted j size after (Err commits.OutputFault) = HasAppended j size after (
 HasCommitted j size after (Err (commits.Full end need)) = HasAppended j size after (Err (appends.Full end need))
 HasCommitted j size after (Err (commits.Failed last)) = HasAppended j size after (Err (appends.Failed last))
 HasCommitted j size after (Err commits.DiskFault) = HasAppended j size after (Err appends.DiskFault)
+
+-- No device has met a fault but the one that the answer names: the counts of the disk's faults and of the sink's, before and after.
+abbrev pub MetNoOther : Result (Unit {0}) CommitFault → (disk disk_after sink sink_after : ℕ) → Type 0
+MetNoOther (Ok done) disk disk_after sink sink_after = (disk_after ≡ disk) × (sink_after ≡ sink)
+MetNoOther (Err commits.OutputFault) disk disk_after sink sink_after = disk_after ≡ disk
+MetNoOther (Err (commits.Full end need)) disk disk_after sink sink_after = (disk_after ≡ disk) × (sink_after ≡ sink)
+MetNoOther (Err (commits.Failed last)) disk disk_after sink sink_after = (disk_after ≡ disk) × (sink_after ≡ sink)
+MetNoOther (Err commits.DiskFault) disk disk_after sink sink_after = sink_after ≡ sink

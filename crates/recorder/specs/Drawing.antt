@@ -1,5 +1,5 @@
 -- What the rounds of a recording draw from its input, and which answers are honest of one. This project's own.
-use Rattle.std.specs.Prelude.{◌≡◌, ℕ, Bool, true, false, List, [], ◌∷◌, ◌++◌, map, slice_get, drop, Some, ⊤, if◌then◌else◌}
+use Rattle.std.specs.Prelude.{◌≡◌, ℕ, ◌-◌, ◌^◌, min, Bool, true, false, List, [], ◌∷◌, ◌++◌, length, map, slice_get, drop, Some, ⊤, if◌then◌else◌}
 use Rattle.dp_base.specs.Encoding.{IsPrefixOf}
 use Rattle.dp_base.specs.declared.answer.Answer.{Answer}
 use Rattle.dp_base.specs.declared.answer.Answer.TheVariants.{Read}
@@ -72,9 +72,13 @@ pub record IsHonest (answers : List Answer) (given : List ℕ) (ended : Bool) (r
   pub ends : (before after : List Answer) → answers ≡ before ++ Read [] ∷ after → (bytes_read before ≡ given) × (ended ≡ true)
   pub clocks : AreFound (clock_readings answers) readings
 
+-- The readings of a clock from one moment to another. Where no more can be counted this has the last.
+abbrev pub readings_since : Input → Input → List ℕ
+readings_since i there = drop (min (length i.readings) (2 ^ 64 - 2)) there.readings
+
 -- by what an input gave from one moment to another
 abbrev pub IsHonestSince : List Answer → Input → Input → Type 0
-IsHonestSince answers i there = (given : List ℕ) × (there.given ≡ i.given ++ given) × IsHonest answers given there.ended there.readings
+IsHonestSince answers i there = (given : List ℕ) × (there.given ≡ i.given ++ given) × IsHonest answers given there.ended (readings_since i there)
 
 -- rounds drew so much, and the answers that were taken are honest
 abbrev pub HasDrawn : List Draw → List Answer → Input → Input → Type 0

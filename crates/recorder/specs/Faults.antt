@@ -1,4 +1,6 @@
--- A fault of a recording, by that of its step. This project's own.
+-- A fault of a recording, by that of its step; and which faults were met. This project's own.
+use Rattle.std.specs.Prelude.{◌≡◌, ℕ, Result, Ok, Err}
+use Rattle.dp_report.specs.declared.report.Report.{Report}
 use Rattle.epoch_journal.specs.declared.begin.BeginFault.{BeginFault}
 use Rattle.epoch_journal.specs.declared.begin.BeginFault.TheVariants as begins
 use Rattle.recorder.specs.declared.commit.CommitFault.{CommitFault}
@@ -17,3 +19,19 @@ of_commit commits.DiskFault = faults.DiskFault
 of_commit (commits.Full end need) = faults.JournalFull end need
 of_commit (commits.Failed last) = faults.DiskFault
 of_commit commits.OutputFault = faults.OutputFault
+
+-- No device has met a fault but the one that the answer names: the counts of the disk's faults, of the sink's and of the input's,
+-- before and after.
+abbrev pub MetNoOther : Result Report RecordFault → (disk disk_after sink sink_after input input_after : ℕ) → Type 0
+MetNoOther (Ok report) disk disk_after sink sink_after input input_after = (disk_after ≡ disk) × (sink_after ≡ sink) × (input_after ≡ input)
+MetNoOther (Err faults.DiskFault) disk disk_after sink sink_after input input_after = (sink_after ≡ sink) × (input_after ≡ input)
+MetNoOther (Err faults.OutputFault) disk disk_after sink sink_after input input_after = (disk_after ≡ disk) × (input_after ≡ input)
+MetNoOther (Err faults.InputFault) disk disk_after sink sink_after input input_after = (disk_after ≡ disk) × (sink_after ≡ sink)
+MetNoOther (Err (faults.JournalInUse len)) disk disk_after sink sink_after input input_after =
+    (disk_after ≡ disk) × (sink_after ≡ sink) × (input_after ≡ input)
+MetNoOther (Err (faults.StepLimit steps)) disk disk_after sink sink_after input input_after =
+    (disk_after ≡ disk) × (sink_after ≡ sink) × (input_after ≡ input)
+MetNoOther (Err (faults.JournalFull end need)) disk disk_after sink sink_after input input_after =
+    (disk_after ≡ disk) × (sink_after ≡ sink) × (input_after ≡ input)
+MetNoOther (Err faults.OutOfMemory) disk disk_after sink sink_after input input_after =
+    (disk_after ≡ disk) × (sink_after ≡ sink) × (input_after ≡ input)

@@ -132,12 +132,16 @@ abbrev pub IsLeft : (guest : List ℕ) → List Epoch → (Epoch → Type 0) →
 IsLeft guest epochs Follows image = ((epochs ≡ []) × (reads image ≡ None)) ⊎ (Reads guest (records_of epochs) image)
     ⊎ ((e : Epoch) × Follows e × Reads guest (records_of (epochs ++ e ∷ [])) image)
 
--- The run's whole output was sent, and no more. What the last sync had left on the disk begins with its journal, and a crash leaves
--- that, or that and an epoch that may follow.
+-- On an empty disk, before the first epoch, what the last sync had left reads as no journal.
+abbrev pub NoneBegun : List Epoch → History → History → Type 0
+NoneBegun epochs before after = (epochs ≡ []) × (before.disk ≡ [] → IsSynced before → reads after.pending.synced ≡ None)
+
+-- The run's whole output was sent, and no more. What the last sync had left on the disk begins with its journal, or none was begun; and
+-- a crash leaves that, or that and an epoch that may follow.
 pub record IsInterrupted (guest : List ℕ) (epochs : List Epoch) (output : List ℕ) (Follows : Epoch → Type 0) (before after : History) : Type 0 where
   pub sent : after.sent ≡ before.sent ++ output
   pub noted : after.noted ≡ before.noted
-  pub on_disk : (epochs ≡ []) ⊎ IsPrefixOf (journal_of guest (records_of epochs)) after.pending.synced
+  pub on_disk : NoneBegun epochs before after ⊎ IsPrefixOf (journal_of guest (records_of epochs)) after.pending.synced
   pub untouched : (before.disk ≡ []) ⊎ (after ≡ before)
   pub left : before.disk ≡ [] → IsSynced before → Then (λ image sent. IsLeft guest epochs Follows image) (now after)
 

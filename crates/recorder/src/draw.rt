@@ -28,6 +28,7 @@ pub fn draw<I: Inlet>(inlet: &mut I, supply: &mut Supply, state: &State) -> Resu
     ensures is_supply { OnOk result (IsSupply supply.new) }
     ensures kept { OnErr result (I.input inlet.new ≡ I.input inlet.old) }
     ensures due { IsErr result → input_due state.now supply.old ≡ true }
+    ensures none { OnOk result (I.input_faults inlet.new ≡ I.input_faults inlet.old) }
     ensures cause { IsErr result → Rose (I.input_faults inlet.old) (I.input_faults inlet.new) }
     ensures count { I.input_faults inlet.old ≤ I.input_faults inlet.new }
 {

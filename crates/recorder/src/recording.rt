@@ -5,6 +5,7 @@ ghost use Rattle.dp_base.specs.Journal.{IsBody, IsEpoch, epoch_body, frame};
 ghost use Rattle.disk_model.specs.Counts.{Rose};
 ghost use Rattle.epoch_record.specs.Epoch.{epoch_of};
 ghost use Rattle.guest_kernel.specs.Start.{IsGuestFile, start_state};
+ghost use Rattle.recorder.specs.Faults.{MetNoOther};
 ghost use Rattle.recorder.specs.Moments.{EachMoment};
 ghost use Rattle.recorder.specs.Recording.{Recorded, first_behind};
 ghost use Rattle.recorder.specs.declared.record_fault.RecordFault.TheVariants as faults;
@@ -52,6 +53,8 @@ pub fn record_<R, W: World, I: Inlet>(
         (W.history world) (W.history result.0) result.1 }
     ensures moments { EachMoment guest.now start (I.input inlet.old) (I.input inlet.new)
         (W.history world) (W.history result.0) }
+    ensures others { MetNoOther result.1 (W.disk_faults world) (W.disk_faults result.0) (W.sink_faults world) (W.sink_faults result.0)
+        (I.input_faults inlet.old) (I.input_faults inlet.new) }
     ensures input_cause { result.1 ≡ Err faults.InputFault → Rose (I.input_faults inlet.old) (I.input_faults inlet.new) }
     ensures disk_cause { result.1 ≡ Err faults.DiskFault → Rose (W.disk_faults world) (W.disk_faults result.0) }
     ensures sink_cause { result.1 ≡ Err faults.OutputFault → Rose (W.sink_faults world) (W.sink_faults result.0) }
@@ -77,6 +80,8 @@ fn record_rounds<W: World, I: Inlet>(
         (W.history world.old) (W.history world.new) result }
     ensures moments { EachMoment guest.now start (I.input inlet.old) (I.input inlet.new)
         (W.history world.old) (W.history world.new) }
+    ensures others { MetNoOther result (W.disk_faults world.old) (W.disk_faults world.new) (W.sink_faults world.old)
+        (W.sink_faults world.new) (I.input_faults inlet.old) (I.input_faults inlet.new) }
     ensures input_cause { IsErrOf result RecordFault.InputFault →
         Rose (I.input_faults inlet.old) (I.input_faults inlet.new) }
     ensures disk_cause { IsErrOf result RecordFault.DiskFault →

@@ -70,6 +70,7 @@ impl Supply {
         ensures err { OnErr result (self.new ≡ unfilled self.old) }
         ensures kept { OnErr result (I.input inlet.new ≡ I.input inlet.old) }
         ensures is_supply { IsSupply self.new }
+        ensures none { OnOk result (I.input_faults inlet.new ≡ I.input_faults inlet.old) }
         ensures cause { IsErr result → Rose (I.input_faults inlet.old) (I.input_faults inlet.new) }
         ensures count { I.input_faults inlet.old ≤ I.input_faults inlet.new }
     {

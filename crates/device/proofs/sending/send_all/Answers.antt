@@ -6,13 +6,13 @@ use Rattle.device.proofs.Sends.{none_sent, sent_more, not_all_sent}
 use Rattle.device.proofs.sending.send_all.Goals as goal
 
 pub parts-init : goal.parts-init
-parts-init g c = record { within = omega arith; history = known-same _ _ _ refl (none_sent c.args.to c.args.bytes.now); count = omega arith; disk = refl }
+parts-init g c = record { within = omega arith; history = known-same _ _ _ refl (none_sent c.args.to c.args.bytes.now); none = refl; disk = refl }
 
 pub parts-preserved : goal.parts-preserved
 parts-preserved g c = record {
   within = omega (arith, c.in_ok-sent.ensures.within);
   history = known-then _ _ _ _ _ _ (sent_more c.args.bytes.now c.args.to c.parts.sent c.in_ok-sent.field-0) c.parts.invariant.history c.in_ok-sent.ensures.history;
-  count = omega (arith, c.emit.ensures.count, c.parts.invariant.count);
+  none = c.in_ok-sent.ensures.none ∙ c.parts.invariant.none;
   disk = c.emit.ensures.disk ∙ c.parts.invariant.disk;
 }
 

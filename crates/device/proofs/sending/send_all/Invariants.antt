@@ -7,7 +7,7 @@ abbrev pub invariant-parts : goal.invariant-parts
 invariant-parts g l = record {
   within : l.sent ≤ length l.bytes;
   history : IfKnown (IsSent l.to l.bytes l.sent) (g.W.World.history l.initial.world) (g.W.World.history l.world);
-  count : g.W.World.sink_faults l.initial.world ≤ g.W.World.sink_faults l.world;
+  none : g.W.World.sink_faults l.world ≡ g.W.World.sink_faults l.initial.world;
   disk : g.W.World.disk_faults l.world ≡ g.W.World.disk_faults l.initial.world;
 }
 

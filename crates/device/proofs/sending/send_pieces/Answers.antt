@@ -12,6 +12,6 @@ returns-in_err-send_all-clause-history g c =
 pub loop-piece-preserved : goal.loop-piece-preserved
 loop-piece-preserved g c = record {
   history = known-then _ _ _ _ _ _ (piece_sent c.args.pieces.now c.args.to c.loop-piece.piece-index (record { ref_ptr = (0, 0); now = [] }) c.loop-piece-test.true) c.loop-piece.invariant.history c.in_ok-send_all.ensures.history;
-  count = omega (arith, c.send_all.ensures.count, c.loop-piece.invariant.count);
+  none = c.in_ok-send_all.ensures.none ∙ c.loop-piece.invariant.none;
   disk = c.send_all.ensures.disk ∙ c.loop-piece.invariant.disk;
 }

@@ -8,7 +8,7 @@ returns-in_ok-put_ones-in-Write c h disk ones ordered =
 
 pub returns-in_ok-put_ones_behind-in-Cut : goal.returns-in_ok-put_ones_behind-in-Cut
 returns-in_ok-put_ones_behind-in-Cut c h disk ones ordered =
-    marked-cut c.args.call.now c.in-Cut.len _ _ c.in-Cut.ok h c.in-Cut.is c.in_ok-put_ones_behind-in-Cut.ensures ones
+    marked-cut c.args.call.now c.in-Cut.len _ _ c.in-Cut.ok h c.in-Cut.is c.in_ok-put_ones_behind-in-Cut.ensures ones ordered
 
 pub returns-in_ok-take_synced-in-Sync : goal.returns-in_ok-take_synced-in-Sync
 returns-in_ok-take_synced-in-Sync c h disk ones ordered =

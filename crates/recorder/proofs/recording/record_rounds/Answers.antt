@@ -77,9 +77,9 @@ rounds-init g c =
     record {
       so_far = supplied.0;
       first_is = sym (ap (λ l. first_after 1 (epochs_of l)) supplied.1);
-      input_count = omega arith;
-      disk_count = c.begin.ensures.count;
-      sink_count = omega (arith, c.begin.ensures.sink);
+      no_disk_fault = c.in_ok-journal.ensures.none;
+      no_sink_fault = c.begin.ensures.sink;
+      no_input_fault = refl;
     }
 
 pub returns-then-state-options-clause-recorded : goal.returns-then-state-options-clause-recorded
@@ -197,9 +197,9 @@ rounds-preserved g c =
     record {
       so_far = both.0;
       first_is = first ∙ ap (λ es. first_after 1 es) (sym (epochs-push so_far.done round_is)) ∙ sym (ap (λ rs. first_after 1 (epochs_of rs)) both.1);
-      input_count = omega (arith, c.draw.ensures.count, l.invariant.input_count);
-      disk_count = omega (arith, c.commit_epoch.ensures.disk_count, l.invariant.disk_count);
-      sink_count = omega (arith, c.commit_epoch.ensures.sink_count, l.invariant.sink_count);
+      no_disk_fault = c.in_ok-commit_epoch.ensures.others.0 ∙ l.invariant.no_disk_fault;
+      no_sink_fault = c.in_ok-commit_epoch.ensures.others.1 ∙ l.invariant.no_sink_fault;
+      no_input_fault = c.in_ok-draw.ensures.none ∙ l.invariant.no_input_fault;
     }
 
 pub digest-requires : goal.digest-requires

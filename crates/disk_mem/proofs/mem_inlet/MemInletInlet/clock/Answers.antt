@@ -30,7 +30,7 @@ returns-clause-reading c =
     let reads = c.self.inside.reads in
     let here : reading ≡ reading_at clocks reads = c.reading_with_number-reading.ensures ∙ ap (λ (l : List ℕ). reading_at l reads) c.deref.ensures.value in
     let noted_is : IsNoted reading (first_readings clocks reads) (noted reading (first_readings clocks reads)) =
-    is-noted clocks reads reading (omega (arith, c.self.inside.clocks.ok.0)) here in
+    is-noted clocks reads reading (omega arith) (omega (arith, c.self.inside.clocks.ok.0)) here in
     let there : IsNoted reading c.args.self.now.input.readings (noted reading c.args.self.now.input.readings) =
     subst (λ (m : MemoryInput). IsNoted reading m.input.readings (noted reading m.input.readings)) c.self.view_is noted_is in
     (_, refl, (_, there, ap (λ (m : MemoryInput). m.input) (returns-clause-after c)))
