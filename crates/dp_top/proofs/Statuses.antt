@@ -22,7 +22,7 @@ use Rattle.recorder.specs.Moments.{EachMoment}
 use Rattle.recorder.specs.Recording.{IsInUse, MayFollow, Recorded}
 use Rattle.recorder.proofs.Drawings.{has_drawn, input-same, none_drawn}
 use Rattle.recorder.proofs.Moments.{nothing_left, nothing_synced}
-use Rattle.recorder.proofs.Rounds.{no_round}
+use Rattle.recorder.proofs.RunLists.{no_round}
 use Rattle.recorder.specs.Drawing.{HasDrawn}
 use Rattle.supply.specs.Supplied.{empty}
 use Rattle.supply.specs.declared.TheConstants.{MAX_ROOM}

@@ -1,6 +1,9 @@
 mod Commits
 pub mod Drawings
-pub mod Rounds
+pub mod RunLists
+mod SoFar
+mod Begun
+mod Rounds
 pub mod Alike
 mod InputReads
 pub mod Moments

@@ -1,273 +1,47 @@
--- A recording so far, and how it goes on and stops.
-use Rattle.std.proofs.Common.{◌≡◌, inl, inr, ℕ, ◌+◌, ◌*◌, ◌<◌, ◌≤◌, Bool, true, false, List, [], ◌∷◌, ◌++◌, length, take, Option, Result, Ok, Err, refl, sym, ap, subst, ◌∙◌, append_assoc, arith}
-use Rattle.std.proofs.lemmas.List.{append-nil, length-append, length_push, take_all}
+-- A recording so far goes on by a round, and stops.
+use Rattle.std.proofs.Common.{◌≡◌, inl, inr, ℕ, ◌+◌, ◌*◌, ◌<◌, ◌≤◌, Bool, true, false, List, [], ◌∷◌, ◌++◌, length, take, Option, Ok, Err, refl, sym, ap, subst, ◌∙◌, append_assoc, arith}
+use Rattle.std.proofs.lemmas.List.{length-append, length_push, take_all}
 use Rattle.dp_base.specs.declared.limits.TheConstants.{EPOCH_END_BYTES, MAX_CALL_BYTES}
 use Rattle.std.specs.List.{AllByRecursion}
-use Rattle.std.proofs.lemmas.List.Sums.{sum_by-cons}
 use Rattle.dp_base.specs.declared.answer.Answer.{Answer}
-use Rattle.dp_base.specs.declared.slice.Slice.{Slice}
-use Rattle.dp_base.specs.Journal.{Epoch, IsAnswer, IsGuest, IsSlice, steps_of, epoch_body, frame}
-use Rattle.epoch_runner.specs.declared.bounds.Bounds.{Bounds}
-use Rattle.epoch_runner.specs.declared.epoch_run.EpochRun.{EpochRun}
-use Rattle.epoch_runner.specs.declared.epoch_run.Ran.{Ran}
-use Rattle.epoch_runner.specs.declared.epoch_run.Ran.TheVariants as ran_as
-use Rattle.epoch_runner.specs.Answering.{can_step, input_due}
-use Rattle.epoch_runner.specs.Running.{HasRun, HasRunEpoch}
+use Rattle.dp_base.specs.Journal.{Epoch, IsGuest, steps_of, epoch_body, frame}
+use Rattle.epoch_runner.specs.Answering.{input_due}
 use Rattle.epoch_runner.specs.Supplying.{IsSuppliedBy}
 use Rattle.disk_model.specs.Input.{IfInput, Input, IsLast}
-use Rattle.supply.specs.Supplied.{IsSupply, Supplied, empty, end_of, refilled}
+use Rattle.supply.specs.Supplied.{Supplied, empty, end_of}
 use Rattle.supply.specs.declared.TheConstants.{MAX_ROOM}
 use Rattle.recorder.specs.Drawing.{Draw, Drew, HasDrawn, IsHonestSince, Round, answers_of, draws_of, epochs_of, readings_since, supply_behind, supply_of}
-use Rattle.recorder.proofs.Drawings.{IsDrawn, TakeLaws, drawn_more, has_drawn, input-map, input-same, input-then, none_drawn, taken_more}
-use Rattle.disk_model.specs.History.{History, IsSynced}
+use Rattle.recorder.proofs.Drawings.{IsDrawn, TakeLaws, drawn_more, has_drawn, input-map, input-then, taken_more}
+use Rattle.disk_model.specs.History.{History}
 use Rattle.disk_model.specs.Moments.{Always}
 use Rattle.disk_model.specs.Known.{IfKnown}
 use Rattle.disk_model.proofs.Knowing.{known-map, known-then}
 use Rattle.guest_kernel.specs.declared.state.State.{State}
-use Rattle.guest_kernel.specs.Call.{After}
-use Rattle.std.specs.List.{list_any}
-use Rattle.guest_kernel.specs.Threads.{AreFew, is_running}
-use Rattle.guest_kernel.specs.Slices.{Stop, chain, either, onto}
+use Rattle.guest_kernel.specs.Slices.{chain}
 use Rattle.guest_kernel.specs.State.{has_ended}
 use Rattle.recorder.specs.declared.options.Options.{Options}
-use Rattle.epoch_journal.specs.declared.begin.BeginFault.{BeginFault}
-use Rattle.epoch_journal.specs.declared.begin.BeginFault.TheVariants as begins
 use Rattle.recorder.specs.declared.commit.CommitFault.{CommitFault}
 use Rattle.recorder.specs.declared.commit.CommitFault.TheVariants as commits
 use Rattle.recorder.specs.declared.record_fault.RecordFault.TheVariants as faults
-use Rattle.recorder.specs.Faults.{of_begin, of_commit}
+use Rattle.recorder.specs.Faults.{of_commit}
 use Rattle.recorder.specs.Committing.{CommitMoments, Committed, HasCommitted}
-use Rattle.recorder.specs.Recording.{IsNext, EachIsNext, Run, epoch_steps, first_after, first_behind, HasDrawnOn, HasRoom, IsRecorded, MayFollow, Recorded, records_of, reported}
+use Rattle.recorder.specs.Recording.{IsNext, Run, epoch_steps, first_after, HasDrawnOn, HasRoom, IsRecorded, MayFollow, Recorded, records_of, reported}
 use Rattle.checkpoint.specs.State.{digest_of}
 use Rattle.device.specs.Sending.{Sent}
 use Rattle.disk_model.specs.declared.world.Stream.TheVariants.{Note}
 use Rattle.dp_report.specs.declared.report.Report.{Report}
 use Rattle.dp_report.specs.Texts.{report_line}
 use Rattle.epoch_journal.specs.Appending.{IsAppend, RecordMoments}
-use Rattle.epoch_journal.specs.Beginning.{Begun, HasBegun}
 use Rattle.epoch_journal.specs.Standing.{Journal, Stands}
 use Rattle.epoch_journal.proofs.OnDisk.{length-journal-push}
-use Rattle.journal_text.specs.Reading.{journal_of, reads}
+use Rattle.journal_text.specs.Reading.{journal_of}
 use Rattle.journal_text.specs.Records.{IsRecord, Record, epoch}
 use Rattle.recorder.specs.Moments.{EachMoment, HoldsAt, answers_in}
-use Rattle.recorder.proofs.Moments.{AlwaysPartly, answers_are, append_left, appends_partly, are_records, begin_left, begins_partly, commits_partly, each_moment, known-both, noted-too, nothing_begun, records_more}
-
--- ---- runs
-
-pub no_epochs : (start : State) → chain start [] ≡ Ok (start, [])
-unfolding chain
-no_epochs start = refl
-
-abbrev pub no_round : (options : Options) (start : State) → start.steps ≤ options.limit → Run options start
-no_round options start few = record { rounds = []; end = start; output = []; chained = no_epochs start; each = tt; counted = few }
-
--- where a chain ends
-abbrev end_or : State → Result (State × List ℕ) ℕ → State
-end_or other (Ok end) = end.0
-end_or other (Err count) = other
-
--- a chain behind an epoch ends where the whole one does
-chain_end : (r : Result (State × List ℕ) ℕ) (written : List ℕ) (mid : State) (before : List ℕ) → either r (λ count. Err (count + 1)) (onto written) ≡ Ok (mid, before) → (output : List ℕ) × (r ≡ Ok (mid, output))
-chain_end (Err count) written mid before is = absurd cc
-chain_end (Ok end) written mid before is = (end.1, ap (λ (s : State). Ok (s, end.1)) (ap (end_or mid) is))
-
--- a round behind a run is next
-each-push : (options : Options) (first : ℕ) (start : State) (w : Supplied) (rounds : List Round) (mid : State) (before : List ℕ) (r : Round) (end : State) (output : List ℕ)
-    → EachIsNext options first start w rounds → chain start (epochs_of rounds) ≡ Ok (mid, before)
-    → r.draw.due ≡ input_due mid (supply_behind w (draws_of rounds))
-    → IsNext options (first_after first (epochs_of rounds)) mid (supply_of (supply_behind w (draws_of rounds)) r.draw) r.epoch end output
-    → EachIsNext options first start w (rounds ++ r ∷ [])
-unfolding chain
-each-push options first start w [] mid before r end output each chained due next_ =
-    let same : start ≡ mid = ap (end_or mid) chained in (
-      end,
-      output,
-      subst (λ (s : State). r.draw.due ≡ input_due s w) (sym same) due,
-      subst (λ (s : State). IsNext options first s (supply_of w r.draw) r.epoch end output) (sym same) next_,
-      tt,
-    )
-each-push options first start w (x ∷ xs) mid before r end output each chained due next_ =
-    let there : State = each.0 in
-    let written : List ℕ = each.1 in
-    let behind : either (chain there (epochs_of xs)) (λ count. Err (count + 1)) (onto written) ≡ Ok (mid, before) =
-    sym (ap (λ (a : Result After (Stop × After)). either a (λ stop. Err 0) (λ here. either (chain here.state (epochs_of xs)) (λ count. Err (count + 1)) (onto here.output))) each.3.ran) ∙ chained in
-    let last = chain_end (chain there (epochs_of xs)) written mid before behind in
-    (there, written, each.2, each.3, each-push options (first_behind first x.epoch.slices) there (supply_of w x.draw) xs mid last.0 r end output each.4 last.1 due next_)
-
-pub epochs-push : (rounds : List Round) (r : Round) → epochs_of (rounds ++ r ∷ []) ≡ epochs_of rounds ++ r.epoch ∷ []
-epochs-push [] r = refl
-epochs-push (x ∷ xs) r = ap (λ (l : List Epoch). x.epoch ∷ l) (epochs-push xs r)
-
-draws-push : (rounds : List Round) (r : Round) → draws_of (rounds ++ r ∷ []) ≡ draws_of rounds ++ r.draw ∷ []
-draws-push [] r = refl
-draws-push (x ∷ xs) r = ap (λ (l : List Draw). x.draw ∷ l) (draws-push xs r)
-
-answers-push : (rounds : List Round) (r : Round) → answers_of (rounds ++ r ∷ []) ≡ answers_of rounds ++ r.epoch.answers
-answers-push [] r = append-nil r.epoch.answers
-answers-push (x ∷ xs) r = ap (λ (l : List Answer). x.epoch.answers ++ l) (answers-push xs r) ∙ sym (append_assoc x.epoch.answers (answers_of xs) r.epoch.answers)
-
-supply-push : (w : Supplied) (draws : List Draw) (d : Draw) → supply_behind w (draws ++ d ∷ []) ≡ supply_of (supply_behind w draws) d
-supply-push w [] d = refl
-supply-push w (x ∷ xs) d = supply-push (supply_of w x) xs d
-
-abbrev pub AreAnswers : List Epoch → Type 0
-AreAnswers epochs = AllByRecursion (λ (e : Epoch). AllByRecursion IsAnswer e.answers) epochs
-
-answers_are-push : (epochs : List Epoch) (e : Epoch) → AreAnswers epochs → AllByRecursion IsAnswer e.answers → AreAnswers (epochs ++ e ∷ [])
-answers_are-push [] e are more = (more, tt)
-answers_are-push (x ∷ xs) e are more = (are.0, answers_are-push xs e are.1 more)
-
-pub first_after-push : (first : ℕ) (epochs : List Epoch) (e : Epoch) → first_after first (epochs ++ e ∷ []) ≡ first_behind (first_after first epochs) e.slices
-first_after-push first [] e = refl
-first_after-push first (x ∷ xs) e = first_after-push (first_behind first x.slices) xs e
-
--- ---- the recording so far
-
-records-push : (epochs : List Epoch) (e : Epoch) → records_of (epochs ++ e ∷ []) ≡ records_of epochs ++ epoch e ∷ []
-records-push [] e = refl
-records-push (x ∷ xs) e = ap (λ (l : List Record). epoch x ∷ l) (records-push xs e)
-
--- a guest that hasn't ended has a thread that runs, and few were made
-pub record CanGoOn (s : State) : Type 0 where
-  pub runs : has_ended s.end ≡ false → list_any is_running s.threads ≡ true
-  pub few : AreFew s.threads
-
-pub record SoFar (guest : List ℕ) (options : Options) (start : State) (i there : Option Input) (first now : Option History) (state : State) (w : Supplied) (j : Journal) (epochs sent : ℕ) : Type 0 where
-  pub done : List Round
-  pub output : List ℕ
-  pub chained : chain start (epochs_of done) ≡ Ok (state, output)
-  pub each : EachIsNext options 1 start (empty MAX_ROOM) done
-  pub counted : state.steps ≤ options.limit
-  pub goes_on : CanGoOn state
-  pub supply_is : w ≡ supply_behind (empty MAX_ROOM) (draws_of done)
-  pub is_supply : IsSupply w
-  pub some_room : w.room ≡ MAX_ROOM
-  pub placed : w.place ≤ state.input
-  pub inside : state.input ≤ end_of w
-  pub little_input : state.input ≤ MAX_CALL_BYTES * state.steps
-  pub are_answers : AreAnswers (epochs_of done)
-  pub drawn : IfInput (IsDrawn w state.input (draws_of done) (answers_of done)) i there
-  pub history : IfKnown (IsRecorded guest (epochs_of done) output) first now
-  pub moments : IfKnown (AlwaysPartly guest start (epochs_of done)) first now
-  pub place_is : j.end ≡ length (journal_of guest (records_of (epochs_of done)))
-  pub room_is : j.room ≡ options.room
-  pub fits : j.end ≤ j.room
-  pub works : j.failed ≡ false
-  pub count : epochs ≡ length (epochs_of done)
-  pub few : epochs < j.end
-  pub sent_is : sent ≡ length output
-  pub little : sent ≤ (EPOCH_END_BYTES + MAX_CALL_BYTES) * epochs
-
--- ---- what a round draws
-
--- what a round has drawn, and the supply with which it runs its epoch
-pub record HasDrawnRound (w : Supplied) (state : State) (there later : Option Input) (with_ : Supplied) : Type 0 where
-  pub draw : Draw
-  pub due : draw.due ≡ input_due state w
-  pub is : with_ ≡ supply_of w draw
-  pub drew : IfInput (Drew draw) there later
-  pub used : draw.due ≡ true → (state.input ≡ end_of w) × (w.ended ≡ false)
-  pub is_supply : IsSupply with_
-
-room_kept : (w : Supplied) (due : Bool) (bytes : List ℕ) (reading : ℕ) → (supply_of w (record { due = due; taken = bytes; reading = reading })).room ≡ w.room
-room_kept w true bytes reading = refl
-room_kept w false bytes reading = refl
-
-still_placed : (w : Supplied) (place : ℕ) (due : Bool) (bytes : List ℕ) (reading : ℕ) → w.place ≤ place → place ≤ end_of w → (due ≡ true → place ≡ end_of w)
-    → let with_ = supply_of w (record { due = due; taken = bytes; reading = reading }) in (with_.place ≤ place) × (place ≤ end_of with_)
-still_placed w place true bytes reading placed inside used = let at_end = used refl in (omega (arith, at_end), omega (arith, at_end))
-still_placed w place false bytes reading placed inside used = (placed, inside)
-
-pub round_of : (w : Supplied) (state : State) (there later : Option Input) (with_ : Supplied)
-    → (d : Draw) × (d.due ≡ input_due state w) × (with_ ≡ supply_of w d) × IfInput (Drew d) there later
-    → (input_due state w ≡ true → (state.input ≡ end_of w) × (w.ended ≡ false)) → IsSupply with_ → HasDrawnRound w state there later with_
-round_of w state there later with_ drew used is_supply =
-    record { draw = drew.0; due = drew.1; is = drew.2; drew = drew.3; used = λ e. used (sym drew.1 ∙ e); is_supply = is_supply }
-
--- with what it has drawn a guest can step
-can_go : (s : State) (w : Supplied) (due : Bool) (bytes : List ℕ) (reading : ℕ) → due ≡ input_due s w
-    → (input_due s w ≡ false → can_step s w ≡ true)
-    → ((more : List ℕ) (stamp : ℕ) → input_due s w ≡ true → can_step s (record (refilled more w) { stamp = stamp }) ≡ true)
-    → ((stamp : ℕ) → can_step s (record w { stamp = stamp }) ≡ can_step s w)
-    → can_step s (supply_of w (record { due = due; taken = bytes; reading = reading })) ≡ true
-can_go s w true bytes reading is ready refills stamps = refills bytes reading (sym is)
-can_go s w false bytes reading is ready refills stamps = stamps reading ∙ ready (sym is)
-
-pub round_goes : (s : State) (w : Supplied) (there later : Option Input) (with_ : Supplied) → HasDrawnRound w s there later with_
-    → (input_due s w ≡ false → can_step s w ≡ true)
-    → ((more : List ℕ) (stamp : ℕ) → input_due s w ≡ true → can_step s (record (refilled more w) { stamp = stamp }) ≡ true)
-    → ((stamp : ℕ) → can_step s (record w { stamp = stamp }) ≡ can_step s w) → can_step s with_ ≡ true
-round_goes s w there later with_ round ready refills stamps =
-    ap (can_step s) round.is ∙ can_go s w round.draw.due round.draw.taken round.draw.reading round.due ready refills stamps
-
--- so an epoch of it isn't idle
-pub not_idle : (s : State) (w : Supplied) (bounds : Bounds) (ran : Ran) (t : State) → HasRun s w bounds ran → ran ≡ ran_as.Idle t → 0 < bounds.steps → can_step s w ≡ true → ⊥
-not_idle s w bounds ran t has is some can =
-    elim (subst (HasRun s w bounds) is has).why [
-      | inl none ↦ omega (arith, none, some)
-      | inr cannot ↦ let both = sym can ∙ cannot in cc
-    ]
-
--- ---- it begins
+use Rattle.recorder.proofs.Moments.{AlwaysPartly, answers_are, append_left, appends_partly, are_records, commits_partly, each_moment, known-both, noted-too, records_more}
+use Rattle.recorder.proofs.RunLists.{AreAnswers, answers-push, answers_are-push, draws-push, each-push, epochs-push, records-push, supply-push}
+use Rattle.recorder.proofs.SoFar.{CanGoOn, HasDrawnRound, SoFar, room_kept, still_placed}
 
 module _ (guest : List ℕ) (guest_is : IsGuest guest) (options : Options) (start : State) (i : Option Input) (first : Option History) where
-  pub begun_so_far : (now : Option History) (j : Journal) → start.steps ≡ 0 → start.input ≡ 0 → CanGoOn start → HasBegun (length guest) options.room (Ok j) → length (journal_of guest []) ≡ 10 + length guest
-      → IfKnown (Begun guest (Ok j)) first now → (so_far : SoFar guest options start i i first now start (empty MAX_ROOM) j 0 0) × (so_far.done ≡ [])
-  unfolding chain
-  begun_so_far now j steps input goes_on begun_is size begun =
-      let end_is : j.end ≡ 10 + length guest = ap (λ (k : Journal). k.end) begun_is.0 in (
-        record {
-          done = [];
-          output = [];
-          chained = refl;
-          each = tt;
-          counted = omega (arith, steps);
-          goes_on = goes_on;
-          supply_is = refl;
-          is_supply = record { within = omega arith; some_room = omega arith; small = omega arith; early = omega arith; empty_end = λ never. absurd cc };
-          some_room = refl;
-          placed = omega arith;
-          inside = omega (arith, input);
-          little_input = omega (arith, input);
-          are_answers = tt;
-          drawn = input-same (IsDrawn (empty MAX_ROOM) start.input [] []) i i refl (λ s. subst (λ (n : ℕ). IsDrawn (empty MAX_ROOM) n [] [] s s) (sym input) (none_drawn s));
-          history = known-map _ _ _ _ (λ s t b. record { empty = b.0; stands = b.1; sent = b.2.sent ∙ sym (append-nil s.sent); noted = b.2.noted }) begun;
-          moments = known-map _ _ _ _ (λ s t b empty synced. begins_partly guest start (no_epochs start) s t (b.3 guest_is synced empty)) begun;
-          place_is = end_is ∙ sym size;
-          room_is = ap (λ (k : Journal). k.room) begun_is.0;
-          fits = omega (arith, begun_is.1, end_is, ap (λ (k : Journal). k.room) begun_is.0);
-          works = ap (λ (k : Journal). k.failed) begun_is.0;
-          count = refl;
-          few = omega (arith, end_is);
-          sent_is = refl;
-          little = omega arith;
-        },
-        refl,
-      )
-
-  pub begin_failed : (now : Option History) (fault : BeginFault) → start.steps ≤ options.limit → HasBegun (length guest) options.room (Err fault) → IfKnown (Begun guest (Err fault)) first now
-      → Recorded guest start options i i first now (Err (of_begin fault))
-  begin_failed now (begins.InUse len) few numbers begun = (numbers, refl, begun)
-  begin_failed now begins.DiskFault few numbers begun = (
-    no_round options start few,
-    inl refl,
-    inl (input-same (HasDrawn [] []) i i refl (λ s. has_drawn (empty MAX_ROOM) 0 [] [] s s (none_drawn s))),
-    known-map _ _ _ _ (λ s t b. record { sent = b.0.sent ∙ sym (append-nil s.sent); noted = b.0.noted; on_disk = inl (refl, λ empty_ synced. b.3 guest_is synced empty_); untouched = b.1; left = λ empty_ synced. begin_left guest start (MayFollow (no_round options start few)) s t (b.2 guest_is synced empty_) }) begun,
-  )
-  begin_failed now (begins.Full end need) few numbers begun = inl (numbers.0, numbers.1, numbers.2, refl, begun)
-  begin_failed now begins.OutOfMemory few numbers begun = inl (refl, begun)
-
-  nothing_written : (s t : History) → t ≡ s → s.disk ≡ [] → IsSynced s → Always (HoldsAt guest start i i s) s t
-  nothing_written s t same empty synced = subst (λ (h : History). Always (HoldsAt guest start i i s) s h) (sym same) (nothing_begun guest start i i s empty synced)
-
-  pub begin_failed_moments : (now : Option History) (fault : BeginFault) → IfKnown (Begun guest (Err fault)) first now → EachMoment guest start i i first now
-  begin_failed_moments now (begins.InUse len) begun = known-map _ _ _ _ (λ s t b. nothing_written s t b.1) begun
-  begin_failed_moments now begins.DiskFault begun =
-      each_moment guest start [] i i (input-same (IsHonestSince []) i i refl (λ s. (has_drawn (empty MAX_ROOM) 0 [] [] s s (none_drawn s)).1)) first now
-      (known-map _ _ _ _ (λ s t b empty_ synced. begins_partly guest start (no_epochs start) s t (b.2 guest_is synced empty_)) begun)
-  begin_failed_moments now (begins.Full end need) begun = known-map _ _ _ _ (λ s t b. nothing_written s t b.1) begun
-  begin_failed_moments now begins.OutOfMemory begun = known-map _ _ _ _ (λ s t b. nothing_written s t b.1) begun
-
   -- ---- it stops
 
   module _ (there : Option Input) (now : Option History) (state : State) (w : Supplied) (j : Journal) (epochs sent : ℕ) (so_far : SoFar guest options start i there first now state w j epochs sent) where
@@ -588,17 +362,3 @@ module _ (guest : List ℕ) (guest_is : IsGuest guest) (options : Options) (star
               })
               so_far.history known,
         )
-
--- ---- an epoch that was run
-
-pub ran_epoch : (s : State) (w : Supplied) (bounds : Bounds) (ran : Ran) (r : EpochRun) → HasRun s w bounds ran → ran ≡ ran_as.Epoch r → HasRunEpoch s w bounds r
-ran_epoch s w bounds ran r has is = subst (HasRun s w bounds) is has
-
-pub positive_steps : (xs : List Slice) → AllByRecursion IsSlice xs → 0 < length xs → 0 < steps_of xs
-positive_steps [] are some = absurd (omega arith)
-positive_steps (x ∷ xs) are some = let first : 0 < x.steps = are.0.2 in omega (arith, first, sum_by-cons (λ (s : Slice). s.steps) x xs)
-
--- its threads have numbers below 65,535
-pub low_numbers : (xs : List Slice) (made : ℕ) → AllByRecursion IsSlice xs → AllByRecursion (λ (x : Slice). 0 < x.steps → x.tid.0 ≤ made) xs → made ≤ 1024 → AllByRecursion (λ (x : Slice). x.tid.0 < 65535) xs
-low_numbers [] made are within few = tt
-low_numbers (x ∷ xs) made are within few = (let low = within.0 are.0.2 in omega (arith, low, few), low_numbers xs made are.1 within.1 few)

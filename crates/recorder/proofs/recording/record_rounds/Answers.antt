@@ -22,7 +22,10 @@ use Rattle.recorder.specs.Recording.{IsNext, epoch_steps, first_after, first_beh
 use Rattle.checkpoint.specs.State.{IsEncodable}
 use Rattle.dp_report.specs.declared.report.Report.{Report}
 use Rattle.recorder.proofs.Drawings.{take_laws}
-use Rattle.recorder.proofs.Rounds.{CanGoOn, SoFar, begin_failed, begin_failed_moments, begun_so_far, commit_failed, commit_failed_moments, committed, drawn_moments, epochs-push, first_after-push, input_fault, low_numbers, moments_now, no_line, no_supply, not_idle, not_told, out_of_memory, placed_still, positive_steps, ran_epoch, round_goes, round_of, step_limit, told, told_moments}
+use Rattle.recorder.proofs.Begun.{begin_failed, begin_failed_moments, begun_so_far}
+use Rattle.recorder.proofs.Rounds.{commit_failed, commit_failed_moments, committed, drawn_moments, input_fault, moments_now, no_line, no_supply, not_told, out_of_memory, placed_still, step_limit, told, told_moments}
+use Rattle.recorder.proofs.RunLists.{epochs-push, first_after-push, low_numbers, positive_steps, ran_epoch}
+use Rattle.recorder.proofs.SoFar.{CanGoOn, SoFar, not_idle, round_goes, round_of}
 use Rattle.recorder.proofs.recording.record_rounds.Goals as goal
 
 is_guest : (file : List ℕ) → length file ≤ MAX_GUEST_BYTES → AreBytes file → IsGuest file

@@ -1,7 +1,7 @@
 use Rattle.std.proofs.Common.{◌≡◌, ◌-◌}
 use Rattle.recorder.specs.Drawing.{epochs_of}
 use Rattle.recorder.specs.Recording.{first_after}
-use Rattle.recorder.proofs.Rounds.{SoFar}
+use Rattle.recorder.proofs.SoFar.{SoFar}
 use Rattle.recorder.proofs.recording.record_rounds.Given as goal
 
 abbrev pub invariant-rounds : goal.invariant-rounds

@@ -1,0 +1,85 @@
+-- A recording begins: it is so far none, or what a failed begin leaves.
+use Rattle.std.proofs.Common.{◌≡◌, inl, ℕ, ◌+◌, ◌≤◌, List, [], length, Option, Ok, Err, refl, sym, ap, subst, ◌∙◌, arith}
+use Rattle.std.proofs.lemmas.List.{append-nil}
+use Rattle.dp_base.specs.Journal.{IsGuest}
+use Rattle.disk_model.specs.Input.{Input}
+use Rattle.supply.specs.Supplied.{empty}
+use Rattle.supply.specs.declared.TheConstants.{MAX_ROOM}
+use Rattle.recorder.specs.Drawing.{HasDrawn, IsHonestSince}
+use Rattle.recorder.proofs.Drawings.{IsDrawn, has_drawn, input-same, none_drawn}
+use Rattle.disk_model.specs.History.{History, IsSynced}
+use Rattle.disk_model.specs.Moments.{Always}
+use Rattle.disk_model.specs.Known.{IfKnown}
+use Rattle.disk_model.proofs.Knowing.{known-map}
+use Rattle.guest_kernel.specs.declared.state.State.{State}
+use Rattle.guest_kernel.specs.Slices.{chain}
+use Rattle.recorder.specs.declared.options.Options.{Options}
+use Rattle.epoch_journal.specs.declared.begin.BeginFault.{BeginFault}
+use Rattle.epoch_journal.specs.declared.begin.BeginFault.TheVariants as begins
+use Rattle.recorder.specs.Faults.{of_begin}
+use Rattle.recorder.specs.Recording.{MayFollow, Recorded}
+use Rattle.epoch_journal.specs.Beginning.{Begun, HasBegun}
+use Rattle.epoch_journal.specs.Standing.{Journal}
+use Rattle.journal_text.specs.Reading.{journal_of}
+use Rattle.recorder.specs.Moments.{EachMoment, HoldsAt}
+use Rattle.recorder.proofs.Moments.{begin_left, begins_partly, each_moment, nothing_begun}
+use Rattle.recorder.proofs.RunLists.{no_epochs, no_round}
+use Rattle.recorder.proofs.SoFar.{CanGoOn, SoFar}
+
+module _ (guest : List ℕ) (guest_is : IsGuest guest) (options : Options) (start : State) (i : Option Input) (first : Option History) where
+  pub begun_so_far : (now : Option History) (j : Journal) → start.steps ≡ 0 → start.input ≡ 0 → CanGoOn start → HasBegun (length guest) options.room (Ok j) → length (journal_of guest []) ≡ 10 + length guest
+      → IfKnown (Begun guest (Ok j)) first now → (so_far : SoFar guest options start i i first now start (empty MAX_ROOM) j 0 0) × (so_far.done ≡ [])
+  unfolding chain
+  begun_so_far now j steps input goes_on begun_is size begun =
+      let end_is : j.end ≡ 10 + length guest = ap (λ (k : Journal). k.end) begun_is.0 in (
+        record {
+          done = [];
+          output = [];
+          chained = refl;
+          each = tt;
+          counted = omega (arith, steps);
+          goes_on = goes_on;
+          supply_is = refl;
+          is_supply = record { within = omega arith; some_room = omega arith; small = omega arith; early = omega arith; empty_end = λ never. absurd cc };
+          some_room = refl;
+          placed = omega arith;
+          inside = omega (arith, input);
+          little_input = omega (arith, input);
+          are_answers = tt;
+          drawn = input-same (IsDrawn (empty MAX_ROOM) start.input [] []) i i refl (λ s. subst (λ (n : ℕ). IsDrawn (empty MAX_ROOM) n [] [] s s) (sym input) (none_drawn s));
+          history = known-map _ _ _ _ (λ s t b. record { empty = b.0; stands = b.1; sent = b.2.sent ∙ sym (append-nil s.sent); noted = b.2.noted }) begun;
+          moments = known-map _ _ _ _ (λ s t b empty synced. begins_partly guest start (no_epochs start) s t (b.3 guest_is synced empty)) begun;
+          place_is = end_is ∙ sym size;
+          room_is = ap (λ (k : Journal). k.room) begun_is.0;
+          fits = omega (arith, begun_is.1, end_is, ap (λ (k : Journal). k.room) begun_is.0);
+          works = ap (λ (k : Journal). k.failed) begun_is.0;
+          count = refl;
+          few = omega (arith, end_is);
+          sent_is = refl;
+          little = omega arith;
+        },
+        refl,
+      )
+
+  pub begin_failed : (now : Option History) (fault : BeginFault) → start.steps ≤ options.limit → HasBegun (length guest) options.room (Err fault) → IfKnown (Begun guest (Err fault)) first now
+      → Recorded guest start options i i first now (Err (of_begin fault))
+  begin_failed now (begins.InUse len) few numbers begun = (numbers, refl, begun)
+  begin_failed now begins.DiskFault few numbers begun = (
+    no_round options start few,
+    inl refl,
+    inl (input-same (HasDrawn [] []) i i refl (λ s. has_drawn (empty MAX_ROOM) 0 [] [] s s (none_drawn s))),
+    known-map _ _ _ _ (λ s t b. record { sent = b.0.sent ∙ sym (append-nil s.sent); noted = b.0.noted; on_disk = inl (refl, λ empty_ synced. b.3 guest_is synced empty_); untouched = b.1; left = λ empty_ synced. begin_left guest start (MayFollow (no_round options start few)) s t (b.2 guest_is synced empty_) }) begun,
+  )
+  begin_failed now (begins.Full end need) few numbers begun = inl (numbers.0, numbers.1, numbers.2, refl, begun)
+  begin_failed now begins.OutOfMemory few numbers begun = inl (refl, begun)
+
+  nothing_written : (s t : History) → t ≡ s → s.disk ≡ [] → IsSynced s → Always (HoldsAt guest start i i s) s t
+  nothing_written s t same empty synced = subst (λ (h : History). Always (HoldsAt guest start i i s) s h) (sym same) (nothing_begun guest start i i s empty synced)
+
+  pub begin_failed_moments : (now : Option History) (fault : BeginFault) → IfKnown (Begun guest (Err fault)) first now → EachMoment guest start i i first now
+  begin_failed_moments now (begins.InUse len) begun = known-map _ _ _ _ (λ s t b. nothing_written s t b.1) begun
+  begin_failed_moments now begins.DiskFault begun =
+      each_moment guest start [] i i (input-same (IsHonestSince []) i i refl (λ s. (has_drawn (empty MAX_ROOM) 0 [] [] s s (none_drawn s)).1)) first now
+      (known-map _ _ _ _ (λ s t b empty_ synced. begins_partly guest start (no_epochs start) s t (b.2 guest_is synced empty_)) begun)
+  begin_failed_moments now (begins.Full end need) begun = known-map _ _ _ _ (λ s t b. nothing_written s t b.1) begun
+  begin_failed_moments now begins.OutOfMemory begun = known-map _ _ _ _ (λ s t b. nothing_written s t b.1) begun

@@ -1,0 +1,107 @@
+-- Runs as lists of rounds and epochs: what one more round or epoch at the end adds to each.
+use Rattle.std.proofs.Common.{◌≡◌, ℕ, ◌+◌, ◌<◌, ◌≤◌, List, [], ◌∷◌, ◌++◌, length, Result, Ok, Err, refl, sym, ap, subst, ◌∙◌, append_assoc, arith}
+use Rattle.std.proofs.lemmas.List.{append-nil}
+use Rattle.std.specs.List.{AllByRecursion}
+use Rattle.std.proofs.lemmas.List.Sums.{sum_by-cons}
+use Rattle.dp_base.specs.declared.answer.Answer.{Answer}
+use Rattle.dp_base.specs.declared.slice.Slice.{Slice}
+use Rattle.dp_base.specs.Journal.{Epoch, IsAnswer, IsSlice, steps_of}
+use Rattle.epoch_runner.specs.declared.bounds.Bounds.{Bounds}
+use Rattle.epoch_runner.specs.declared.epoch_run.EpochRun.{EpochRun}
+use Rattle.epoch_runner.specs.declared.epoch_run.Ran.{Ran}
+use Rattle.epoch_runner.specs.declared.epoch_run.Ran.TheVariants as ran_as
+use Rattle.epoch_runner.specs.Answering.{input_due}
+use Rattle.epoch_runner.specs.Running.{HasRun, HasRunEpoch}
+use Rattle.supply.specs.Supplied.{Supplied}
+use Rattle.recorder.specs.Drawing.{Draw, Round, answers_of, draws_of, epochs_of, supply_behind, supply_of}
+use Rattle.guest_kernel.specs.declared.state.State.{State}
+use Rattle.guest_kernel.specs.Call.{After}
+use Rattle.guest_kernel.specs.Slices.{Stop, chain, either, onto}
+use Rattle.recorder.specs.declared.options.Options.{Options}
+use Rattle.recorder.specs.Recording.{IsNext, EachIsNext, Run, first_after, first_behind, records_of}
+use Rattle.journal_text.specs.Records.{Record, epoch}
+
+pub no_epochs : (start : State) → chain start [] ≡ Ok (start, [])
+unfolding chain
+no_epochs start = refl
+
+abbrev pub no_round : (options : Options) (start : State) → start.steps ≤ options.limit → Run options start
+no_round options start few = record { rounds = []; end = start; output = []; chained = no_epochs start; each = tt; counted = few }
+
+-- where a chain ends
+abbrev end_or : State → Result (State × List ℕ) ℕ → State
+end_or other (Ok end) = end.0
+end_or other (Err count) = other
+
+-- a chain behind an epoch ends where the whole one does
+chain_end : (r : Result (State × List ℕ) ℕ) (written : List ℕ) (mid : State) (before : List ℕ) → either r (λ count. Err (count + 1)) (onto written) ≡ Ok (mid, before) → (output : List ℕ) × (r ≡ Ok (mid, output))
+chain_end (Err count) written mid before is = absurd cc
+chain_end (Ok end) written mid before is = (end.1, ap (λ (s : State). Ok (s, end.1)) (ap (end_or mid) is))
+
+-- a round behind a run is next
+pub each-push : (options : Options) (first : ℕ) (start : State) (w : Supplied) (rounds : List Round) (mid : State) (before : List ℕ) (r : Round) (end : State) (output : List ℕ)
+    → EachIsNext options first start w rounds → chain start (epochs_of rounds) ≡ Ok (mid, before)
+    → r.draw.due ≡ input_due mid (supply_behind w (draws_of rounds))
+    → IsNext options (first_after first (epochs_of rounds)) mid (supply_of (supply_behind w (draws_of rounds)) r.draw) r.epoch end output
+    → EachIsNext options first start w (rounds ++ r ∷ [])
+unfolding chain
+each-push options first start w [] mid before r end output each chained due next_ =
+    let same : start ≡ mid = ap (end_or mid) chained in (
+      end,
+      output,
+      subst (λ (s : State). r.draw.due ≡ input_due s w) (sym same) due,
+      subst (λ (s : State). IsNext options first s (supply_of w r.draw) r.epoch end output) (sym same) next_,
+      tt,
+    )
+each-push options first start w (x ∷ xs) mid before r end output each chained due next_ =
+    let there : State = each.0 in
+    let written : List ℕ = each.1 in
+    let behind : either (chain there (epochs_of xs)) (λ count. Err (count + 1)) (onto written) ≡ Ok (mid, before) =
+    sym (ap (λ (a : Result After (Stop × After)). either a (λ stop. Err 0) (λ here. either (chain here.state (epochs_of xs)) (λ count. Err (count + 1)) (onto here.output))) each.3.ran) ∙ chained in
+    let last = chain_end (chain there (epochs_of xs)) written mid before behind in
+    (there, written, each.2, each.3, each-push options (first_behind first x.epoch.slices) there (supply_of w x.draw) xs mid last.0 r end output each.4 last.1 due next_)
+
+pub epochs-push : (rounds : List Round) (r : Round) → epochs_of (rounds ++ r ∷ []) ≡ epochs_of rounds ++ r.epoch ∷ []
+epochs-push [] r = refl
+epochs-push (x ∷ xs) r = ap (λ (l : List Epoch). x.epoch ∷ l) (epochs-push xs r)
+
+pub draws-push : (rounds : List Round) (r : Round) → draws_of (rounds ++ r ∷ []) ≡ draws_of rounds ++ r.draw ∷ []
+draws-push [] r = refl
+draws-push (x ∷ xs) r = ap (λ (l : List Draw). x.draw ∷ l) (draws-push xs r)
+
+pub answers-push : (rounds : List Round) (r : Round) → answers_of (rounds ++ r ∷ []) ≡ answers_of rounds ++ r.epoch.answers
+answers-push [] r = append-nil r.epoch.answers
+answers-push (x ∷ xs) r = ap (λ (l : List Answer). x.epoch.answers ++ l) (answers-push xs r) ∙ sym (append_assoc x.epoch.answers (answers_of xs) r.epoch.answers)
+
+pub supply-push : (w : Supplied) (draws : List Draw) (d : Draw) → supply_behind w (draws ++ d ∷ []) ≡ supply_of (supply_behind w draws) d
+supply-push w [] d = refl
+supply-push w (x ∷ xs) d = supply-push (supply_of w x) xs d
+
+abbrev pub AreAnswers : List Epoch → Type 0
+AreAnswers epochs = AllByRecursion (λ (e : Epoch). AllByRecursion IsAnswer e.answers) epochs
+
+pub answers_are-push : (epochs : List Epoch) (e : Epoch) → AreAnswers epochs → AllByRecursion IsAnswer e.answers → AreAnswers (epochs ++ e ∷ [])
+answers_are-push [] e are more = (more, tt)
+answers_are-push (x ∷ xs) e are more = (are.0, answers_are-push xs e are.1 more)
+
+pub first_after-push : (first : ℕ) (epochs : List Epoch) (e : Epoch) → first_after first (epochs ++ e ∷ []) ≡ first_behind (first_after first epochs) e.slices
+first_after-push first [] e = refl
+first_after-push first (x ∷ xs) e = first_after-push (first_behind first x.slices) xs e
+
+pub records-push : (epochs : List Epoch) (e : Epoch) → records_of (epochs ++ e ∷ []) ≡ records_of epochs ++ epoch e ∷ []
+records-push [] e = refl
+records-push (x ∷ xs) e = ap (λ (l : List Record). epoch x ∷ l) (records-push xs e)
+
+-- ---- an epoch that was run
+
+pub ran_epoch : (s : State) (w : Supplied) (bounds : Bounds) (ran : Ran) (r : EpochRun) → HasRun s w bounds ran → ran ≡ ran_as.Epoch r → HasRunEpoch s w bounds r
+ran_epoch s w bounds ran r has is = subst (HasRun s w bounds) is has
+
+pub positive_steps : (xs : List Slice) → AllByRecursion IsSlice xs → 0 < length xs → 0 < steps_of xs
+positive_steps [] are some = absurd (omega arith)
+positive_steps (x ∷ xs) are some = let first : 0 < x.steps = are.0.2 in omega (arith, first, sum_by-cons (λ (s : Slice). s.steps) x xs)
+
+-- its threads have numbers below 65,535
+pub low_numbers : (xs : List Slice) (made : ℕ) → AllByRecursion IsSlice xs → AllByRecursion (λ (x : Slice). 0 < x.steps → x.tid.0 ≤ made) xs → made ≤ 1024 → AllByRecursion (λ (x : Slice). x.tid.0 < 65535) xs
+low_numbers [] made are within few = tt
+low_numbers (x ∷ xs) made are within few = (let low = within.0 are.0.2 in omega (arith, low, few), low_numbers xs made are.1 within.1 few)
