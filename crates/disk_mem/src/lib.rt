@@ -26,15 +26,17 @@ mod crash;
 #[cfg(test)]
 mod crash_tests;
 mod fails;
+#[cfg(test)]
+mod files_and_inlet_tests;
 mod mem_files;
 mod mem_inlet;
 mod mem_world;
 mod named_file;
 mod pieces;
 #[cfg(test)]
-mod tests;
-#[cfg(test)]
 mod worked_calls;
+#[cfg(test)]
+mod world_tests;
 
 pub use call::Call;
 pub use fails::{CallNumbers, Fails};

@@ -27,6 +27,8 @@ pub use dp_report::Status;
 pub use top::run;
 
 #[cfg(test)]
+mod changed_journal_tests;
+#[cfg(test)]
 mod guests;
 #[cfg(test)]
 mod image_tests;

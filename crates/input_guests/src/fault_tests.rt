@@ -1,5 +1,5 @@
 // Each take of an input fails in turn: by itself, and with all behind it. The recording stops there, and what it has committed plays.
-// The values come from the model that `tests` has.
+// The values come from the model that `read_tests` has.
 use super::*;
 use crate::recorded::{Came, at, came_to, input_of, ok};
 use disk_mem::Fails;

@@ -189,12 +189,14 @@ pub const THREE_READINGS: [u32; 16] = [
 ];
 
 #[cfg(test)]
+mod clock_tests;
+#[cfg(test)]
 mod fault_tests;
 #[cfg(test)]
 mod filter_tests;
 #[cfg(test)]
 mod journal_tests;
 #[cfg(test)]
-mod recorded;
+mod read_tests;
 #[cfg(test)]
-mod tests;
+mod recorded;
