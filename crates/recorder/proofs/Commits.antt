@@ -1,6 +1,5 @@
 -- What a committed epoch leaves.
-use Rattle.std.proofs.Common.{◌≡◌, inl, inr, ℕ, ◌+◌, ◌-◌, ◌≤◌, true, false, List, [], ◌∷◌, ◌++◌, length, take, Some, Ok, Err, refl, sym, ◌∙◌, ap, subst, arith}
-use Rattle.std.specs.List.{AllByRecursion}
+use Rattle.std.proofs.Common.{◌≡◌, inl, inr, ℕ, ◌+◌, ◌≤◌, true, false, List, [], ◌∷◌, ◌++◌, length, take, Ok, Err, refl, ◌∙◌, ap, arith}
 use Rattle.std.proofs.lemmas.List.{take_all}
 use Rattle.device.specs.Sending.{IsSending, Sent}
 use Rattle.disk_model.specs.declared.world.Stream.TheVariants.{Out}
@@ -8,13 +7,12 @@ use Rattle.disk_model.specs.History.{History}
 use Rattle.disk_model.specs.Moments.{Always}
 use Rattle.disk_model.proofs.Moments.{always-then, always-weaker}
 use Rattle.dp_base.specs.declared.limits.TheConstants.{MAX_JOURNAL_BYTES}
-use Rattle.dp_base.specs.Journal.{IsGuest, frame}
 use Rattle.epoch_journal.specs.Appending.{Appended, IsAppend}
 use Rattle.epoch_journal.specs.Standing.{Journal, Stands}
 use Rattle.epoch_journal.proofs.AtRest.{image-reads}
 use Rattle.epoch_journal.proofs.OnDisk.{length-journal-push}
 use Rattle.journal_text.specs.Reading.{journal_of}
-use Rattle.journal_text.specs.Records.{IsRecord, Record, body_of}
+use Rattle.journal_text.specs.Records.{Record}
 use Rattle.recorder.specs.declared.commit.CommitFault.TheVariants as commits
 use Rattle.recorder.specs.Committing.{CommitMoments, Committed, IsCommitting, StandsWith}
 

@@ -1,5 +1,5 @@
 -- What a commit of one epoch comes to, by its answer. This project's own.
-use Rattle.std.specs.Prelude.{◌≡◌, ◌⊎◌, ℕ, List, [], ◌∷◌, ◌++◌, take, Result, Ok, Err}
+use Rattle.std.specs.Prelude.{◌≡◌, ◌⊎◌, ℕ, List, [], ◌∷◌, ◌++◌, Result, Ok, Err}
 use Rattle.std.specs.List.{AllByRecursion}
 use Rattle.dp_base.specs.Encoding.{IsPrefixOf}
 use Rattle.dp_base.specs.Journal.{IsGuest}
