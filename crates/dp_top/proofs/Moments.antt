@@ -1,10 +1,10 @@
 -- What a crash leaves at every moment of a command.
-use Rattle.std.proofs.Common.{◌≡◌, ◌⊎◌, ◌<◌, inl, inr, arith, ℕ, Bool, List, [], ◌++◌, length, Option, Result, Ok, Err, String, refl, sym, ap, subst, ◌∙◌}
+use Rattle.std.proofs.Common.{◌≡◌, ◌⊎◌, ◌<◌, inl, inr, arith, ℕ, Bool, List, [], length, Option, Result, Ok, Err, String, refl, sym, ap, subst, ◌∙◌}
 use Rattle.std.proofs.lemmas.List.{append-nil}
 use Rattle.std.specs.declared.alloc.Global.{Global}
 use Rattle.device.specs.Sending.{Sent}
 use Rattle.disk_model.specs.declared.world.Stream.TheVariants.{Note}
-use Rattle.disk_model.specs.Directory.{File, IsFetched}
+use Rattle.disk_model.specs.Directory.{File}
 use Rattle.disk_model.specs.History.{History, IsSynced}
 use Rattle.disk_model.specs.Input.{Input}
 use Rattle.disk_model.specs.Known.{IfKnown}
@@ -16,7 +16,7 @@ use Rattle.dp_report.specs.declared.status.Status.{Status}
 use Rattle.dp_report.specs.declared.status.Status.TheVariants as statuses
 use Rattle.dp_report.specs.Texts.{status_line}
 use Rattle.guest_kernel.specs.declared.state.State.{State}
-use Rattle.guest_kernel.specs.Start.{IsGuestFile, start_state}
+use Rattle.guest_kernel.specs.Start.{start_state}
 use Rattle.recorder.specs.declared.options.Options.{Options}
 use Rattle.recorder.specs.declared.record_fault.RecordFault.{RecordFault}
 use Rattle.recorder.specs.declared.record_fault.RecordFault.TheVariants as faults
