@@ -27,6 +27,8 @@ mod emit_tests;
 #[cfg(test)]
 mod gate_tests;
 #[cfg(test)]
+mod guest_emit_tests;
+#[cfg(test)]
 mod mark_tests;
 #[cfg(test)]
 mod stopped;
