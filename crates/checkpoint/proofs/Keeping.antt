@@ -13,7 +13,7 @@ use Rattle.dp_base.specs.Field.{AreBytes}
 use Rattle.dp_base.specs.Memory.{Memory}
 use Rattle.guest_state.specs.declared.thread.Thread.{Thread}
 use Rattle.guest_state.specs.Checkpoint.{Checkpoint, HEAP_END, IsEnd, IsPageContent, IsThread, IsWord, is_alive, is_bounded, is_heap, live, rising, rising_from, traps_within}
-use Rattle.guest_state.proofs.Codes.{Bounds, bounds_of}
+use Rattle.guest_state.proofs.CheckpointCode.{Bounds, bounds_of}
 use Rattle.guest_kernel.specs.declared.state.State.{State}
 use Rattle.rv_step.specs.Words.{HasBytes, HasSameShape, shape_of}
 use Rattle.checkpoint.specs.State.{IsEncodable, checkpoint_of}

@@ -4,6 +4,9 @@ mod Parts
 mod Keeping
 mod Lists
 mod PageLists
+mod HartWords
+mod TurnLaws
 mod Turning
+mod TurnKept
 mod Running
 mod Starting

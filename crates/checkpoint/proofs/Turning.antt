@@ -1,143 +1,44 @@
 -- A turn of a thread, behind which the state has an encoding again once the thread's reservation is dropped.
-use Rattle.std.proofs.Common.{◌≡◌, ℕ, zero, suc, ◌+◌, ◌-◌, ◌/◌, ◌%◌, ◌^◌, ◌<◌, ◌≤◌, Bool, true, false, cond, not, List, [], ◌∷◌, ◌++◌, length, count_by, min, replicate, take, slice_get, Option, Some, None, Result, Ok, Err, refl, sym, ap, subst, ◌∙◌, arith}
-use Rattle.std.specs.Prelude.{◌==◌, ◌&&◌, nat_lt, slice_set, slice_index}
+use Rattle.std.proofs.Common.{◌≡◌, ℕ, zero, suc, ◌+◌, ◌-◌, ◌/◌, ◌%◌, ◌^◌, ◌<◌, ◌≤◌, Bool, true, false, cond, not, List, [], ◌∷◌, ◌++◌, length, count_by, min, slice_get, Option, Some, None, refl, sym, ap, subst, ◌∙◌, arith}
+use Rattle.std.specs.Prelude.{◌==◌, slice_set}
 use Rattle.std.specs.List.{AllByRecursion, list_any}
 use Rattle.std.proofs.Math.Nat.{min-le_right}
 use Rattle.std.proofs.lemmas.Bool.{and_from, and_parts, cond_both, le-leb, leb-true, lt-ltb}
 use Rattle.std.proofs.lemmas.List.{length-append, length-set}
 use Rattle.std.proofs.lemmas.Option.{slice_get_within}
-use Rattle.dp_base.specs.declared.access.Width.{Width}
 use Rattle.dp_base.specs.declared.access.Width.TheVariants.{Four}
 use Rattle.dp_base.specs.declared.answer.Answer.{Answer}
 use Rattle.dp_base.specs.declared.answer.Answer.TheVariants.{Clock, Read}
 use Rattle.dp_base.specs.Journal.{IsAnswer}
-use Rattle.dp_base.specs.declared.limits.TheConstants.{MAX_CALL_BYTES, MAX_PAGES, PAGE_NUMBERS}
+use Rattle.dp_base.specs.declared.limits.TheConstants.{MAX_CALL_BYTES, MAX_PAGES}
 use Rattle.dp_base.specs.declared.tid.Tid.{Tid}
 use Rattle.guest_state.specs.declared.end.End.{End}
 use Rattle.guest_state.specs.declared.end.End.TheVariants as ends
 use Rattle.guest_state.specs.declared.hart.Hart.{Hart}
 use Rattle.guest_state.specs.declared.thread.Thread.{Thread}
 use Rattle.guest_state.specs.declared.thread.Thread.TheVariants.{Runs, Waits, Gone}
-use Rattle.guest_state.specs.Checkpoint.{HEAP_END, IsEnd, IsFreeHart, IsThread, IsWord, is_alive, is_heap, traps_within}
-use Rattle.guest_state.proofs.Codes.{bounds_of}
-use Rattle.dp_base.specs.Memory.{ArePages, Memory, bytes_with, loaded, put_bytes, stored}
-use Rattle.guest_state.specs.Register.{register, with_register, next}
-use Rattle.cow_pages.specs.Heap.{with_heap}
+use Rattle.guest_state.specs.Checkpoint.{HEAP_END, IsEnd, IsThread, IsWord, is_alive, is_heap, traps_within}
+use Rattle.guest_state.proofs.CheckpointCode.{bounds_of}
+use Rattle.dp_base.specs.Memory.{Memory, bytes_with, loaded, put_bytes, stored}
+use Rattle.guest_state.specs.Register.{with_register, next}
 use Rattle.guest_kernel.specs.declared.state.State.{State}
 use Rattle.guest_kernel.specs.Break.{may_move_break, page_from, with_break}
-use Rattle.guest_kernel.specs.Call.{After, Refusal, Written, answered, begins_to_wait, bytes_written, called, cleared, end_of_exit, end_of_waiting, exits, exits_all, is_cleared, may_spawn, sets_break, silent, spawned_hart, spawns, waits, waits_by, wakes, written, written_by, EAGAIN, EINVAL, ENOSYS, called_alone, has_clock, has_read}
+use Rattle.guest_kernel.specs.Call.{Written, answered, begins_to_wait, bytes_written, called, cleared, end_of_exit, end_of_waiting, exits, exits_all, is_cleared, may_spawn, sets_break, silent, spawned_hart, spawns, waits, waits_by, wakes, written, written_by, EAGAIN, EINVAL, ENOSYS, called_alone, has_clock, has_read}
 use Rattle.turn_peek.specs.Arguments.{a0, a1, a2, a3, minus, moved, EFAULT}
 use Rattle.guest_kernel.proofs.Turns.{called_alone_by_row, called_by_row}
-use Rattle.guest_kernel.specs.State.{counted, dropping, has_ended, unreserved, with_thread, without_reservation}
-use Rattle.guest_kernel.specs.Threads.{AreFew, awake, is_running, thread_at, waits_on, woken}
-use Rattle.guest_kernel.specs.Turn.{turn, by_effect, by_thread}
+use Rattle.guest_kernel.specs.State.{counted, dropping, unreserved, with_thread, without_reservation}
+use Rattle.guest_kernel.specs.Threads.{AreFew, is_running, thread_at, waits_on, woken}
+use Rattle.guest_kernel.specs.Turn.{by_effect}
 use Rattle.rv_step.specs.Effect.{Effect, goes, calls, traps}
 use Rattle.rv_step.specs.Step.{effect}
-use Rattle.rv_step.specs.Words.{HasBytes, HasSameShape, HasWords}
+use Rattle.rv_step.specs.Words.{HasBytes, HasWords}
 use Rattle.checkpoint.specs.State.{IsEncodable, checkpoint_of}
-use Rattle.checkpoint.proofs.Keeping.{PagesFit, RestFits, all_at, all_set, built, bytes_of, live_set, pages_alike, pages_fit, set_at, set_twice}
+use Rattle.checkpoint.proofs.Keeping.{PagesFit, RestFits, all_at, all_set, bytes_of, live_set, pages_alike, pages_fit, set_at, set_twice}
 use Rattle.checkpoint.proofs.Lists.{each_append, each_woken, set_append, set_woken}
 use Rattle.checkpoint.proofs.PageLists.{contents, pages_rise, risen_pages}
+use Rattle.checkpoint.proofs.HartWords.{awake_is, next_is, of_free, register_is_word, spawned_is, to_free, with_word}
+use Rattle.checkpoint.proofs.TurnLaws.{Fits, IsGood, Keeps, TurnLaws, effect_is_good, nonzero}
 use Rattle.rv_step.proofs.Memories.{put_bytes_bytes, put_bytes_shape}
-
--- ---- harts
-
-of_free : (hart : Hart) → IsFreeHart (unreserved hart) → HasWords hart
-of_free hart is = record { pc = is.pc; count = is.count; registers = is.registers }
-
-pub to_free : (hart : Hart) → HasWords hart → IsFreeHart (unreserved hart)
-to_free hart is = record { pc = is.pc; count = is.count; registers = is.registers; free = refl }
-
-words_at : (xs : List ℕ) (i : ℕ) → AllByRecursion IsWord xs → IsWord (slice_index xs i)
-words_at [] i all = omega arith
-words_at (x ∷ xs) zero all = all.0
-words_at (x ∷ xs) (suc i) all = words_at xs i all.1
-
-words_set : (xs : List ℕ) (i y : ℕ) → AllByRecursion IsWord xs → IsWord y → AllByRecursion IsWord (slice_set xs i y)
-words_set [] i y all here = tt
-words_set (x ∷ xs) zero y all here = (here, all.1)
-words_set (x ∷ xs) (suc i) y all here = (all.0, words_set xs i y all.1 here)
-
-register_is_word : (hart : Hart) (n : ℕ) → HasWords hart → IsWord (register hart n)
-register_is_word hart n is = cond_both (n == 0) 0 (slice_index hart.x (n - 1)) IsWord (λ _. omega arith) (λ _. words_at hart.x (n - 1) is.registers)
-
-pub with_word : (hart : Hart) (n value : ℕ) → HasWords hart → IsWord value → HasWords (with_register hart n value)
-with_word hart n value is fits =
-    cond_both (n == 0) hart (record hart { x = slice_set hart.x (n - 1) value }) HasWords (λ _. is)
-    (λ _. record { pc = is.pc; count = length-set hart.x (n - 1) value ∙ is.count; registers = words_set hart.x (n - 1) value is.registers fits })
-
--- a thread that is woken
-free_awake : (hart : Hart) → IsFreeHart hart → IsFreeHart (with_register hart 10 0)
-free_awake hart is =
-    let words = with_word hart 10 0 (record { pc = is.pc; count = is.count; registers = is.registers }) (omega arith) in
-    record { pc = words.pc; count = words.count; registers = words.registers; free = is.free }
-
-awake_is : (t : Thread) → IsThread t → IsThread (awake t)
-awake_is (Runs hart clear) is = is
-awake_is (Waits addr hart clear) is = (free_awake hart is.1, is.2)
-awake_is (Gone code) is = is
-
--- a thread that is made
-zeros_are_words : (n : ℕ) → AllByRecursion IsWord (replicate n 0)
-zeros_are_words zero = tt
-zeros_are_words (suc n) = (omega arith, zeros_are_words n)
-
-pub zero_hart_is : (pc : ℕ) → IsWord pc → HasWords (record { pc = pc; x = replicate 31 0; held = None })
-zero_hart_is pc fits = record { pc = fits; count = refl; registers = zeros_are_words 31 }
-
-spawned_is : (pc sp argument : ℕ) → IsWord pc → IsWord sp → IsWord argument → IsFreeHart (spawned_hart pc sp argument)
-spawned_is pc sp argument is_pc is_sp is_argument =
-    let words = with_word _ 10 argument (with_word _ 2 sp (zero_hart_is pc is_pc) is_sp) is_argument in
-    record { pc = words.pc; count = words.count; registers = words.registers; free = refl }
-
-next_is : (hart : Hart) → HasWords hart → HasWords (next hart)
-next_is hart is = record { pc = omega arith; count = is.count; registers = is.registers }
-
--- ---- effects
-
--- what is used of a turn: the laws of rv_step, cow_pages and guest_kernel
-pub record TurnLaws : Type 0 where
-  pub hart : (h after : Hart) (m left : Memory) → HasWords h → HasBytes m → effect h m ≡ goes after left → HasWords after
-  pub bytes : (h after : Hart) (m left : Memory) → HasWords h → HasBytes m → effect h m ≡ goes after left → HasBytes left
-  pub shape : (h after : Hart) (m left : Memory) → effect h m ≡ goes after left → HasSameShape m left
-  pub cause : (h : Hart) (m : Memory) (cause value : ℕ) → effect h m ≡ traps cause value → cause < 8
-  pub value : (h : Hart) (m : Memory) (cause value : ℕ) → HasWords h → HasBytes m → effect h m ≡ traps cause value → IsWord value
-  pub stored_bytes : (width : Width) (address value : ℕ) (m : Memory) → HasBytes m → HasBytes (stored width address value m)
-  pub stored_shape : (width : Width) (address value : ℕ) (m : Memory) → HasSameShape m (stored width address value m)
-  pub heap_pages : (m : Memory) (first end old_end : ℕ) → ArePages m → end ≤ PAGE_NUMBERS → length (with_heap first end old_end m) ≤ MAX_PAGES → ArePages (with_heap first end old_end m)
-  pub heap_bytes : (m : Memory) (first end old_end : ℕ) → HasBytes m → HasBytes (with_heap first end old_end m)
-  pub wake : (addr count : ℕ) (threads : List Thread) (i : ℕ) (t : Thread) → slice_get threads i ≡ Some t
-      → slice_get (woken addr count threads) i ≡ Some (cond (waits_on addr t && nat_lt (count_by (waits_on addr) (take i threads)) count) (awake t) t)
-  pub wake_length : (addr count : ℕ) (threads : List Thread) → length (woken addr count threads) ≡ length threads
-  pub few : (s : State) (tid : Tid) (log : List Answer) (after : After) → turn s tid log ≡ Ok after → AreFew s.threads → AreFew after.state.threads
-  pub slice_few : (s : State) (tid : Tid) → AreFew s.threads → AreFew (without_reservation s tid).threads
-
-abbrev IsGood : Memory → Effect → Type 0
-IsGood m (goes after left) = HasWords after × HasBytes left × HasSameShape m left
-IsGood m calls = Unit {0}
-IsGood m (traps cause value) = (cause < 8) × IsWord value
-
-effect_is_good : (laws : TurnLaws) (h : Hart) (m : Memory) (e : Effect) → HasWords h → HasBytes m → effect h m ≡ e → IsGood m e
-effect_is_good laws h m (goes after left) is bytes e = (laws.hart h after m left is bytes e, laws.bytes h after m left is bytes e, laws.shape h after m left e)
-effect_is_good laws h m calls is bytes e = tt
-effect_is_good laws h m (traps cause value) is bytes e = (laws.cause h m cause value e, laws.value h m cause value is bytes e)
-
--- ---- turns
-
-nonzero : (n : ℕ) → (n == 0) ≡ false → 0 < n
-nonzero zero e = absurd cc
-nonzero (suc n) e = omega arith
-
--- what has to hold behind a turn, once the reservation is dropped: but for the threads' number
-pub record Fits (s left : State) (tid : Tid) : Type 0 where
-  pub each : AllByRecursion IsThread (without_reservation left tid).threads
-  pub some : 0 < length (without_reservation left tid).threads
-  pub pages : PagesFit (without_reservation left tid).pages
-  pub rest : left.steps < 2 ^ 64 → left.input < 2 ^ 64 → RestFits (without_reservation left tid) s.heap
-
-abbrev Keeps : State → Tid → Result After Refusal → Type 0
-Keeps s tid (Ok after) = Fits s after.state tid
-Keeps s tid (Err refusal) = Unit {0}
 
 -- the state before the turn, whose thread runs
 module _ (laws : TurnLaws) (s : State) (tid : Tid) (hart : Hart) (clear : ℕ) (log : List Answer) (answers_are : AllByRecursion IsAnswer log) (is : IsEncodable (without_reservation s tid)) (there : thread_at s.threads tid ≡ Some (Runs hart clear)) where
@@ -477,35 +378,12 @@ module _ (laws : TurnLaws) (s : State) (tid : Tid) (hart : Hart) (clear : ℕ) (
   effect_keeps calls good = called_keeps
   effect_keeps (traps cause value) good = trapped cause value good.0 good.1
 
-  runs_keeps : Keeps s tid (by_effect s tid hart clear log (effect hart s.pages))
+  pub runs_keeps : Keeps s tid (by_effect s tid hart clear log (effect hart s.pages))
   runs_keeps = effect_keeps (effect hart s.pages) (effect_is_good laws hart s.pages (effect hart s.pages) hart_is bytes_are refl)
 
   -- the threads are few before the turn
-  few_before : AreFew s.threads
+  pub few_before : AreFew s.threads
   few_before =
       let b = bounds_of (checkpoint_of (with_thread s tid (Runs (unreserved hart) clear))) before.bounded in
       let alive = live_set s.threads (tid.0 - 1) (Runs hart clear) (Runs (unreserved hart) clear) at_i refl in
       record { made = few_threads; alive = omega (arith, alive, b.few_alive) }
-
-abbrev KeepsAll : State → Tid → Result After Refusal → Type 0
-KeepsAll s tid (Ok after) = Fits s after.state tid × AreFew s.threads
-KeepsAll s tid (Err refusal) = Unit {0}
-
-with_few : (s : State) (tid : Tid) (r : Result After Refusal) → AreFew s.threads → Keeps s tid r → KeepsAll s tid r
-with_few s tid (Ok after) few keeps = (keeps, few)
-with_few s tid (Err refusal) few keeps = tt
-
-thread_keeps : (laws : TurnLaws) (s : State) (tid : Tid) (log : List Answer) (o : Option Thread) → AllByRecursion IsAnswer log → IsEncodable (without_reservation s tid) → thread_at s.threads tid ≡ o → KeepsAll s tid (by_thread s tid log o)
-thread_keeps laws s tid log None answers_are is there = tt
-thread_keeps laws s tid log (Some (Runs hart clear)) answers_are is there =
-    with_few s tid (by_effect s tid hart clear log (effect hart s.pages)) (few_before laws s tid hart clear log answers_are is there) (runs_keeps laws s tid hart clear log answers_are is there)
-thread_keeps laws s tid log (Some (Waits addr hart clear)) answers_are is there = tt
-thread_keeps laws s tid log (Some (Gone code)) answers_are is there = tt
-
-pub turn_keeps : TurnLaws → (s : State) (tid : Tid) (log : List Answer) (after : After) → IsEncodable (without_reservation s tid) → AllByRecursion IsAnswer log → turn s tid log ≡ Ok after → after.state.steps < 2 ^ 64 → after.state.input < 2 ^ 64
-    → IsEncodable (without_reservation after.state tid)
-unfolding turn
-turn_keeps laws s tid log after is answers_are taken steps input =
-    let kept = subst (KeepsAll s tid) taken (cond_both (has_ended s.end) _ _ (KeepsAll s tid) (λ _. tt) (λ _. thread_keeps laws s tid log (thread_at s.threads tid) answers_are is refl)) in
-    let few = laws.slice_few after.state tid (laws.few s tid log after taken kept.1) in
-    built (without_reservation after.state tid) s.heap (record { each = kept.0.each; some = kept.0.some; few = few.made; alive = few.alive }) kept.0.pages (kept.0.rest steps input)

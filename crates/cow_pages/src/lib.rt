@@ -29,6 +29,8 @@ mod table;
 pub use pages::Pages;
 
 #[cfg(test)]
+mod range_tests;
+#[cfg(test)]
 mod tests;
 #[cfg(test)]
 mod worked_code;

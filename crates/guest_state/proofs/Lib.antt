@@ -1,4 +1,5 @@
 pub mod Steps
 pub mod Codes
+pub mod CheckpointCode
 pub mod Many
 mod Scanning

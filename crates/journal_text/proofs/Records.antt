@@ -16,7 +16,7 @@ use Rattle.dp_base.proofs.Epochs.{epoch_code, only_if}
 use Rattle.dp_base.proofs.Sizes.{length-epoch_body}
 use Rattle.dp_base.proofs.Whole.{whole_code}
 use Rattle.guest_state.specs.Checkpoint.{Checkpoint, IsCheckpoint, checkpoint_bytes, checkpoint_from}
-use Rattle.guest_state.proofs.Codes.{checkpoint_code}
+use Rattle.guest_state.proofs.CheckpointCode.{checkpoint_code}
 use Rattle.journal_text.specs.View.{IsRecordBody}
 use Rattle.journal_text.specs.Records.{IsContent, IsRecord, Record, bad, body_of, ended, epoch, first_of, fitting_at, found, found_in, mark, mark_in, mark_kind, next_at, next_of, record_bytes, record_in}
 

@@ -1,4 +1,4 @@
-use Rattle.guest_state.proofs.Codes.{checkpoint_code}
+use Rattle.guest_state.proofs.CheckpointCode.{checkpoint_code}
 use Rattle.guest_state.proofs.laws.checkpoints.Goals as goal
 
 pub returns : goal.returns
