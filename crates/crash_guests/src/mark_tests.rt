@@ -3,9 +3,10 @@
 // Of nine epochs of one step: the header's 133 bytes, nine records of 20, and a closed gate. A mark of this guest has a body of 69,880
 // bytes, and its record 5 more.
 use super::WRITES;
-use crate::stopped::{Faults, NO_JOURNAL, Plays, file_of, is_prefix, plays, recording, replay};
+use crate::stopped::{Faults, NO_JOURNAL, Plays, is_prefix, plays, recording, replay};
 use disk_mem::Fails;
 use dp_report::Status;
+use guest_file::file_of;
 use std::alloc::Global;
 use std::test::Fail;
 

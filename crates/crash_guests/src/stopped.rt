@@ -5,33 +5,9 @@ use disk_mem::{CallNumbers, Fails, MemFiles, MemInlet, MemWorld, NamedFile};
 use disk_model::Stream;
 use dp_report::Status;
 use dp_top::run;
-use std::alloc::{AllocError, Global};
+use guest_file::file_of;
+use std::alloc::Global;
 use std::test::Fail;
-
-// A file's headers up to p_filesz, and those behind p_memsz: ELF32, little-endian, RISC-V, one segment that is the whole file at
-// 00010000, entry 00010054.
-const HEADERS_START: [u8; 68] = [
-    0x7f, 0x45, 0x4c, 0x46, 0x01, 0x01, 0x01, 0x00, 0x00, 0x00, 0x00, 0x00, 0x00, 0x00, 0x00, 0x00,
-    0x02, 0x00, 0xf3, 0x00, 0x01, 0x00, 0x00, 0x00, 0x54, 0x00, 0x01, 0x00, 0x34, 0x00, 0x00, 0x00,
-    0x00, 0x00, 0x00, 0x00, 0x00, 0x00, 0x00, 0x00, 0x34, 0x00, 0x20, 0x00, 0x01, 0x00, 0x00, 0x00,
-    0x00, 0x00, 0x00, 0x00, 0x01, 0x00, 0x00, 0x00, 0x00, 0x00, 0x00, 0x00, 0x00, 0x00, 0x01, 0x00,
-    0x00, 0x00, 0x01, 0x00,
-];
-
-const HEADERS_END: [u8; 8] = [0x05, 0x00, 0x00, 0x00, 0x00, 0x10, 0x00, 0x00];
-
-// The file of a guest of these words.
-pub(crate) fn file_of(alloc: Global, words: &[u32]) -> Result<Vec<u8>, AllocError> {
-    let size = words.len().min(1000) as u32 * 4 + 84;
-    let mut file = HEADERS_START.to_vec(alloc)?;
-    file.extend_from_slice(&size.to_le_bytes())?;
-    file.extend_from_slice(&size.to_le_bytes())?;
-    file.extend_from_slice(&HEADERS_END)?;
-    for word in words {
-        file.extend_from_slice(&word.to_le_bytes())?;
-    }
-    Ok(file)
-}
 
 // The call with this number fails.
 pub(crate) fn at(alloc: Global, number: u64) -> Result<Fails, Fail> {

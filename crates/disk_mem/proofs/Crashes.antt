@@ -7,6 +7,7 @@ use Rattle.std.proofs.lemmas.List.FromFn.{get_or-map-range_with_len, length-map-
 use Rattle.std.proofs.Math.ListN.{get_or-append}
 use Rattle.std.specs.Prelude.{◌&&◌, ◌||◌, nat_le, nat_lt, if◌then◌else◌, slice_index}
 use Rattle.dp_base.specs.Field.{AreBytes}
+use Rattle.disk_model.proofs.Images.{length-overwritten, overwritten-outside}
 use Rattle.disk_model.specs.History.{Range, Pending, History, IsOutside, IsImage, nothing_pending, write_pending}
 use Rattle.disk_model.specs.Known.{overwritten}
 use Rattle.disk_model.specs.Steps.{cut_pending}
@@ -17,7 +18,7 @@ use Rattle.disk_mem.specs.Replay.{start, after_call, replay}
 use Rattle.disk_mem.specs.Recording.{Recording, recording}
 use Rattle.disk_mem.specs.Crashing.{without_pending, is_within, byte_or_one, with_ones}
 use Rattle.disk_mem.proofs.Keeps.{replay-push}
-use Rattle.disk_mem.proofs.Spans.{length-overwritten, overwritten-outside, spans-replay, spans-synced}
+use Rattle.disk_mem.proofs.Spans.{spans-replay, spans-synced}
 
 -- ---- one byte
 

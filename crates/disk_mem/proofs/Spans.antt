@@ -1,9 +1,10 @@
 -- What a read gives is one of the images that a crash may leave.
-use Rattle.std.proofs.Common.{◌≡◌, ◌⊎◌, inl, inr, true, false, ℕ, ◌+◌, ◌-◌, ◌<◌, ◌≤◌, max, List, [], ◌∷◌, ◌++◌, length, take, drop, replicate, get_or, refl, ◌∙◌, subst, arith, rules, length-append, length-take, length-drop}
-use Rattle.std.proofs.lemmas.List.{get_or-take, length-replicate, places}
+use Rattle.std.proofs.Common.{◌≡◌, true, false, ℕ, ◌-◌, ◌<◌, ◌≤◌, max, List, [], ◌∷◌, length, take, replicate, get_or, refl, ◌∙◌, subst, arith, length-append, length-take}
+use Rattle.std.proofs.lemmas.List.{get_or-take, length-replicate}
 use Rattle.std.proofs.Math.ListN.{get_or-append}
 use Rattle.dp_base.specs.Field.{AreBytes}
 use Rattle.disk_model.specs.History.{Pending, History, IsOutside, IsImage, nothing_pending, write_pending}
+use Rattle.disk_model.proofs.Images.{length-overwritten, overwritten-outside}
 use Rattle.disk_model.specs.Known.{overwritten}
 use Rattle.disk_model.specs.Steps.{cut_pending}
 use Rattle.disk_model.specs.declared.world.Stream.TheVariants.{Out, Note}
@@ -19,15 +20,6 @@ pub record Spans (p : Pending) (disk : List ℕ) : Type 0 where
 
 length-filled : (at : ℕ) (disk : List ℕ) → length (filled at disk) ≡ max (length disk) at
 length-filled at disk = omega (arith, length-append disk (replicate (at - length disk) 0), length-replicate {A = ℕ} (at - length disk) 0)
-
-pub length-overwritten : (at : ℕ) (bytes disk : List ℕ) → at ≤ length disk → length (overwritten at bytes disk) ≡ max (length disk) (at + length bytes)
-length-overwritten at bytes disk within =
-    omega (arith, length-append (take at disk ++ bytes) (drop (at + length bytes) disk), length-append (take at disk) bytes, length-take at disk, length-drop (at + length bytes) disk)
-
--- outside of its range a write leaves what was there
-pub overwritten-outside : (at : ℕ) (bytes disk : List ℕ) (i : ℕ) → at ≤ length disk → i < length disk → (i < at) ⊎ (at + length bytes ≤ i) → get_or (overwritten at bytes disk) i 0 ≡ get_or disk i 0
-overwritten-outside at bytes disk i within below (inl before) = search (rules, places)
-overwritten-outside at bytes disk i within below (inr behind) = search (rules, places)
 
 spans-write : (at : ℕ) (bytes : List ℕ) (p : Pending) (disk : List ℕ) → Spans p disk → Spans (write_pending at (length bytes) p) (overwritten at bytes (filled at disk))
 spans-write at bytes p disk is =

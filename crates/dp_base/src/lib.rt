@@ -46,3 +46,5 @@ pub use tid::Tid;
 mod tests;
 #[cfg(test)]
 mod worked_bytes;
+#[cfg(test)]
+mod worked_limits;

@@ -1,8 +1,9 @@
 // Journals byte by byte, and such as no recording writes.
 use super::*;
-use crate::recorded::{STEPS, file_of, input_of, record, replay};
+use crate::recorded::{STEPS, input_of, record, replay};
 use disk_mem::Fails;
 use dp_report::Status;
+use guest_file::file_of;
 use std::alloc::Global;
 use std::test::Fail;
 
