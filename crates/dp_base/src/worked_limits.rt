@@ -1,5 +1,5 @@
 // The limits, each by its number.
-ghost use Rattle.std.specs.Prelude.{◌≡◌, ◌^◌};
+ghost use Rattle.std.specs.Prelude.{◌≡◌, ◌^◌, length};
 ghost use Rattle.dp_base.specs.declared.limits.TheConstants.{
   EPOCH_END_BYTES,
   FIRST_STACK_PAGE,
@@ -18,6 +18,8 @@ ghost use Rattle.dp_base.specs.declared.limits.TheConstants.{
   STACK_PAGES,
   STACK_POINTER,
 };
+
+use crate::Page;
 
 // What a guest may have.
 fn guests()
@@ -41,4 +43,9 @@ fn recordings()
     ensures journal { MAX_JOURNAL_BYTES ≡ 2 ^ 30 }
     ensures workers { MAX_WORKERS ≡ 64 }
     ensures jobs { MAX_JOBS ≡ 64 }
+{}
+
+// The bytes of a page are as many as the limit says.
+fn pages(page: &Page)
+    ensures { length page.now.bytes ≡ PAGE_BYTES }
 {}
