@@ -328,11 +328,32 @@ mod tests {
         })
     }
 
-    #[test]
-    fn writes(rt: HostRuntime) -> Result<(), Fail> {
-        let alloc = rt.alloc();
-        // fd, addr and len; the answer; how many bytes are written, and how they start
-        let cases: [([u32; 3], u32, usize, &[u8]); 18] = [
+    // The turn and the step count; how many bytes are written, and whether they start so; a0, the pc and the clear address.
+    type Written = ((Turn, u64), (usize, bool), (u32, u32, u32));
+
+    fn write(alloc: Global, arguments: [u32; 3], first: &[u8]) -> Result<Written, Fail> {
+        let mut state = at_write(alloc, arguments)?;
+        if state.steps != 0 {
+            return Err("no turn was taken".into());
+        }
+        let mut out = Vec::from_slice(alloc, b"x")?;
+        let turn = state.turn(alloc, Tid(1), None, &mut out)?;
+        let [b'x', written @ ..] = out.as_slice() else {
+            return Err("the bytes before stay".into());
+        };
+        let Some(Thread::Runs { hart, clear }) = state.threads.get(Tid(1)) else {
+            return Err("thread 1 runs".into());
+        };
+        Ok((
+            (turn, state.steps),
+            (written.len(), written.starts_with(first)),
+            (hart.register(A0), hart.pc, *clear),
+        ))
+    }
+
+    // Fd, addr and len; the answer; how many bytes are written, and how they start.
+    fn write_cases() -> [([u32; 3], u32, usize, &'static [u8]); 18] {
+        [
             ([0, 0x11ffe, 4], 0xffff_fff7, 0, b""),
             ([2, 0x11ffe, 4], 0xffff_fff7, 0, b""),
             ([0xffff_ffff, 0x11ffe, 4], 0xffff_fff7, 0, b""),
@@ -351,30 +372,19 @@ mod tests {
             ([1, 0x12000, 4097], 4096, 4096, b"cd\0"),
             ([1, 0x11ffe, 0xffff_ffff], 4096, 4096, b"abcd\0"),
             ([1, 0x12001, 4096], 0xffff_fff2, 0, b""),
-        ];
-        for (arguments, answer, len, first) in cases {
-            let mut state = at_write(alloc, arguments)?;
-            assert_eq!(rt; state.steps, 0);
-            let mut out = Vec::from_slice(alloc, b"x")?;
-            let turn = state.turn(alloc, Tid(1), None, &mut out)?;
-            assert_eq!(rt;
-                (turn, state.steps),
-                (
-                    Turn::Stepped {
-                        used: false,
-                        yielded: false
-                    },
-                    1
-                )
-            );
-            let [b'x', written @ ..] = out.as_slice() else {
-                return Err("the bytes before stay".into());
-            };
-            assert!(rt; written.len() == len && written.starts_with(first));
-            let Some(Thread::Runs { hart, clear }) = state.threads.get(Tid(1)) else {
-                return Err("thread 1 runs".into());
-            };
-            assert_eq!(rt; (hart.register(A0), hart.pc, *clear), (answer, 0x10004, 8));
+        ]
+    }
+
+    #[test]
+    fn writes(rt: HostRuntime) -> Result<(), Fail> {
+        let went = Turn::Stepped {
+            used: false,
+            yielded: false,
+        };
+        for (arguments, answer, len, first) in write_cases() {
+            let found = write(rt.alloc(), arguments, first)?;
+            let wanted = ((went, 1), (len, true), (answer, 0x10004, 8));
+            assert_eq!(rt; found, wanted, "{arguments:?}");
         }
         Ok(())
     }

@@ -2,6 +2,7 @@
 ghost use Rattle.std.specs.Prelude.{◌≡◌, IfOk};
 
 use super::*;
+use crate::one_turn::one_turn;
 use dp_base::Tid;
 use dp_base::limits::MAX_THREADS;
 use std::alloc::Global;
@@ -157,11 +158,17 @@ fn word_at(pages: &Pages, address: u32) -> Option<u32> {
 
 // What a call leaves: the guest's end, the word at its thread's clear address, rounded down, and the first thread that stands
 // otherwise than is wanted.
-#[derive(Clone, Copy, Debug, PartialEq, Eq)]
-pub(crate) struct Seen {
-    pub(crate) end: End,
-    pub(crate) word: Option<u32>,
-    pub(crate) wrong: Option<(usize, Stand)>,
+pub(crate) type Seen = (End, Option<u32>, Option<(usize, Stand)>);
+
+// The first thread that stands otherwise than is wanted.
+fn first_wrong(threads: &[Thread], wanted: &[Stand]) -> Option<(usize, Stand)> {
+    for (place, (thread, wanted)) in threads.iter().zip(wanted).enumerate() {
+        let found = stand_of(Some(thread));
+        if found != *wanted {
+            return Some((place, found));
+        }
+    }
+    None
 }
 
 // What is seen behind a call of a thread, where the threads stood so before, and should stand so behind it.
@@ -171,35 +178,23 @@ pub(crate) fn look(
     before: &[Stand],
     after: &[Stand],
 ) -> Result<Seen, Fail> {
-    let mut state = state_of(alloc, caller, before)?;
-    let mut out = Vec::new(alloc);
-    let turn = state.turn(alloc, Tid(caller.tid), None, &mut out)?;
-    if !matches!(turn, Turn::Stepped { used: false, .. }) || state.steps != 1 || !out.is_empty() {
+    let (turn, state, written) = one_turn(alloc, state_of(alloc, caller, before)?, caller.tid)?;
+    if !matches!(turn, Turn::Stepped { used: false, .. }) || state.steps != 1 || written != 0 {
         return Err("a turn without an answer and without output".into());
     }
     if state.threads.len() != after.len() {
         return Err("a thread was made".into());
     }
-    let mut wrong = None;
-    for (place, (thread, wanted)) in state.threads.as_slice().iter().zip(after).enumerate() {
-        let found = stand_of(Some(thread));
-        if wrong.is_none() && found != *wanted {
-            wrong = Some((place, found));
-        }
-    }
-    Ok(Seen {
-        end: state.end,
-        word: word_at(&state.pages, caller.clear / 4 * 4),
-        wrong,
-    })
+    let word = word_at(&state.pages, caller.clear / 4 * 4);
+    let wrong = first_wrong(state.threads.as_slice(), after);
+    Ok((state.end, word, wrong))
 }
 
-// Threads 1 to 3 before exit_thread(9) of one of them and behind it, and the end. Its clear address is 00011000.
-#[test]
-fn ends_of_exits(rt: HostRuntime) -> Result<(), Fail> {
+// The thread that exits with 9, threads 1 to 3 before that and behind it, and the end. Its clear address is 00011000.
+fn exits() -> [(u16, [Stand; 3], [Stand; 3], End); 11] {
     let (gone, other) = (Stand::Gone(9), Stand::Gone(3));
     let (waiting, elsewhere, woken) = (waits(0x11000), waits(0x11004), answered(0));
-    let cases = [
+    [
         // the last thread, which needn't be thread 1 or the one with the highest number
         (1, [CALLS, other, other], [gone, other, other], End::Exit(9)),
         (2, [other, CALLS, other], [other, gone, other], End::Exit(9)),
@@ -241,23 +236,31 @@ fn ends_of_exits(rt: HostRuntime) -> Result<(), Fail> {
             [woken, gone, elsewhere],
             End::None,
         ),
-    ];
-    for (tid, before, after, end) in cases {
-        let found = look(rt.alloc(), on_a_word(tid, [0, 9, 0]), &before, &after)?;
-        let wanted = Seen {
-            end,
-            word: Some(0),
-            wrong: None,
-        };
-        assert_eq!(rt; found, wanted);
+    ]
+}
+
+// What is seen behind an exit of a thread with 9.
+fn after_exit(
+    alloc: Global,
+    tid: u16,
+    before: [Stand; 3],
+    after: [Stand; 3],
+) -> Result<Seen, Fail> {
+    look(alloc, on_a_word(tid, [0, 9, 0]), &before, &after)
+}
+
+#[test]
+fn ends_of_exits(rt: HostRuntime) -> Result<(), Fail> {
+    for (tid, before, after, end) in exits() {
+        let found = after_exit(rt.alloc(), tid, before, after)?;
+        assert_eq!(rt; found, (end, Some(0), None));
     }
     Ok(())
 }
 
-// Thread 1 exits, and thread 2 waits on its clear address: the word there, and whether thread 2 is woken.
-#[test]
-fn clear_addresses(rt: HostRuntime) -> Result<(), Fail> {
-    let cases = [
+// Thread 1 exits, and thread 2 waits on its clear address: that, the word there, and whether thread 2 is woken.
+fn clearings() -> [(u32, Option<u32>, bool); 11] {
+    [
         (0x11000, Some(0), true),
         (0x11004, Some(0), true),
         // a page that may only be written
@@ -273,8 +276,12 @@ fn clear_addresses(rt: HostRuntime) -> Result<(), Fail> {
         (0x10000, Some(0x73), false),
         (0x50000, None, false),
         (0xffff_fffc, None, false),
-    ];
-    for (clear, word, woken) in cases {
+    ]
+}
+
+#[test]
+fn clear_addresses(rt: HostRuntime) -> Result<(), Fail> {
+    for (clear, word, woken) in clearings() {
         let caller = Caller {
             tid: 1,
             clear,
@@ -287,12 +294,7 @@ fn clear_addresses(rt: HostRuntime) -> Result<(), Fail> {
         };
         let before = [CALLS, waits(clear)];
         let found = look(rt.alloc(), caller, &before, &[Stand::Gone(9), stand])?;
-        let wanted = Seen {
-            end,
-            word,
-            wrong: None,
-        };
-        assert_eq!(rt; found, wanted, "clear address {clear:x}");
+        assert_eq!(rt; found, (end, word, None), "clear address {clear:x}");
     }
     Ok(())
 }

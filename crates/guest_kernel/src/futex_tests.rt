@@ -1,6 +1,7 @@
 // Waits and wakes, each turn worked out by hand.
 use super::*;
 use crate::call_tests::{CALLS, IDLE, Seen, Stand, answered, look, on_a_word, waits};
+use std::alloc::Global;
 use std::test::Fail;
 
 const EAGAIN: u32 = 0xffff_fff5;
@@ -11,17 +12,12 @@ const EINVAL: u32 = 0xffff_ffea;
 
 // Where a call writes nothing.
 fn as_wanted(end: End) -> Seen {
-    Seen {
-        end,
-        word: Some(5),
-        wrong: None,
-    }
+    (end, Some(5), None)
 }
 
-#[test]
-fn waits_that_fail(rt: HostRuntime) -> Result<(), Fail> {
-    // the address, the word that is expected, the answer
-    let cases = [
+// The address, the word that is expected, the answer.
+fn failing_waits() -> [(u32, u32, u32); 17] {
+    [
         // no multiple of 4: on a word as it is expected, on others, and where nothing may be read
         (0x11001, 0x0400_0000, EINVAL),
         (0x11002, 0x0304_0000, EINVAL),
@@ -42,8 +38,12 @@ fn waits_that_fail(rt: HostRuntime) -> Result<(), Fail> {
         (0x11000, 0x8000_0005, EAGAIN),
         (0x11004, 5, EAGAIN),
         (0x12000, 0, EAGAIN),
-    ];
-    for (addr, expected, answer) in cases {
+    ]
+}
+
+#[test]
+fn waits_that_fail(rt: HostRuntime) -> Result<(), Fail> {
+    for (addr, expected, answer) in failing_waits() {
         let caller = on_a_word(1, [5, addr, expected]);
         let found = look(rt.alloc(), caller, &[CALLS], &[answered(answer)])?;
         assert_eq!(rt; found, as_wanted(End::None), "at {addr:x}, {expected:x}");
@@ -51,12 +51,10 @@ fn waits_that_fail(rt: HostRuntime) -> Result<(), Fail> {
     Ok(())
 }
 
-// Thread 2 waits on 00011004 or on 00012000.
-#[test]
-fn waits_that_begin(rt: HostRuntime) -> Result<(), Fail> {
+// The address, the word there, threads 1 and 3, and the end.
+fn beginning_waits() -> [(u32, u32, Stand, Stand, End); 6] {
     let others = waits(0x11000);
-    // the address, the word there, threads 1 and 3, and the end
-    let cases = [
+    [
         (0x11004, 0x0102_0304, IDLE, IDLE, End::None),
         (0x12000, 5, IDLE, Stand::Gone(9), End::None),
         (0x12000, 5, others, IDLE, End::None),
@@ -69,8 +67,13 @@ fn waits_that_begin(rt: HostRuntime) -> Result<(), Fail> {
             End::Deadlock,
         ),
         (0x11004, 0x0102_0304, Stand::Gone(0), others, End::Deadlock),
-    ];
-    for (addr, word, first, last, end) in cases {
+    ]
+}
+
+// Thread 2 waits on 00011004 or on 00012000.
+#[test]
+fn waits_that_begin(rt: HostRuntime) -> Result<(), Fail> {
+    for (addr, word, first, last, end) in beginning_waits() {
         let waiting = Stand::Waits {
             on: addr,
             pc: 0x10004,
@@ -84,12 +87,10 @@ fn waits_that_begin(rt: HostRuntime) -> Result<(), Fail> {
     Ok(())
 }
 
-#[test]
-fn wakes(rt: HostRuntime) -> Result<(), Fail> {
-    let alloc = rt.alloc();
+// Who wakes, on which address and at most how many; the threads before, and those behind it.
+fn cases_of_wakes() -> [(u16, [u32; 2], [Stand; 4], [Stand; 4]); 11] {
     let (waiting, elsewhere, woken) = (waits(0x11000), waits(0x11004), answered(0));
-    // who wakes, on which address and at most how many; the threads before, and those behind it
-    let cases: [(u16, [u32; 2], [Stand; 4], [Stand; 4]); 11] = [
+    [
         // of threads 2 and 3 the lowest
         (
             1,
@@ -162,9 +163,25 @@ fn wakes(rt: HostRuntime) -> Result<(), Fail> {
             [CALLS, waits(0x50001), waiting, IDLE],
             [answered(1), woken, waiting, IDLE],
         ),
-    ];
-    for (tid, [addr, count], before, after) in cases {
-        let found = look(alloc, on_a_word(tid, [6, addr, count]), &before, &after)?;
+    ]
+}
+
+// What is seen behind a wake by a thread, on an address and of at most so many.
+fn after_wake(
+    alloc: Global,
+    tid: u16,
+    arguments: [u32; 2],
+    before: [Stand; 4],
+    after: [Stand; 4],
+) -> Result<Seen, Fail> {
+    let [addr, count] = arguments;
+    look(alloc, on_a_word(tid, [6, addr, count]), &before, &after)
+}
+
+#[test]
+fn wakes(rt: HostRuntime) -> Result<(), Fail> {
+    for (tid, [addr, count], before, after) in cases_of_wakes() {
+        let found = after_wake(rt.alloc(), tid, [addr, count], before, after)?;
         assert_eq!(rt; found, as_wanted(End::None), "{count} at {addr:x}");
     }
     Ok(())

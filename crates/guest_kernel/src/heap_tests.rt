@@ -28,12 +28,7 @@ fn brk(alloc: Global, state: &mut State, pc: u32, new: u32) -> Result<u32, Fail>
 }
 
 // The last answer, the break, and how many pages are mapped.
-#[derive(Clone, Copy, Debug, PartialEq, Eq)]
-struct Seen {
-    answer: u32,
-    brk: u32,
-    pages: u32,
-}
+type Seen = (u32, u32, u32);
 
 // A guest's start state behind so many moves of its break. Its heap starts at 00011000, and 17 pages are mapped.
 fn moved(alloc: Global, breaks: &[u32]) -> Result<Seen, Fail> {
@@ -42,18 +37,12 @@ fn moved(alloc: Global, breaks: &[u32]) -> Result<Seen, Fail> {
     for new in breaks {
         answer = brk(alloc, &mut state, 0x10054, *new)?;
     }
-    Ok(Seen {
-        answer,
-        brk: state.brk,
-        pages: state.pages.pages(),
-    })
+    Ok((answer, state.brk, state.pages.pages()))
 }
 
-#[test]
-fn from_the_start(rt: HostRuntime) -> Result<(), Fail> {
-    let alloc = rt.alloc();
-    // the breaks, the last answer, and how many pages are mapped
-    let cases: [(&[u32], u32, u32); 19] = [
+// The breaks, the last answer, and how many pages are mapped.
+fn moves() -> [(&'static [u32], u32, u32); 19] {
+    [
         // 1,007 pages more, and one too many
         (&[0x40_0000], 0x40_0000, 1024),
         (&[0x40_0000, 0x40_0001], 0x40_0000, 1024),
@@ -79,13 +68,14 @@ fn from_the_start(rt: HostRuntime) -> Result<(), Fail> {
         (&[0x1_1001, 0x1_2000], 0x1_2000, 18),
         (&[0x1_1001, 0x1_2001], 0x1_2001, 19),
         (&[0x1_2001, 0x1_1fff], 0x1_1fff, 18),
-    ];
-    for (breaks, answer, pages) in cases {
-        let wanted = Seen {
-            answer,
-            brk: answer,
-            pages,
-        };
+    ]
+}
+
+#[test]
+fn from_the_start(rt: HostRuntime) -> Result<(), Fail> {
+    let alloc = rt.alloc();
+    for (breaks, answer, pages) in moves() {
+        let wanted = (answer, answer, pages);
         let found = moved(alloc, breaks)?;
         assert_eq!(rt; found, wanted, "{answer:x}, {pages} pages");
     }
@@ -113,9 +103,9 @@ fn byte_behind(
     }
 }
 
-#[test]
-fn bytes_of_the_heap(rt: HostRuntime) -> Result<(), Fail> {
-    let cases = [
+// The first break, the address, the other breaks, and the byte.
+fn bytes_behind() -> [(u32, u32, [u32; 2], Option<u32>); 8] {
+    [
         // down and up again: zeros
         (0x13000, 0x11000, [0x11000, 0x13000], Some(0)),
         (0x13000, 0x12fff, [0x12000, 0x12001], Some(0)),
@@ -128,8 +118,12 @@ fn bytes_of_the_heap(rt: HostRuntime) -> Result<(), Fail> {
         (0x13000, 0x11fff, [0x11001, 0x14000], Some(9)),
         // behind moves that are refused
         (0x13000, 0x12000, [0x10fff, 0xffff_f000], Some(9)),
-    ];
-    for (first, address, breaks, byte) in cases {
+    ]
+}
+
+#[test]
+fn bytes_of_the_heap(rt: HostRuntime) -> Result<(), Fail> {
+    for (first, address, breaks, byte) in bytes_behind() {
         let found = byte_behind(rt.alloc(), first, address, breaks)?;
         assert_eq!(rt; found, byte, "at {address:x}, from {first:x}");
     }
@@ -166,18 +160,13 @@ fn moved_from(
         end: End::None,
     };
     let answer = brk(alloc, &mut state, 0x8000, new)?;
-    let seen = Seen {
-        answer,
-        brk: state.brk,
-        pages: state.pages.pages(),
-    };
+    let seen = (answer, state.brk, state.pages.pages());
     Ok((seen, state.pages.flags(page)))
 }
 
-#[test]
-fn other_heaps(rt: HostRuntime) -> Result<(), Fail> {
-    // the heap's start and its break, the pages, the new break; the answer, how many pages are mapped, and a page's flags
-    let cases: [([u32; 2], &[u32], u32, u32, u32, (u32, Option<u8>)); 15] = [
+// The heap's start and its break, the pages, the new break; the answer, how many pages are mapped, and a page's flags.
+fn moves_of_other_heaps() -> [([u32; 2], &'static [u32], u32, u32, u32, (u32, Option<u8>)); 15] {
+    [
         // up to a page of a segment, over it, and past it
         ([0x11000; 2], &[0x13], 0x13000, 0x13000, 4, (0x12, Some(6))),
         ([0x11000; 2], &[0x13], 0x13001, 0x11000, 2, (0x12, None)),
@@ -283,13 +272,13 @@ fn other_heaps(rt: HostRuntime) -> Result<(), Fail> {
             1,
             (0xffffe, None),
         ),
-    ];
-    for (heap, mapped, new, answer, pages, (page, flags)) in cases {
-        let wanted = Seen {
-            answer,
-            brk: answer,
-            pages,
-        };
+    ]
+}
+
+#[test]
+fn other_heaps(rt: HostRuntime) -> Result<(), Fail> {
+    for (heap, mapped, new, answer, pages, (page, flags)) in moves_of_other_heaps() {
+        let wanted = (answer, answer, pages);
         let found = moved_from(rt.alloc(), heap, mapped, new, page)?;
         assert_eq!(rt; found, (wanted, flags), "to {new:x}");
     }

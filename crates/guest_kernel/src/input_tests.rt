@@ -7,22 +7,16 @@ use std::alloc::Global;
 use std::test::Fail;
 
 // An answer, without its memory.
-#[derive(Clone, Copy, Debug)]
+#[derive(Clone, Copy)]
 pub(crate) enum Given {
     Read(&'static [u8]),
+    // So many bytes `p`.
+    Filled(usize),
     Clock(u64),
 }
 
-// What a turn at a call came to.
-#[derive(Clone, Copy, Debug, PartialEq, Eq)]
-pub(crate) struct Seen {
-    turn: Turn,
-    a0: u32,
-    a1: u32,
-    pc: u32,
-    place: u64,
-    steps: u64,
-}
+// What a turn at a call came to, a0, a1 and the pc behind it, how many bytes were read, and the step count.
+pub(crate) type Seen = (Turn, u32, u32, u32, u64, u64);
 
 const USED: Turn = Turn::Stepped {
     used: true,
@@ -82,6 +76,11 @@ pub(crate) fn at_call(
 pub(crate) fn answer_of(alloc: Global, given: Given) -> Result<Answer, OutOfMemory> {
     Ok(match given {
         Given::Read(bytes) => Answer::Read(Bytes::from_vec(bytes.to_vec(alloc)?)),
+        Given::Filled(count) => {
+            let mut bytes = Vec::new(alloc);
+            bytes.resize(count, b'p')?;
+            Answer::Read(Bytes::from_vec(bytes))
+        }
         Given::Clock(reading) => Answer::Clock(reading),
     })
 }
@@ -106,22 +105,24 @@ pub(crate) fn turn_at(
         Some(Thread::Runs { hart, .. }) => (hart.register(10), hart.register(11), hart.pc),
         _ => (0, 0, 0),
     };
-    Ok(Seen {
-        turn,
-        a0,
-        a1,
-        pc,
-        place: state.input,
-        steps: state.steps,
-    })
+    Ok((turn, a0, a1, pc, state.input, state.steps))
 }
 
-#[test]
-fn reads(rt: HostRuntime) -> Result<(), Fail> {
-    let alloc = rt.alloc();
-    let page = Given::Read(&[b'p'; 4096]);
-    // fd, addr and len; the answer that is given; the turn, a0 and the input's place behind it
-    let cases = [
+// A turn of a guest at a call.
+fn seen_at(
+    alloc: Global,
+    number: u32,
+    arguments: [u32; 3],
+    given: Option<Given>,
+) -> Result<Seen, OutOfMemory> {
+    let mut state = at_call(alloc, number, arguments)?;
+    turn_at(alloc, &mut state, given)
+}
+
+// Fd, addr and len; the answer that is given; the turn, a0 and the input's place behind it.
+fn read_cases() -> [([u32; 3], Option<Given>, Turn, u32, u64); 20] {
+    let page = Given::Filled(4096);
+    [
         // Other descriptors, no bytes, and bytes that may not be written, whatever is given.
         ([1, 0x11000, 4], None, ALONE, 0xffff_fff7, 5),
         (
@@ -170,35 +171,34 @@ fn reads(rt: HostRuntime) -> Result<(), Fail> {
         ([0, 0x13000, u32::MAX], Some(page), USED, 4096, 4101),
         (
             [0, 0x13000, 4097],
-            Some(Given::Read(&[b'p'; 4097])),
+            Some(Given::Filled(4097)),
             Turn::WrongAnswer,
             0,
             5,
         ),
         ([0, 0x13000, 4095], Some(page), Turn::WrongAnswer, 0, 5),
-    ];
-    for (arguments, given, turn, a0, place) in cases {
-        let mut state = at_call(alloc, 3, arguments)?;
-        let seen = turn_at(alloc, &mut state, given)?;
+    ]
+}
+
+#[test]
+fn reads(rt: HostRuntime) -> Result<(), Fail> {
+    let alloc = rt.alloc();
+    for (arguments, given, turn, a0, place) in read_cases() {
+        let seen = seen_at(alloc, 3, arguments, given)?;
         let [_, addr, _] = arguments;
         let taken = turn == USED || turn == ALONE;
-        let expected = Seen {
-            turn,
-            a0: if taken { a0 } else { seen.a0 },
-            a1: addr,
-            pc: if taken { 0x10004 } else { 0x10000 },
-            place,
-            steps: u64::from(taken),
-        };
+        let (_, unmoved, ..) = seen;
+        let a0 = if taken { a0 } else { unmoved };
+        let pc = if taken { 0x10004 } else { 0x10000 };
+        let expected = (turn, a0, addr, pc, place, u64::from(taken));
         assert_eq!(rt; seen, expected, "at {arguments:?}");
     }
     Ok(())
 }
 
-#[test]
-fn clocks(rt: HostRuntime) -> Result<(), Fail> {
-    let alloc = rt.alloc();
-    let cases = [
+// The answer that is given; the turn, a0, a1 and the pc behind it.
+fn clock_cases() -> [(Option<Given>, Turn, u32, u32, u32); 7] {
+    [
         (None, Turn::NeedsAnswer, 1, 2, 0x10000),
         (Some(Given::Read(b"")), Turn::WrongAnswer, 1, 2, 0x10000),
         (Some(Given::Clock(0)), USED, 0, 0, 0x10004),
@@ -224,36 +224,37 @@ fn clocks(rt: HostRuntime) -> Result<(), Fail> {
             0x0123_4567,
             0x10004,
         ),
-    ];
-    for (given, turn, a0, a1, pc) in cases {
-        let mut state = at_call(alloc, 8, [1, 2, 3])?;
-        let seen = turn_at(alloc, &mut state, given)?;
+    ]
+}
+
+#[test]
+fn clocks(rt: HostRuntime) -> Result<(), Fail> {
+    let alloc = rt.alloc();
+    for (given, turn, a0, a1, pc) in clock_cases() {
+        let seen = seen_at(alloc, 8, [1, 2, 3], given)?;
         let steps = u64::from(turn == USED);
-        assert_eq!(rt;
-            seen,
-            Seen {
-                turn,
-                a0,
-                a1,
-                pc,
-                place: 5,
-                steps
-            }
-        );
+        assert_eq!(rt; seen, (turn, a0, a1, pc, 5, steps));
     }
     Ok(())
 }
 
-// The bytes of a read stand where it asked for them, across two pages, and nothing else has changed.
-#[test]
-fn where_bytes_go(rt: HostRuntime) -> Result<(), Fail> {
-    let alloc = rt.alloc();
+// The turn and a0 behind a read of three bytes across two pages, and whether each page has its part and zeros elsewhere.
+fn read_across(alloc: Global) -> Result<(Turn, u32, bool, bool), Fail> {
     let mut state = at_call(alloc, 3, [0, 0x13ffe, 9])?;
-    let seen = turn_at(alloc, &mut state, Some(Given::Read(b"abc")))?;
-    assert_eq!(rt; (seen.turn, seen.a0), (USED, 3));
+    let (turn, a0, ..) = turn_at(alloc, &mut state, Some(Given::Read(b"abc")))?;
     let low = state.pages.page_bytes(0x13).ok_or("mapped")?;
     let high = state.pages.page_bytes(0x14).ok_or("mapped")?;
-    assert!(rt; low.ends_with(b"\0ab") && low.starts_with(b"\0\0"));
-    assert!(rt; high.starts_with(b"c\0") && high.ends_with(b"\0\0"));
+    Ok((
+        turn,
+        a0,
+        low.ends_with(b"\0ab") && low.starts_with(b"\0\0"),
+        high.starts_with(b"c\0") && high.ends_with(b"\0\0"),
+    ))
+}
+
+// The bytes of a read stand where it asked for them, and nothing else has changed.
+#[test]
+fn where_bytes_go(rt: HostRuntime) -> Result<(), Fail> {
+    assert_eq!(rt; read_across(rt.alloc())?, (USED, 3, true, true));
     Ok(())
 }

@@ -40,11 +40,15 @@ pub use turn_peek::Peek;
 #[cfg(test)]
 mod call_tests;
 #[cfg(test)]
+mod fault_tests;
+#[cfg(test)]
 mod futex_tests;
 #[cfg(test)]
 mod heap_tests;
 #[cfg(test)]
 mod input_tests;
+#[cfg(test)]
+mod one_turn;
 #[cfg(test)]
 mod start_tests;
 #[cfg(test)]

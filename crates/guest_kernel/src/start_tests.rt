@@ -1,7 +1,7 @@
 // The states in which guests start, each by hand from its file.
 use super::*;
-use crate::tests::{EXIT_SEVEN, guest, guest_of, hart_of, started, trap};
-use dp_base::{Slice, Tid};
+use crate::one_turn::one_turn;
+use crate::tests::{EXIT_SEVEN, guest, hart_of, ran_from, slice, started, trap};
 use std::alloc::{AllocError, Global};
 use std::test::Fail;
 
@@ -21,7 +21,12 @@ const WITH_ATTRIBUTES: [u8; 128] = [
 const CONTENTS: [u8; 8] = [0x11, 0x12, 0x13, 0x14, 0x15, 0x16, 0x17, 0x18];
 
 // A file with these bytes at an offset in place of its own.
-fn patched(alloc: Global, file: &[u8], offset: usize, bytes: &[u8]) -> Result<Vec<u8>, AllocError> {
+pub(crate) fn patched(
+    alloc: Global,
+    file: &[u8],
+    offset: usize,
+    bytes: &[u8],
+) -> Result<Vec<u8>, AllocError> {
     let mut patched = file.to_vec(alloc)?;
     for (old, new) in patched.iter_mut().skip(offset).zip(bytes) {
         *old = *new;
@@ -30,7 +35,11 @@ fn patched(alloc: Global, file: &[u8], offset: usize, bytes: &[u8]) -> Result<Ve
 }
 
 // A file with this entry and these segments: p_offset, p_vaddr, p_filesz, p_memsz, p_flags. `CONTENTS` are at 0x100.
-fn file_of(alloc: Global, entry: u32, segments: &[[u32; 5]]) -> Result<Vec<u8>, AllocError> {
+pub(crate) fn file_of(
+    alloc: Global,
+    entry: u32,
+    segments: &[[u32; 5]],
+) -> Result<Vec<u8>, AllocError> {
     let mut file = guest(alloc, &[])?;
     file.truncate(52);
     let count = segments.len().min(6) as u8;
@@ -67,62 +76,84 @@ fn is_page(pages: &Pages, place: usize, row: Row) -> bool {
         })
 }
 
-// A state in which a guest starts: thread 1's pc, the heap's start, the break, how many pages there are, and the first
-// place at which another page stands than is wanted.
-#[derive(Clone, Copy, Debug, PartialEq, Eq)]
-struct Seen {
-    pc: u32,
-    heap: u32,
-    brk: u32,
-    pages: u32,
-    wrong: Option<usize>,
+// The first place at which another page stands than these: pages below the stack, its own, and those above it.
+fn first_wrong(pages: &Pages, below: &[Row], above: &[Row]) -> Option<usize> {
+    let mut place: usize = 0;
+    for row in below {
+        if !is_page(pages, place, *row) {
+            return Some(place);
+        }
+        place = place.wrapping_add(1);
+    }
+    for number in 0x7fff0..0x80000 {
+        if !is_page(pages, place, (number, 6, 0, 0)) {
+            return Some(place);
+        }
+        place = place.wrapping_add(1);
+    }
+    for row in above {
+        if !is_page(pages, place, *row) {
+            return Some(place);
+        }
+        place = place.wrapping_add(1);
+    }
+    None
 }
 
-// What is seen of a file's start state, where these are the pages below the stack and above it.
-fn look(alloc: Global, file: &[u8], below: &[Row], above: &[Row]) -> Result<Seen, Fail> {
-    let state = start_from_file(alloc, file)?;
-    let mut rows = below.to_vec(alloc)?;
-    for number in 0x7fff0..0x80000 {
-        rows.push((number, 6, 0, 0))?;
-    }
-    rows.extend_from_slice(above)?;
-    let mut wrong = None;
-    for (place, row) in rows.iter().enumerate() {
-        if wrong.is_none() && !is_page(&state.pages, place, *row) {
-            wrong = Some(place);
-        }
-    }
-    let hart = hart_of(&state).ok_or("thread 1 runs")?;
-    Ok(Seen {
-        pc: hart.pc,
-        heap: state.heap,
-        brk: state.brk,
-        pages: state.pages.pages(),
-        wrong,
-    })
+// Thread 1's pc, the heap's start, the break, how many pages there are, and the first place of another page than is wanted.
+type Seen = (u32, u32, u32, u32, Option<usize>);
+
+// What is seen of the start state of a file with this entry and these segments, where these are the pages below the stack
+// and above it.
+fn look(
+    alloc: Global,
+    entry: u32,
+    segments: &[[u32; 5]],
+    below: &[Row],
+    above: &[Row],
+) -> Result<Seen, Fail> {
+    let state = start_from_file(alloc, &file_of(alloc, entry, segments)?)?;
+    let wrong = first_wrong(&state.pages, below, above);
+    let pc = hart_of(&state).ok_or("thread 1 runs")?.pc;
+    let pages = state.pages.pages();
+    Ok((pc, state.heap, state.brk, pages, wrong))
+}
+
+// Where the heap starts and the break, how many bytes were read and turns taken, how many threads there are, and the end.
+type Beside = ((u32, u32), (u64, u64), (usize, End));
+
+// Thread 1 of the guest that exits with 7 as it starts, and what stands beside it.
+fn start_of_seven(alloc: Global) -> Result<(Hart, Beside), Fail> {
+    let state = started(alloc, &EXIT_SEVEN)?;
+    let hart = *hart_of(&state).ok_or("thread 1 runs")?;
+    let breaks = (state.heap, state.brk);
+    let counts = (state.input, state.steps);
+    Ok((hart, (breaks, counts, (state.threads.len(), state.end))))
 }
 
 #[test]
 fn starts(rt: HostRuntime) -> Result<(), Fail> {
-    let state = started(rt.alloc(), &EXIT_SEVEN)?;
-    let hart = hart_of(&state).ok_or("thread 1 runs")?;
+    let (hart, beside) = start_of_seven(rt.alloc())?;
     assert_eq!(rt; hart.pc, 0x10054);
     for number in 0..32 {
         let value = if number == 2 { 0x7fff_ffe0 } else { 0 };
         assert_eq!(rt; hart.register(number), value);
     }
-    assert_eq!(rt; (state.heap, state.brk), (0x11000, 0x11000));
-    assert_eq!(rt; (state.input, state.steps), (0, 0));
-    assert_eq!(rt; (state.threads.len(), state.end), (1, End::None));
+    assert_eq!(rt; beside, ((0x11000, 0x11000), (0, 0), (1, End::None)));
     Ok(())
 }
 
-#[test]
-fn start_pages(rt: HostRuntime) -> Result<(), Fail> {
-    let alloc = rt.alloc();
-    // the segments, the entry, the pages below the stack and those above it, how many there are with the stack's, and
-    // where the heap starts
-    let cases: [(&[[u32; 5]], u32, &[Row], &[Row], u32, u32); 8] = [
+// The segments, the entry, the pages below the stack and those above it, how many there are with the stack's, and
+// where the heap starts.
+fn page_cases() -> [(
+    &'static [[u32; 5]],
+    u32,
+    &'static [Row],
+    &'static [Row],
+    u32,
+    u32,
+); 8] {
+    [
         // two on one page
         (
             &[[0x106, 0x1_0013, 1, 0x10, 2], [0x100, 0x1_0010, 3, 3, 1]],
@@ -210,169 +241,71 @@ fn start_pages(rt: HostRuntime) -> Result<(), Fail> {
             19,
             0x3_2000,
         ),
-    ];
-    for (segments, entry, below, above, pages, heap) in cases {
-        let file = file_of(alloc, entry, segments)?;
-        let wanted = Seen {
-            pc: entry,
-            heap,
-            brk: heap,
-            pages,
-            wrong: None,
-        };
-        assert_eq!(rt; look(alloc, &file, below, above)?, wanted, "heap {heap:x}");
+    ]
+}
+
+#[test]
+fn start_pages(rt: HostRuntime) -> Result<(), Fail> {
+    let alloc = rt.alloc();
+    for (segments, entry, below, above, pages, heap) in page_cases() {
+        let found = look(alloc, entry, segments, below, above)?;
+        assert_eq!(rt; found, (entry, heap, heap, pages, None), "heap {heap:x}");
     }
     Ok(())
+}
+
+// Whether the page of a guest's file begins with it and has zeros behind it; and the flags of pages on which nothing is.
+fn page_of_seven(alloc: Global) -> Result<(bool, bool, [Option<u8>; 5]), Fail> {
+    let state = started(alloc, &EXIT_SEVEN)?;
+    let file = guest(alloc, &EXIT_SEVEN)?;
+    let page = state.pages.page_bytes(0x10).ok_or("the file's page")?;
+    let is_first = page.starts_with(&file);
+    let are_zeros = page.iter().skip(96).all(|byte| *byte == 0);
+    let flags = [0, 0xf, 0x11, 0x7ffef, 0x80000].map(|number| state.pages.flags(number));
+    Ok((is_first, are_zeros, flags))
 }
 
 // The guest's bytes are on its page from the file's first on.
 #[test]
 fn the_page_of_a_whole_file(rt: HostRuntime) -> Result<(), Fail> {
-    let state = started(rt.alloc(), &EXIT_SEVEN)?;
-    let file = guest(rt.alloc(), &EXIT_SEVEN)?;
-    let page = state.pages.page_bytes(0x10).ok_or("the file's page")?;
-    assert!(rt; page.starts_with(&file));
-    assert!(rt; page.iter().skip(96).all(|byte| *byte == 0));
-    for number in [0, 0xf, 0x11, 0x7ffef, 0x80000] {
-        assert_eq!(rt; state.pages.flags(number), None);
-    }
+    assert_eq!(rt; page_of_seven(rt.alloc())?, (true, true, [None; 5]));
     Ok(())
+}
+
+// The flags of the page that a segment fills; a turn of a guest that starts on it at an odd address, the step count, and the end.
+fn turn_on_a_full_page(alloc: Global) -> Result<(Option<u8>, Turn, u64, End), Fail> {
+    let file = file_of(alloc, 0x20001, &[[0x100, 0x2_0000, 3, 4096, 7]])?;
+    let state = start_from_file(alloc, &file)?;
+    let flags = state.pages.flags(0x20);
+    let (turn, state, _) = one_turn(alloc, state, 1)?;
+    Ok((flags, turn, state.steps, state.end))
 }
 
 #[test]
 fn a_segment_that_fills_its_page(rt: HostRuntime) -> Result<(), Fail> {
-    let alloc = rt.alloc();
-    let file = file_of(alloc, 0x20001, &[[0x100, 0x2_0000, 3, 4096, 7]])?;
-    let mut state = start_from_file(alloc, &file)?;
-    assert_eq!(rt; state.pages.flags(0x20), Some(7));
-    let mut out = Vec::new(alloc);
-    let answer = state.turn(alloc, Tid(1), None, &mut out)?;
+    let went = Turn::Stepped {
+        used: false,
+        yielded: false,
+    };
     assert_eq!(rt;
-        (answer, state.steps),
-        (
-            Turn::Stepped {
-                used: false,
-                yielded: false
-            },
-            1
-        )
+        turn_on_a_full_page(rt.alloc())?,
+        (Some(7), went, 1, trap(0, 0x20001))
     );
-    assert_eq!(rt; state.end, trap(0, 0x20001));
     Ok(())
 }
 
-// How many pages the guest of a file starts with.
-fn pages_of(alloc: Global, file: &[u8]) -> Result<u32, ImageFault> {
-    let state = start_from_file(alloc, file)?;
-    Ok(state.pages.pages())
-}
-
-#[test]
-fn as_many_pages_as_there_may_be(rt: HostRuntime) -> Result<(), Fail> {
-    let alloc = rt.alloc();
-    let cases: [(&[[u32; 5]], Result<u32, ImageFault>); 5] = [
-        // 1,008 pages from 0x10 on, and a byte more
-        (&[[0x100, 0x1_0000, 8, 0x3f_0000, 6]], Ok(1024)),
-        (
-            &[[0x100, 0x1_0000, 8, 0x3f_0001, 6]],
-            Err(ImageFault::TooManyPages),
-        ),
-        // 1,007 pages and one above the stack, on which a second segment adds none, and on the next one does
-        (
-            &[
-                [0x100, 0x1_0000, 8, 0x3e_f000, 6],
-                [0x100, 0x9000_0000, 1, 1, 6],
-            ],
-            Ok(1024),
-        ),
-        (
-            &[
-                [0x100, 0x9000_0fff, 1, 1, 6],
-                [0x100, 0x1_0000, 8, 0x3e_f000, 6],
-                [0x100, 0x9000_0000, 1, 1, 6],
-            ],
-            Ok(1024),
-        ),
-        (
-            &[
-                [0x100, 0x9000_1000, 1, 1, 6],
-                [0x100, 0x1_0000, 8, 0x3e_f000, 6],
-                [0x100, 0x9000_0000, 1, 1, 6],
-            ],
-            Err(ImageFault::TooManyPages),
-        ),
-    ];
-    for (segments, pages) in cases {
-        let file = file_of(alloc, 0, segments)?;
-        assert_eq!(rt; pages_of(alloc, &file), pages);
-    }
-    Ok(())
-}
-
-// What the start of the guest that exits with 7 comes to, cut to or filled up with zeros to a length, with these bytes at
-// an offset.
-fn pages_with(
-    alloc: Global,
-    length: usize,
-    offset: usize,
-    bytes: &[u8],
-) -> Result<Result<u32, ImageFault>, AllocError> {
-    let mut file = guest_of(alloc, 96, 96, &EXIT_SEVEN)?;
-    file.resize(length, 0)?;
-    let file = patched(alloc, &file, offset, bytes)?;
-    Ok(pages_of(alloc, &file))
-}
-
-#[test]
-fn faults(rt: HostRuntime) -> Result<(), Fail> {
-    let alloc = rt.alloc();
-    // length, offset, bytes
-    let cases: [(usize, usize, &[u8], Result<u32, ImageFault>); 13] = [
-        (96, 0, &[], Ok(17)),
-        (0, 0, &[], Err(ImageFault::NotElf)),
-        (51, 0, &[], Err(ImageFault::NotElf)),
-        (1_048_576, 0, &[], Ok(17)),
-        (1_048_577, 0, &[], Err(ImageFault::TooLong)),
-        (96, 4, &[2], Err(ImageFault::NotClass32)),
-        (96, 5, &[2], Err(ImageFault::NotLittle)),
-        (96, 16, &[3], Err(ImageFault::NotExec)),
-        (96, 18, &[0x3e], Err(ImageFault::NotRiscv)),
-        (96, 42, &[0x38], Err(ImageFault::BadTable)),
-        (96, 52, &[3], Err(ImageFault::Interp)),
-        // p_memsz
-        (96, 72, &[0x5f], Err(ImageFault::BadSegment)),
-        // p_filesz 0, p_memsz 3f0001
-        (
-            96,
-            68,
-            &[0, 0, 0, 0, 1, 0, 0x3f],
-            Err(ImageFault::TooManyPages),
-        ),
-    ];
-    for (length, offset, bytes, pages) in cases {
-        let found = pages_with(alloc, length, offset, bytes)?;
-        assert_eq!(rt; found, pages, "{length} bytes, at {offset}");
-    }
-    let mut zeros = Vec::new(alloc);
-    zeros.resize(1_048_577, 0)?;
-    assert_eq!(rt; pages_of(alloc, &zeros), Err(ImageFault::TooLong));
-    Ok(())
+// A run of the guest with attributes: what it comes to, the end, the step count, and how many pages are mapped.
+fn ran_with_attributes(alloc: Global) -> Result<(SliceRun, End, u64, u32), Fail> {
+    let start = start_from_file(alloc, &WITH_ATTRIBUTES)?;
+    let ((run, end, steps, _), state, _) = ran_from(alloc, start, &[slice(1, 3)], &[])?;
+    Ok((run, end, steps, state.pages.pages()))
 }
 
 #[test]
 fn with_attributes(rt: HostRuntime) -> Result<(), Fail> {
-    let alloc = rt.alloc();
-    let mut state = start_from_file(alloc, &WITH_ATTRIBUTES)?;
-    let slices = [Slice {
-        tid: Tid(1),
-        steps: 3,
-    }];
-    let mut out = Vec::new(alloc);
-    let run = state.run_slices(alloc, &slices, &[], &mut out)?;
     assert_eq!(rt;
-        (run, state.end, state.steps),
-        (SliceRun::Whole, End::Exit(7), 3)
+        ran_with_attributes(rt.alloc())?,
+        (SliceRun::Whole, End::Exit(7), 3, 17)
     );
-    assert_eq!(rt; state.pages.pages(), 17);
     Ok(())
 }

@@ -93,6 +93,7 @@ impl State {
 mod tests {
     use super::*;
     use crate::kernel::Turn;
+    use crate::one_turn::one_turn;
     use guest_state::Hart;
     use std::test::Fail;
 
@@ -108,53 +109,77 @@ mod tests {
         })
     }
 
+    fn hart(held: Option<u32>) -> Hart {
+        Hart {
+            pc: 4,
+            x: [7; 31],
+            held,
+        }
+    }
+
+    fn runs(held: Option<u32>) -> Thread {
+        Thread::Runs {
+            hart: hart(held),
+            clear: 3,
+        }
+    }
+
+    fn waits(held: Option<u32>) -> Thread {
+        Thread::Waits {
+            addr: 8,
+            hart: hart(held),
+            clear: 3,
+        }
+    }
+
+    // Thread 1 behind the end of a thread's slice, and whether the guest has ended.
+    fn behind_a_slice(
+        alloc: Global,
+        before: Thread,
+        tid: u16,
+    ) -> Result<(Option<Thread>, bool), Fail> {
+        let mut state = state_of(alloc, before)?;
+        state.end_slice(Tid(tid));
+        Ok((state.threads.get(Tid(1)).copied(), state.ended()))
+    }
+
     #[test]
     fn a_slices_end(rt: HostRuntime) -> Result<(), Fail> {
-        let hart = Hart {
-            pc: 4,
-            x: [7; 31],
-            held: Some(4),
-        };
-        let free = Hart {
-            pc: 4,
-            x: [7; 31],
-            held: None,
-        };
-        let runs = |hart| Thread::Runs { hart, clear: 3 };
-        let waits = |hart| Thread::Waits {
-            addr: 8,
-            hart,
-            clear: 3,
-        };
         let cases = [
-            (runs(hart), 1, runs(free)),
-            (waits(hart), 1, waits(free)),
-            (runs(hart), 2, runs(hart)),
-            (runs(hart), 0, runs(hart)),
+            (runs(Some(4)), 1, runs(None)),
+            (waits(Some(4)), 1, waits(None)),
+            (runs(Some(4)), 2, runs(Some(4))),
+            (runs(Some(4)), 0, runs(Some(4))),
             (Thread::Gone(6), 1, Thread::Gone(6)),
         ];
         for (before, tid, left) in cases {
-            let mut state = state_of(rt.alloc(), before)?;
-            state.end_slice(Tid(tid));
-            assert!(rt;
-                state
-                    .threads
-                    .get(Tid(1))
-                    .is_some_and(|thread| *thread == left)
-            );
-            assert!(rt; !state.ended());
+            let found = behind_a_slice(rt.alloc(), before, tid)?;
+            assert_eq!(rt; found, (Some(left), false), "thread {tid}");
         }
         Ok(())
+    }
+
+    // Whether a guest of one thread and this end has ended; what a turn of a thread comes to, the end behind it, and the step count.
+    fn turn_at(
+        alloc: Global,
+        thread: Thread,
+        end: End,
+        tid: u16,
+    ) -> Result<(bool, Turn, End, u64), Fail> {
+        let mut state = state_of(alloc, thread)?;
+        state.end = end;
+        let ended = state.ended();
+        if state.steps != 0 {
+            return Err("no turn was taken".into());
+        }
+        let (turn, state, _) = one_turn(alloc, state, tid)?;
+        Ok((ended, turn, state.end, state.steps))
     }
 
     // Where the guest ended, no such thread was made or the thread doesn't run, there is no turn.
     #[test]
     fn no_turn(rt: HostRuntime) -> Result<(), Fail> {
-        let hart = Hart {
-            pc: 4,
-            x: [7; 31],
-            held: None,
-        };
+        let hart = hart(None);
         let runs = Thread::Runs { hart, clear: 0 };
         let waits = Thread::Waits {
             addr: 4,
@@ -176,16 +201,9 @@ mod tests {
             (runs, End::Deadlock, 1),
         ];
         for (thread, end, tid) in cases {
-            let mut state = state_of(rt.alloc(), thread)?;
-            assert_eq!(rt; state.steps, 0);
-            state.end = end;
-            assert_eq!(rt; state.ended(), end != End::None);
-            let mut out = Vec::new(rt.alloc());
-            let answer = state.turn(rt.alloc(), Tid(tid), None, &mut out)?;
-            assert_eq!(rt;
-                (answer, state.end, state.steps),
-                (Turn::NotRunnable, end, 0)
-            );
+            let found = turn_at(rt.alloc(), thread, end, tid)?;
+            let ended = end != End::None;
+            assert_eq!(rt; found, (ended, Turn::NotRunnable, end, 0), "thread {tid}");
         }
         Ok(())
     }

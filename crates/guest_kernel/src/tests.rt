@@ -3,7 +3,7 @@ ghost use Rattle.dp_base.specs.Journal.{steps_of};
 ghost use Rattle.guest_kernel.specs.Answers.{bytes_read};
 
 use super::*;
-use dp_base::{Answer, Slice, Tid};
+use dp_base::{Answer, OutOfMemory, Slice, Tid};
 use std::alloc::{AllocError, Global};
 use std::test::Fail;
 
@@ -53,12 +53,44 @@ pub(crate) fn started(alloc: Global, words: &[u32]) -> Result<State, Fail>
     Ok(start_from_file(alloc, &guest(alloc, words)?)?)
 }
 
-// A guest after a run of one slice of thread 1, and what the run came to.
-fn after(alloc: Global, words: &[u32], steps: u32) -> Result<(State, SliceRun), Fail> {
-    let mut state = started(alloc, words)?;
+// What a run comes to, the guest's end, its step count, and thread 1's hart where it runs.
+pub(crate) type Ran = (SliceRun, End, u64, Option<Hart>);
+
+// What slices of a guest come to from its start, the guest behind them, and what it wrote.
+pub(crate) fn ran_from(
+    alloc: Global,
+    start: State,
+    slices: &[Slice],
+    answers: &[Answer],
+) -> Result<(Ran, State, Vec<u8>), OutOfMemory>
+    requires no_steps { start.steps ≡ 0 }
+    requires no_input { start.input ≡ 0 }
+    requires few_steps { steps_of slices.now < 2 ^ 62 }
+    requires few_bytes { length (bytes_read answers.now) < 2 ^ 62 }
+{
+    let mut state = start;
     let mut out = Vec::new(alloc);
-    let run = state.run_slices(alloc, &[slice(1, steps)], &[], &mut out)?;
-    Ok((state, run))
+    let run = state.run_slices(alloc, slices, answers, &mut out)?;
+    let ran = (run, state.end, state.steps, hart_of(&state).copied());
+    Ok((ran, state, out))
+}
+
+pub(crate) fn ran(
+    alloc: Global,
+    words: &[u32],
+    slices: &[Slice],
+    answers: &[Answer],
+) -> Result<Ran, Fail>
+    requires few_steps { steps_of slices.now < 2 ^ 62 }
+    requires few_bytes { length (bytes_read answers.now) < 2 ^ 62 }
+{
+    let (ran, _, _) = ran_from(alloc, started(alloc, words)?, slices, answers)?;
+    Ok(ran)
+}
+
+// What one slice of thread 1 comes to.
+fn after(alloc: Global, words: &[u32], steps: u32) -> Result<Ran, Fail> {
+    ran(alloc, words, &[slice(1, steps)], &[])
 }
 
 fn stops(slice: usize, step: u32) -> SliceRun {
@@ -80,87 +112,104 @@ pub(crate) fn hart_of(state: &State) -> Option<&Hart> {
     }
 }
 
+fn pc_of(hart: Option<Hart>) -> Option<u32> {
+    Some(hart?.pc)
+}
+
+// What one slice comes to where it has so many steps before its last one, and where thread 1 stands behind it; what one of
+// a step more comes to; and whether the guest has ended behind one of a step less.
+type Around = ((SliceRun, End, u64, Option<u32>), SliceRun, bool);
+
+fn around(alloc: Global, words: &[u32], before: u16) -> Result<Around, Fail> {
+    let steps = u32::from(before) + 1;
+    let (run, end, count, hart) = after(alloc, words, steps)?;
+    let (longer, ..) = after(alloc, words, steps + 1)?;
+    let slices = [slice(1, steps - 1)];
+    let (_, earlier, _) = ran_from(alloc, started(alloc, words)?, &slices, &[])?;
+    Ok(((run, end, count, pc_of(hart)), longer, earlier.ended()))
+}
+
+// Around the last step of a guest.
+fn ending(before: u16, end: End, pc: u32) -> Around {
+    let steps = u32::from(before) + 1;
+    let whole = (SliceRun::Whole, end, u64::from(steps), Some(pc));
+    (whole, stops(0, steps), false)
+}
+
+// Each has so many steps before its last one.
 #[test]
 fn guests_end(rt: HostRuntime) -> Result<(), Fail> {
     let alloc = rt.alloc();
-    let longest = vec![in alloc; ADDI_TO_X0; 979]?;
-    // how many steps come before the last one, and where thread 1 stands behind that
-    let cases: [(&[u32], u16, End, u32); 6] = [
-        (&EXIT_SEVEN, 2, End::Exit(7), 0x10060),
-        // addi x10, x0, -1
-        (
-            &[0x0010_0893, 0xfff0_0513, 0x73],
-            2,
-            End::Exit(0xffff_ffff),
-            0x10060,
-        ),
-        // EBREAK
-        (
-            &[0x0010_0073, 0x0010_0893, 0x73],
-            0,
-            trap(3, 0x10054),
-            0x10054,
-        ),
-        // no word at all: the zeros behind the headers
-        (&[], 0, trap(2, 0), 0x10054),
-        (&longest, 979, trap(2, 0), 0x10fa0),
-        // addi x17, x0, 11, which is no call; the word behind it is no instruction
-        (&[0x00b0_0893, 0x73], 2, trap(2, 0), 0x1005c),
-    ];
-    for (words, before, end, pc) in cases {
-        let steps = u32::from(before) + 1;
-        let (state, run) = after(alloc, words, steps)?;
-        assert_eq!(rt; run, SliceRun::Whole, "{steps} steps");
-        assert_eq!(rt; (state.end, state.steps), (end, u64::from(steps)));
-        assert_eq!(rt; hart_of(&state).map(|hart| hart.pc), Some(pc));
-        assert_eq!(rt; after(alloc, words, steps + 1)?.1, stops(0, steps));
-        let (earlier, _) = after(alloc, words, steps - 1)?;
-        assert!(rt; !earlier.ended(), "before {steps} steps");
-    }
+    let found = around(alloc, &EXIT_SEVEN, 2)?;
+    assert_eq!(rt; found, ending(2, End::Exit(7), 0x10060));
+    // addi x10, x0, -1
+    let found = around(alloc, &[0x0010_0893, 0xfff0_0513, 0x73], 2)?;
+    assert_eq!(rt; found, ending(2, End::Exit(0xffff_ffff), 0x10060));
+    // EBREAK
+    let found = around(alloc, &[0x0010_0073, 0x0010_0893, 0x73], 0)?;
+    assert_eq!(rt; found, ending(0, trap(3, 0x10054), 0x10054));
+    // no word at all: the zeros behind the headers
+    let found = around(alloc, &[], 0)?;
+    assert_eq!(rt; found, ending(0, trap(2, 0), 0x10054));
+    // addi x17, x0, 11, which is no call; the word behind it is no instruction
+    let found = around(alloc, &[0x00b0_0893, 0x73], 2)?;
+    assert_eq!(rt; found, ending(2, trap(2, 0), 0x1005c));
     Ok(())
+}
+
+#[test]
+fn a_long_guest_ends(rt: HostRuntime) -> Result<(), Fail> {
+    let alloc = rt.alloc();
+    let words = vec![in alloc; ADDI_TO_X0; 979]?;
+    let found = around(alloc, &words, 979)?;
+    assert_eq!(rt; found, ending(979, trap(2, 0), 0x10fa0));
+    Ok(())
+}
+
+// A register of thread 1 behind steps at two words, its pc, and the end.
+fn register_after(
+    alloc: Global,
+    first: u32,
+    second: u32,
+    number: u8,
+) -> Result<(u32, u32, End), Fail> {
+    let (_, end, _, hart) = after(alloc, &[first, second], 2)?;
+    let hart = hart.ok_or("thread 1 runs")?;
+    if number >= 32 {
+        return Err("there is such a register".into());
+    }
+    Ok((hart.register(number), hart.pc, end))
+}
+
+fn register_cases() -> [(u32, u32, u8, u32); 11] {
+    [
+        // addi x5, x6, immediate behind addi x6, x0, 1
+        (0x0010_0313, 0x7ff3_0293, 5, 0x0000_0800),
+        (0x0010_0313, 0x8003_0293, 5, 0xffff_f801),
+        (0x0010_0313, 0xfff3_0293, 5, 0x0000_0000),
+        // addi x0, x0, 5 behind addi x1, x0, 3
+        (0x0030_0093, 0x0050_0013, 0, 0),
+        (0x0030_0093, 0x0050_0013, 1, 3),
+        // lui x10, 0x10; lui x1, 0x80000 behind addi x0, x0, 0
+        (0x0001_0537, ADDI_TO_X0, 10, 0x0001_0000),
+        (ADDI_TO_X0, 0x8000_00b7, 1, 0x8000_0000),
+        // lui x0, 0x10 behind addi x1, x0, 3
+        (0x0030_0093, 0x0001_0037, 1, 3),
+        // addi x17, x0, 11; ecall: no such call, and its number stays
+        (0x00b0_0893, 0x0000_0073, 10, 0xffff_ffda),
+        (0x00b0_0893, 0x0000_0073, 17, 11),
+        // addi x17, x0, -1; ecall
+        (0xfff0_0893, 0x0000_0073, 10, 0xffff_ffda),
+    ]
 }
 
 #[test]
 fn registers(rt: HostRuntime) -> Result<(), Fail> {
-    let alloc = rt.alloc();
-    let cases: [(&[u32], u8, u32); 11] = [
-        // addi x5, x6, immediate behind addi x6, x0, 1
-        (&[0x0010_0313, 0x7ff3_0293], 5, 0x0000_0800),
-        (&[0x0010_0313, 0x8003_0293], 5, 0xffff_f801),
-        (&[0x0010_0313, 0xfff3_0293], 5, 0x0000_0000),
-        // addi x0, x0, 5 behind addi x1, x0, 3
-        (&[0x0030_0093, 0x0050_0013], 0, 0),
-        (&[0x0030_0093, 0x0050_0013], 1, 3),
-        // lui x10, 0x10; lui x1, 0x80000 behind addi x0, x0, 0
-        (&[0x0001_0537, ADDI_TO_X0], 10, 0x0001_0000),
-        (&[ADDI_TO_X0, 0x8000_00b7], 1, 0x8000_0000),
-        // lui x0, 0x10 behind addi x1, x0, 3
-        (&[0x0030_0093, 0x0001_0037], 1, 3),
-        // addi x17, x0, 11; ecall: no such call, and its number stays
-        (&[0x00b0_0893, 0x0000_0073], 10, 0xffff_ffda),
-        (&[0x00b0_0893, 0x0000_0073], 17, 11),
-        // addi x17, x0, -1; ecall
-        (&[0xfff0_0893, 0x0000_0073], 10, 0xffff_ffda),
-    ];
-    for (words, number, value) in cases {
-        let (state, _) = after(alloc, words, 2)?;
-        let hart = hart_of(&state).ok_or("thread 1 runs")?;
-        assert!(rt; number < 32);
-        assert_eq!(rt; hart.register(number), value);
-        assert_eq!(rt; (hart.pc, state.end), (0x1005c, End::None));
+    for (first, second, number, value) in register_cases() {
+        let found = register_after(rt.alloc(), first, second, number)?;
+        assert_eq!(rt; found, (value, 0x1005c, End::None), "x{number}");
     }
     Ok(())
-}
-
-// What a run of slices of the guest that exits with 7 comes to, and its step count behind it.
-fn ran(alloc: Global, slices: &[Slice], answers: &[Answer]) -> Result<(SliceRun, u64), Fail>
-    requires few_steps { steps_of slices.now < 2 ^ 62 }
-    requires few_bytes { length (bytes_read answers.now) < 2 ^ 62 }
-{
-    let mut state = started(alloc, &EXIT_SEVEN)?;
-    let mut out = Vec::new(alloc);
-    let run = state.run_slices(alloc, slices, answers, &mut out)?;
-    Ok((run, state.steps))
 }
 
 pub(crate) fn slice(tid: u16, steps: u32) -> Slice {
@@ -170,144 +219,154 @@ pub(crate) fn slice(tid: u16, steps: u32) -> Slice {
     }
 }
 
+// What slices of the guest that exits with 7 come to, where a clock's answer is left or none, and its step count behind them.
+fn ran_seven(alloc: Global, slices: &[Slice], clock: Option<u64>) -> Result<(SliceRun, u64), Fail>
+    requires few_steps { steps_of slices.now < 2 ^ 62 }
+{
+    let (run, _, steps, _) = match clock {
+        Some(reading) => ran(alloc, &EXIT_SEVEN, slices, &[Answer::Clock(reading)])?,
+        None => ran(alloc, &EXIT_SEVEN, slices, &[])?,
+    };
+    Ok((run, steps))
+}
+
 #[test]
 fn runs_that_stop(rt: HostRuntime) -> Result<(), Fail> {
     let alloc = rt.alloc();
-    let answers = [Answer::Clock(5)];
-    assert_eq!(rt;
-        ran(alloc, &[slice(1, 2), slice(9, 1)], &[])?,
-        (stops(1, 0), 2)
-    );
-    assert_eq!(rt;
-        ran(alloc, &[slice(1, 1), slice(1, 4)], &[])?,
-        (stops(1, 2), 3)
-    );
-    assert_eq!(rt; ran(alloc, &[slice(1, 2)], &answers)?, (stops(1, 0), 2));
-    assert_eq!(rt; ran(alloc, &[], &answers)?, (stops(0, 0), 0));
-    assert_eq!(rt; ran(alloc, &[slice(9, 0)], &[])?, (SliceRun::Whole, 0));
+    let found = ran_seven(alloc, &[slice(1, 2), slice(9, 1)], None)?;
+    assert_eq!(rt; found, (stops(1, 0), 2));
+    let found = ran_seven(alloc, &[slice(1, 1), slice(1, 4)], None)?;
+    assert_eq!(rt; found, (stops(1, 2), 3));
+    let found = ran_seven(alloc, &[slice(1, 2)], Some(5))?;
+    assert_eq!(rt; found, (stops(1, 0), 2));
+    assert_eq!(rt; ran_seven(alloc, &[], Some(5))?, (stops(0, 0), 0));
+    let found = ran_seven(alloc, &[slice(9, 0)], None)?;
+    assert_eq!(rt; found, (SliceRun::Whole, 0));
     Ok(())
+}
+
+// Turns of these threads of the guest that exits with 7, a clock's answer beside each; the end, the step count, and how
+// many bytes are written.
+fn turns_of(alloc: Global, tids: [u16; 6]) -> Result<([Turn; 6], End, u64, usize), Fail> {
+    let mut state = started(alloc, &EXIT_SEVEN)?;
+    let mut out = Vec::new(alloc);
+    let mut turns = [Turn::NotRunnable; 6];
+    for (turn, tid) in turns.iter_mut().zip(tids) {
+        if state.steps > 9 {
+            return Err("these are few steps".into());
+        }
+        *turn = state.turn(alloc, Tid(tid), Some(&Answer::Clock(5)), &mut out)?;
+    }
+    Ok((turns, state.end, state.steps, out.len()))
 }
 
 #[test]
 fn turns(rt: HostRuntime) -> Result<(), Fail> {
-    let alloc = rt.alloc();
-    let mut state = started(alloc, &EXIT_SEVEN)?;
-    let mut out = Vec::new(alloc);
     let went = Turn::Stepped {
         used: false,
         yielded: false,
     };
-    for (tid, answer) in [
-        (0, Turn::NotRunnable),
-        (2, Turn::NotRunnable),
-        (1, went),
-        (1, went),
-        (1, went),
-        (1, Turn::NotRunnable),
-    ] {
-        assert!(rt; state.steps < 9);
-        assert_eq!(rt;
-            state.turn(alloc, Tid(tid), Some(&Answer::Clock(5)), &mut out)?,
-            answer
-        );
-    }
-    assert_eq!(rt; (state.end, state.steps, out.len()), (End::Exit(7), 3, 0));
+    let none = Turn::NotRunnable;
+    assert_eq!(rt;
+        turns_of(rt.alloc(), [0, 2, 1, 1, 1, 1])?,
+        ([none, none, went, went, went, none], End::Exit(7), 3, 0)
+    );
     Ok(())
+}
+
+// What thread 1 of the guest that exits with 7 holds behind a slice, where it held 4 before.
+fn held_after(alloc: Global, steps: u32) -> Result<Option<u32>, Fail> {
+    let mut state = started(alloc, &EXIT_SEVEN)?;
+    let mut hart = *hart_of(&state).ok_or("thread 1 runs")?;
+    hart.held = Some(4);
+    state.threads = Threads::one(alloc, Thread::Runs { hart, clear: 0 })?;
+    let ((_, _, _, hart), _, _) = ran_from(alloc, state, &[slice(1, steps)], &[])?;
+    Ok(hart.ok_or("thread 1 runs")?.held)
 }
 
 // The end of a slice drops its thread's reservation; a slice that stops has no end.
 #[test]
 fn reservations(rt: HostRuntime) -> Result<(), Fail> {
-    let alloc = rt.alloc();
     for (steps, held) in [(1, None), (3, None), (4, Some(4))] {
-        let mut state = started(alloc, &EXIT_SEVEN)?;
-        let mut hart = *hart_of(&state).ok_or("thread 1 runs")?;
-        hart.held = Some(4);
-        state.threads = Threads::one(alloc, Thread::Runs { hart, clear: 0 })?;
-        let mut out = Vec::new(alloc);
-        state.run_slices(alloc, &[slice(1, steps)], &[], &mut out)?;
-        assert_eq!(rt; hart_of(&state).map(|hart| hart.held), Some(held));
+        assert_eq!(rt; held_after(rt.alloc(), steps)?, held, "{steps} steps");
     }
     Ok(())
 }
 
 // addi x10, x0, 1; lui x11, 0x10; addi x11, x11, 120; addi x12, x0, 3; addi x17, x0, 2; ecall: write(1, 10078, 3).
 // Then exit_all(0), and the bytes `hi`, line feed, 0 at 10078 (hexadecimal).
+const WRITES_HI: [u32; 10] = [
+    0x0010_0513,
+    0x0001_05b7,
+    0x0785_8593,
+    0x0030_0613,
+    0x0020_0893,
+    0x0000_0073,
+    0x0000_0513,
+    0x0010_0893,
+    0x0000_0073,
+    0x000a_6968,
+];
+
 #[test]
 fn writes_hi(rt: HostRuntime) -> Result<(), Fail> {
     let alloc = rt.alloc();
-    let words = [
-        0x0010_0513,
-        0x0001_05b7,
-        0x0785_8593,
-        0x0030_0613,
-        0x0020_0893,
-        0x0000_0073,
-        0x0000_0513,
-        0x0010_0893,
-        0x0000_0073,
-        0x000a_6968,
-    ];
-    let mut state = started(alloc, &words)?;
-    let mut out = Vec::new(alloc);
-    let run = state.run_slices(alloc, &[slice(1, 9)], &[], &mut out)?;
-    assert_eq!(rt;
-        (run, state.end, state.steps),
-        (SliceRun::Whole, End::Exit(0), 9)
-    );
+    let state = started(alloc, &WRITES_HI)?;
+    let ((run, end, steps, _), _, out) = ran_from(alloc, state, &[slice(1, 9)], &[])?;
+    assert_eq!(rt; (run, end, steps), (SliceRun::Whole, End::Exit(0), 9));
     assert_eq!(rt; out.as_slice(), b"hi\n".as_slice());
     Ok(())
 }
 
 // The word at the first thread's stack pointer, by its lowest byte.
 fn on_the_stack(state: &State) -> Option<u8> {
-    state
-        .pages
-        .page_bytes(0x7ffff)
-        .and_then(|page| page.get(0xfe0).copied())
+    state.pages.page_bytes(0x7ffff)?.get(0xfe0).copied()
 }
 
-// addi x5, x2, 0; addi x7, x0, 5; lr.w x6, (x5); sc.w x6, x7, (x5). Where a slice ends between the last two, nothing is
-// stored.
+// What two slices of the guest below come to and its step count; what SC answers, what is held, and the byte on the stack.
+type Reserved = (SliceRun, u64, (u32, Option<u32>), Option<u8>);
+
+// addi x5, x2, 0; addi x7, x0, 5; lr.w x6, (x5); sc.w x6, x7, (x5)
+fn reserved(alloc: Global, first: u32, second: u32) -> Result<Reserved, Fail> {
+    let words = [0x0001_0293, 0x0050_0393, 0x1002_a32f, 0x1872_a32f];
+    let slices = [slice(1, first), slice(1, second)];
+    let ((run, _, steps, hart), state, _) = ran_from(alloc, started(alloc, &words)?, &slices, &[])?;
+    let hart = hart.ok_or("thread 1 runs")?;
+    let answer = (hart.register(6), hart.held);
+    Ok((run, steps, answer, on_the_stack(&state)))
+}
+
+// Where a slice ends between LR and SC, nothing is stored.
 #[test]
 fn a_reservation_ends_with_its_slice(rt: HostRuntime) -> Result<(), Fail> {
-    let alloc = rt.alloc();
-    let words = [0x0001_0293, 0x0050_0393, 0x1002_a32f, 0x1872_a32f];
     for (first, second, failed, stored) in [(3, 1, 1, 0), (2, 2, 0, 5), (4, 0, 0, 5)] {
-        let mut state = started(alloc, &words)?;
-        let mut out = Vec::new(alloc);
-        let slices = [slice(1, first), slice(1, second)];
-        let run = state.run_slices(alloc, &slices, &[], &mut out)?;
-        assert_eq!(rt; (run, state.steps), (SliceRun::Whole, 4));
-        let hart = hart_of(&state).ok_or("thread 1 runs")?;
-        assert_eq!(rt; (hart.register(6), hart.held), (failed, None));
-        assert_eq!(rt; on_the_stack(&state), Some(stored));
+        assert_eq!(rt;
+            reserved(rt.alloc(), first, second)?,
+            (SliceRun::Whole, 4, (failed, None), Some(stored))
+        );
     }
     Ok(())
 }
 
 // addi x5, x0, 3; addi x6, x6, 1; bne x6, x5, -4; and exit_all(7): ten steps, however they are cut into slices.
+const LOOP: [u32; 6] = [
+    0x0030_0293,
+    0x0013_0313,
+    0xfe53_1ee3,
+    0x0070_0513,
+    0x0010_0893,
+    0x0000_0073,
+];
+
 #[test]
 fn a_loop_cut_into_slices(rt: HostRuntime) -> Result<(), Fail> {
-    let alloc = rt.alloc();
-    let words = [
-        0x0030_0293,
-        0x0013_0313,
-        0xfe53_1ee3,
-        0x0070_0513,
-        0x0010_0893,
-        0x0000_0073,
-    ];
     for first in 0..11 {
-        let mut state = started(alloc, &words)?;
-        let mut out = Vec::new(alloc);
         let slices = [slice(1, first), slice(1, 10 - first)];
-        let run = state.run_slices(alloc, &slices, &[], &mut out)?;
+        let (run, end, steps, hart) = ran(rt.alloc(), &LOOP, &slices, &[])?;
         assert_eq!(rt;
-            (run, state.steps, state.end),
-            (SliceRun::Whole, 10, End::Exit(7))
+            (run, steps, end, pc_of(hart)),
+            (SliceRun::Whole, 10, End::Exit(7), Some(0x1006c))
         );
-        assert_eq!(rt; hart_of(&state).map(|hart| hart.pc), Some(0x1006c));
     }
     Ok(())
 }

@@ -1,11 +1,11 @@
 // Threads that are made, and the calls that name and yield one, each worked out by hand; and a guest of two threads.
-ghost use Rattle.std.specs.Prelude.{◌≡◌, ◌<◌, ◌^◌, IfOk};
-ghost use Rattle.dp_base.specs.Journal.{steps_of};
+ghost use Rattle.std.specs.Prelude.{◌≡◌, IfOk};
 
 use super::*;
-use crate::tests::{hart_of, slice, started};
+use crate::one_turn::one_turn;
+use crate::tests::{Ran, ran, slice};
+use dp_base::Tid;
 use dp_base::limits::MAX_THREADS;
-use dp_base::{Slice, Tid};
 use std::alloc::Global;
 use std::test::Fail;
 
@@ -74,11 +74,9 @@ fn spawned(
     running: usize,
 ) -> Result<(u32, usize, usize), Fail> {
     let threads = threads_of(alloc, gone, waiting, running)?;
-    let tid = Tid(threads.len() as u16);
-    let mut state = state_of(alloc, threads)?;
-    let mut out = Vec::new(alloc);
-    state.turn(alloc, tid, None, &mut out)?;
-    match state.threads.get(tid) {
+    let tid = threads.len() as u16;
+    let (_, state, _) = one_turn(alloc, state_of(alloc, threads)?, tid)?;
+    match state.threads.get(Tid(tid)) {
         Some(Thread::Runs { hart, clear: 12 }) if hart.pc == 0x10004 => {
             let (made, alive) = (state.threads.len(), state.threads.alive());
             Ok((hart.register(10), made, alive))
@@ -87,10 +85,9 @@ fn spawned(
     }
 }
 
-#[test]
-fn spawns(rt: HostRuntime) -> Result<(), Fail> {
-    // how many have gone, wait and run beside the one that calls; the answer, how many were made, and how many are alive
-    let cases = [
+// How many have gone, wait and run beside the one that calls; the answer, how many were made, and how many are alive.
+fn spawn_cases() -> [(usize, usize, usize, u32, usize, usize); 13] {
+    [
         (0, 0, 0, 2, 2, 2),
         (0, 0, 62, 64, 64, 64),
         (0, 0, 63, 0xffff_fff5, 64, 64),
@@ -104,80 +101,51 @@ fn spawns(rt: HostRuntime) -> Result<(), Fail> {
         (1023, 0, 0, 0xffff_fff5, 1024, 1),
         (960, 0, 62, 1024, 1024, 64),
         (960, 0, 63, 0xffff_fff5, 1024, 64),
-    ];
-    for (gone, waiting, running, answer, made, alive) in cases {
+    ]
+}
+
+#[test]
+fn spawns(rt: HostRuntime) -> Result<(), Fail> {
+    for (gone, waiting, running, answer, made, alive) in spawn_cases() {
         let found = spawned(rt.alloc(), gone, waiting, running)?;
         assert_eq!(rt; found, (answer, made, alive), "{gone} have gone");
     }
     Ok(())
 }
 
+// Threads 4 and 5 behind a spawn of thread 4, the end, and the step count.
+fn made_by_spawn(alloc: Global) -> Result<(Option<Thread>, Option<Thread>, End, u64), Fail> {
+    let state = state_of(alloc, threads_of(alloc, 2, 1, 0)?)?;
+    let (_, state, _) = one_turn(alloc, state, 4)?;
+    let spawner = state.threads.get(Tid(4)).copied();
+    let made = state.threads.get(Tid(5)).copied();
+    Ok((spawner, made, state.end, state.steps))
+}
+
 #[test]
 fn the_thread_that_is_made(rt: HostRuntime) -> Result<(), Fail> {
-    let alloc = rt.alloc();
-    let mut state = state_of(alloc, threads_of(alloc, 2, 1, 0)?)?;
-    let mut out = Vec::new(alloc);
-    state.turn(alloc, Tid(4), None, &mut out)?;
     // x2 is at place 1, x10 at place 9
-    let made = Hart {
+    let mut x = [0; 31];
+    x[1] = 0x9abc_def0;
+    x[9] = 0x1122_3344;
+    let hart = Hart {
         pc: 0x2345_6789,
-        x: [
-            0,
-            0x9abc_def0,
-            0,
-            0,
-            0,
-            0,
-            0,
-            0,
-            0,
-            0x1122_3344,
-            0,
-            0,
-            0,
-            0,
-            0,
-            0,
-            0,
-            0,
-            0,
-            0,
-            0,
-            0,
-            0,
-            0,
-            0,
-            0,
-            0,
-            0,
-            0,
-            0,
-            0,
-        ],
+        x,
         held: None,
     };
     let made = Thread::Runs {
-        hart: made,
+        hart,
         clear: 0x5566_7788,
     };
-    assert!(rt;
-        state
-            .threads
-            .get(Tid(5))
-            .is_some_and(|thread| *thread == made)
-    );
     // the spawner has its answer
     let mut hart = spawner();
     hart.pc = 0x10004;
     hart.set_register(10, 5);
     let spawner = Thread::Runs { hart, clear: 12 };
-    assert!(rt;
-        state
-            .threads
-            .get(Tid(4))
-            .is_some_and(|thread| *thread == spawner)
+    assert_eq!(rt;
+        made_by_spawn(rt.alloc())?,
+        (Some(spawner), Some(made), End::None, 1)
     );
-    assert_eq!(rt; (state.end, state.steps), (End::None, 1));
     Ok(())
 }
 
@@ -193,12 +161,11 @@ fn turned(alloc: Global, pc: u32, number: u32) -> Result<(bool, u32), Fail> {
     if threads.len() == 3 {
         threads.set(Tid(3), Thread::Runs { hart, clear: 12 });
     }
-    let mut state = state_of(alloc, threads)?;
-    let mut out = Vec::new(alloc);
+    let (turn, state, _) = one_turn(alloc, state_of(alloc, threads)?, 3)?;
     let Turn::Stepped {
         used: false,
         yielded,
-    } = state.turn(alloc, Tid(3), None, &mut out)?
+    } = turn
     else {
         return Err("a turn without an answer".into());
     };
@@ -209,10 +176,9 @@ fn turned(alloc: Global, pc: u32, number: u32) -> Result<(bool, u32), Fail> {
     Ok((yielded, a0))
 }
 
-#[test]
-fn yields_and_numbers(rt: HostRuntime) -> Result<(), Fail> {
-    // pc, x17; whether the turn is a yield, and x10 behind it
-    let cases = [
+// Pc, x17; whether the turn is a yield, and x10 behind it.
+fn turn_cases() -> [(u32, u32, bool, u32); 15] {
+    [
         (0x10000, 7, true, 0),
         // gettid
         (0x10000, 10, false, 3),
@@ -233,8 +199,12 @@ fn yields_and_numbers(rt: HostRuntime) -> Result<(), Fail> {
         // a plain instruction, and a trap
         (0x10004, 7, false, 0x99),
         (0x10008, 7, false, 0x99),
-    ];
-    for (pc, number, yielded, a0) in cases {
+    ]
+}
+
+#[test]
+fn yields_and_numbers(rt: HostRuntime) -> Result<(), Fail> {
+    for (pc, number, yielded, a0) in turn_cases() {
         let found = turned(rt.alloc(), pc, number)?;
         assert_eq!(rt; found, (yielded, a0), "{number:x} at {pc:x}");
     }
@@ -265,69 +235,70 @@ const TWO_THREADS: [u32; 17] = [
     0x0000_0073,
 ];
 
-// What slices of it come to: the run, the end, the step count, and the pc and x10 of thread 1 where it runs.
-#[derive(Clone, Copy, Debug, PartialEq, Eq)]
-struct Outcome {
-    run: SliceRun,
-    end: End,
-    steps: u64,
-    first: Option<(u32, u32)>,
+// The run, the end, the step count, and the pc and x10 of thread 1 where it runs.
+type Outcome = (SliceRun, End, u64, Option<(u32, u32)>);
+
+fn outcome(ran: Ran) -> Outcome {
+    let (run, end, steps, hart) = ran;
+    let first = match hart {
+        Some(hart) => Some((hart.pc, hart.register(10))),
+        None => None,
+    };
+    (run, end, steps, first)
 }
 
-fn ran(alloc: Global, slices: &[Slice]) -> Result<Outcome, Fail>
-    requires { steps_of slices.now < 2 ^ 62 }
-{
-    let mut state = started(alloc, &TWO_THREADS)?;
-    let mut out = Vec::new(alloc);
-    let run = state.run_slices(alloc, slices, &[], &mut out)?;
-    Ok(Outcome {
-        run,
-        end: state.end,
-        steps: state.steps,
-        first: hart_of(&state).map(|hart| (hart.pc, hart.register(10))),
-    })
+// What slices of these threads and steps come to.
+fn two(alloc: Global, first: (u16, u32), second: (u16, u32)) -> Result<Outcome, Fail> {
+    let slices = [slice(first.0, first.1), slice(second.0, second.1)];
+    Ok(outcome(ran(alloc, &TWO_THREADS, &slices, &[])?))
+}
+
+fn three(
+    alloc: Global,
+    first: (u16, u32),
+    second: (u16, u32),
+    third: (u16, u32),
+) -> Result<Outcome, Fail> {
+    let slices = [
+        slice(first.0, first.1),
+        slice(second.0, second.1),
+        slice(third.0, third.1),
+    ];
+    Ok(outcome(ran(alloc, &TWO_THREADS, &slices, &[])?))
 }
 
 // A run to the end, which is the 17th step.
 fn to_the_end() -> Outcome {
-    Outcome {
-        run: SliceRun::Whole,
-        end: End::Exit(7),
-        steps: 17,
-        first: Some((0x10090, 7)),
-    }
+    (SliceRun::Whole, End::Exit(7), 17, Some((0x10090, 7)))
 }
 
 // A run that stops at the first step of a slice, behind so many steps.
 fn stopped(slice: usize, steps: u64, first: Option<(u32, u32)>) -> Outcome {
-    Outcome {
-        run: SliceRun::Stops { slice, step: 0 },
-        end: End::None,
-        steps,
-        first,
-    }
+    let run = SliceRun::Stops { slice, step: 0 };
+    (run, End::None, steps, first)
 }
 
 #[test]
 fn a_guest_of_two_threads(rt: HostRuntime) -> Result<(), Fail> {
     let alloc = rt.alloc();
     // thread 1 waits, and the exit of thread 2 wakes it
-    let found = ran(alloc, &[slice(1, 11), slice(2, 2), slice(1, 4)])?;
-    assert_eq!(rt; found, to_the_end());
+    assert_eq!(rt; three(alloc, (1, 11), (2, 2), (1, 4))?, to_the_end());
     // thread 2 is gone before the wait, which finds another word
-    let found = ran(alloc, &[slice(1, 7), slice(2, 2), slice(1, 8)])?;
-    assert_eq!(rt; found, to_the_end());
-    let found = ran(alloc, &[slice(1, 10), slice(2, 2), slice(1, 1)])?;
-    assert_eq!(rt; found.first, Some((0x10080, 0xffff_fff5)));
+    assert_eq!(rt; three(alloc, (1, 7), (2, 2), (1, 8))?, to_the_end());
+    let (.., first) = three(alloc, (1, 10), (2, 2), (1, 1))?;
+    assert_eq!(rt; first, Some((0x10080, 0xffff_fff5)));
     // behind its wake thread 1 stands behind its wait
-    let found = ran(alloc, &[slice(1, 11), slice(2, 2)])?;
-    assert_eq!(rt; found.first, Some((0x10080, 0)));
+    let (.., first) = two(alloc, (1, 11), (2, 2))?;
+    assert_eq!(rt; first, Some((0x10080, 0)));
     // while it waits it has no turn, and neither has thread 2 before it is made and behind its exit
-    let found = ran(alloc, &[slice(1, 11), slice(1, 1)])?;
-    assert_eq!(rt; found, stopped(1, 11, None));
-    let found = ran(alloc, &[slice(1, 6), slice(2, 1)])?;
-    assert_eq!(rt; found, stopped(1, 6, Some((0x1006c, 0x10090))));
-    let found = ran(alloc, &[slice(1, 7), slice(2, 2), slice(2, 1)])?;
-    assert_eq!(rt; found, stopped(2, 9, Some((0x10070, 2))));
+    assert_eq!(rt; two(alloc, (1, 11), (1, 1))?, stopped(1, 11, None));
+    assert_eq!(rt;
+        two(alloc, (1, 6), (2, 1))?,
+        stopped(1, 6, Some((0x1006c, 0x10090)))
+    );
+    assert_eq!(rt;
+        three(alloc, (1, 7), (2, 2), (2, 1))?,
+        stopped(2, 9, Some((0x10070, 2)))
+    );
     Ok(())
 }

@@ -1,0 +1,121 @@
+// How many pages guests start with, and files that are refused, each by hand.
+use super::*;
+use crate::start_tests::{file_of, patched};
+use crate::tests::{EXIT_SEVEN, guest_of};
+use std::alloc::{AllocError, Global};
+use std::test::Fail;
+
+// How many pages the guest of a file starts with.
+fn pages_of(alloc: Global, file: &[u8]) -> Result<u32, ImageFault> {
+    let state = start_from_file(alloc, file)?;
+    Ok(state.pages.pages())
+}
+
+// The same of a file with these segments.
+fn pages_from(alloc: Global, segments: &[[u32; 5]]) -> Result<Result<u32, ImageFault>, AllocError> {
+    let file = file_of(alloc, 0, segments)?;
+    Ok(pages_of(alloc, &file))
+}
+
+// The segments, and how many pages there are.
+fn page_counts() -> [(&'static [[u32; 5]], Result<u32, ImageFault>); 5] {
+    [
+        // 1,008 pages from 0x10 on, and a byte more
+        (&[[0x100, 0x1_0000, 8, 0x3f_0000, 6]], Ok(1024)),
+        (
+            &[[0x100, 0x1_0000, 8, 0x3f_0001, 6]],
+            Err(ImageFault::TooManyPages),
+        ),
+        // 1,007 pages and one above the stack, on which a second segment adds none, and on the next one does
+        (
+            &[
+                [0x100, 0x1_0000, 8, 0x3e_f000, 6],
+                [0x100, 0x9000_0000, 1, 1, 6],
+            ],
+            Ok(1024),
+        ),
+        (
+            &[
+                [0x100, 0x9000_0fff, 1, 1, 6],
+                [0x100, 0x1_0000, 8, 0x3e_f000, 6],
+                [0x100, 0x9000_0000, 1, 1, 6],
+            ],
+            Ok(1024),
+        ),
+        (
+            &[
+                [0x100, 0x9000_1000, 1, 1, 6],
+                [0x100, 0x1_0000, 8, 0x3e_f000, 6],
+                [0x100, 0x9000_0000, 1, 1, 6],
+            ],
+            Err(ImageFault::TooManyPages),
+        ),
+    ]
+}
+
+#[test]
+fn as_many_pages_as_there_may_be(rt: HostRuntime) -> Result<(), Fail> {
+    let alloc = rt.alloc();
+    for (segments, pages) in page_counts() {
+        assert_eq!(rt; pages_from(alloc, segments)?, pages);
+    }
+    Ok(())
+}
+
+// What the start of the guest that exits with 7 comes to, cut to or filled up with zeros to a length, with these bytes at
+// an offset.
+fn pages_with(
+    alloc: Global,
+    length: usize,
+    offset: usize,
+    bytes: &[u8],
+) -> Result<Result<u32, ImageFault>, AllocError> {
+    let mut file = guest_of(alloc, 96, 96, &EXIT_SEVEN)?;
+    file.resize(length, 0)?;
+    let file = patched(alloc, &file, offset, bytes)?;
+    Ok(pages_of(alloc, &file))
+}
+
+// The same of a file of zeros, one byte too long.
+fn pages_of_zeros(alloc: Global) -> Result<Result<u32, ImageFault>, AllocError> {
+    let mut zeros = Vec::new(alloc);
+    zeros.resize(1_048_577, 0)?;
+    Ok(pages_of(alloc, &zeros))
+}
+
+// A length, an offset and bytes; what comes of them.
+fn fault_cases() -> [(usize, usize, &'static [u8], Result<u32, ImageFault>); 13] {
+    [
+        (96, 0, &[], Ok(17)),
+        (0, 0, &[], Err(ImageFault::NotElf)),
+        (51, 0, &[], Err(ImageFault::NotElf)),
+        (1_048_576, 0, &[], Ok(17)),
+        (1_048_577, 0, &[], Err(ImageFault::TooLong)),
+        (96, 4, &[2], Err(ImageFault::NotClass32)),
+        (96, 5, &[2], Err(ImageFault::NotLittle)),
+        (96, 16, &[3], Err(ImageFault::NotExec)),
+        (96, 18, &[0x3e], Err(ImageFault::NotRiscv)),
+        (96, 42, &[0x38], Err(ImageFault::BadTable)),
+        (96, 52, &[3], Err(ImageFault::Interp)),
+        // p_memsz
+        (96, 72, &[0x5f], Err(ImageFault::BadSegment)),
+        // p_filesz 0, p_memsz 3f0001
+        (
+            96,
+            68,
+            &[0, 0, 0, 0, 1, 0, 0x3f],
+            Err(ImageFault::TooManyPages),
+        ),
+    ]
+}
+
+#[test]
+fn faults(rt: HostRuntime) -> Result<(), Fail> {
+    let alloc = rt.alloc();
+    for (length, offset, bytes, pages) in fault_cases() {
+        let found = pages_with(alloc, length, offset, bytes)?;
+        assert_eq!(rt; found, pages, "{length} bytes, at {offset}");
+    }
+    assert_eq!(rt; pages_of_zeros(alloc)?, Err(ImageFault::TooLong));
+    Ok(())
+}
