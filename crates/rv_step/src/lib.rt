@@ -36,6 +36,8 @@ pub use step::exec;
 pub use stepped::Stepped;
 
 #[cfg(test)]
+mod decoding_tests;
+#[cfg(test)]
 mod small_memory;
 #[cfg(test)]
 mod tests;

@@ -7,7 +7,7 @@ use dp_base::{Access, AmoOp, Mem, OutOfMemory, Width};
 pub const BASE: u32 = 0x0001_0000;
 
 /// A memory of 64 bytes, with an answer of its own for each kind of access. Its pages aren't known to any proof.
-#[derive(Clone, Copy, Debug, PartialEq, Eq)]
+#[derive(Clone, Copy, PartialEq, Eq)]
 pub struct SmallMemory {
     pub bytes: [u8; 64],
     pub fetches: Access<()>,
