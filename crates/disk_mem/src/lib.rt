@@ -20,14 +20,12 @@
 #![tactic(auto)]
 
 mod call;
+#[cfg(test)]
+mod clock_tests;
 mod contents;
 mod counter;
 mod crash;
-#[cfg(test)]
-mod crash_tests;
 mod fails;
-#[cfg(test)]
-mod files_and_inlet_tests;
 mod mem_files;
 mod mem_inlet;
 mod mem_world;
@@ -35,8 +33,6 @@ mod named_file;
 mod pieces;
 #[cfg(test)]
 mod worked_calls;
-#[cfg(test)]
-mod world_tests;
 
 pub use call::Call;
 pub use fails::{CallNumbers, Fails};

@@ -1,0 +1,19 @@
+//! The forms of the outside in memory, as a crate above calls them: files by name, an input in pieces, a disk and two streams, the
+//! record of their calls, and what a crash leaves.
+//!
+//! This crate is its tests: tables of what each call on a form of `disk_mem` answers and what stands behind it, where calls fail by
+//! their number, and where no memory is enough. The values come from the model of a disk, by hand.
+#![tactic(auto)]
+
+#[cfg(test)]
+mod crash_tests;
+#[cfg(test)]
+mod failing;
+#[cfg(test)]
+mod files_and_inlet_tests;
+#[cfg(test)]
+mod record_tests;
+#[cfg(test)]
+mod step;
+#[cfg(test)]
+mod world_tests;
