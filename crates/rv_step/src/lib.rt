@@ -34,10 +34,3 @@ pub use instr::Instr;
 pub use integer::is_below_signed;
 pub use step::exec;
 pub use stepped::Stepped;
-
-#[cfg(test)]
-mod decoding_tests;
-#[cfg(test)]
-mod small_memory;
-#[cfg(test)]
-mod tests;

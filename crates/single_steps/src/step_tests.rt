@@ -1,8 +1,8 @@
 // Words and values are from the RISC-V Unprivileged ISA 20191213; the causes of traps are this machine's.
 use crate::small_memory::{BASE, SmallMemory};
-use crate::{Stepped, exec};
 use dp_base::{Access, OutOfMemory};
 use guest_state::Hart;
+use rv_step::{Stepped, exec};
 use std::test::Fail;
 
 // Where the word lies that x5 points to, and behind it another.

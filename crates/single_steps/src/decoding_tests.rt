@@ -1,5 +1,5 @@
 // Words are from the RISC-V Unprivileged ISA 20191213.
-use crate::{Instr, decode};
+use rv_step::{Instr, decode};
 
 #[test]
 fn illegal_words(rt: HostRuntime) {
