@@ -1,6 +1,6 @@
 // Replays of journals that are cut short or changed: their guest, epochs and marks.
+use crate::changed_bytes::{all_replaced, body_of_a_start, replaced};
 use crate::guests::{EXITS, WRITES};
-use crate::record_tests::{body_of_a_start, replaced};
 use crate::replay_tests::{NINE_STEPS, ONE_OF_WRITES, REPLAY, journal_of, plays_as, recorded};
 use crate::tests::{NOTE_OF_EXITS, journal_of_exits};
 use dp_report::Status;
@@ -37,7 +37,17 @@ fn journals_cut_short(rt: HostRuntime) -> Result<(), Fail> {
     Ok(())
 }
 
-// Of the journal of nine epochs of one step, with another thread's number in the record whose gate is at this place.
+// The journal of nine epochs of one step, with another thread's number in the record whose gate is at this place.
+fn with_thread(rt: &HostRuntime, gate: usize, thread: &[u8]) -> Result<Vec<u8>, Fail> {
+    let words = ["dpcli", "record", "g", "j", "--epoch", "1"];
+    let (after, _) = recorded(rt, &words, &WRITES)?;
+    if after.bytes().len() != 314 {
+        return Err("the journal of nine epochs has 314 bytes".into());
+    }
+    replaced(rt.alloc(), after.bytes(), gate.min(314) + 10, 2, thread)
+}
+
+// What that journal plays to.
 fn thread_plays_as(
     rt: &HostRuntime,
     workers: &str,
@@ -46,14 +56,7 @@ fn thread_plays_as(
     sent: &[u8],
     noted: &[u8],
 ) -> Result<(Status, u8), Fail> {
-    let words = ["dpcli", "record", "g", "j", "--epoch", "1"];
-    let seen = recorded(rt, &words, &WRITES)?;
-    if seen.disk.len() != 314 {
-        return Err("the journal of nine epochs has 314 bytes".into());
-    }
-    let (before, record) = seen.disk.split_at(gate.min(seen.disk.len()));
-    let changed = replaced(rt.alloc(), record, 10, 2, thread)?;
-    let journal = replaced(rt.alloc(), before, before.len(), 0, &changed)?;
+    let journal = with_thread(rt, gate, thread)?;
     plays_as(
         rt,
         &["dpcli", "replay", "j", "--workers", workers],
@@ -187,13 +190,57 @@ fn guests_and_lists_of_a_journal(rt: HostRuntime) -> Result<(), Fail> {
 // The guest is judged before the records.
 #[test]
 fn a_bad_guest_before_a_bad_record(rt: HostRuntime) -> Result<(), Fail> {
+    let no_guest: &[u8] = b"dpcli: guest refused: 2 NotElf\n";
     let alloc = rt.alloc();
     let journal = journal_of_exits(alloc)?;
-    let bad_record = replaced(alloc, &journal, 110, 1, b"\x02")?;
-    let both = replaced(alloc, &bad_record, 9, 1, b"\x7e")?;
-    let came = plays_as(&rt, REPLAY, &both, b"", b"dpcli: guest refused: 2 NotElf\n")?;
+    let both = all_replaced(alloc, &journal, &[(110, 1, b"\x02"), (9, 1, b"\x7e")])?;
+    let came = plays_as(&rt, REPLAY, &both, b"", no_guest)?;
     assert_eq!(rt; came, (Status::BadImage(2), 4));
     Ok(())
+}
+
+// The body of a record of `EXITS`.
+#[derive(Clone, Copy)]
+enum Body {
+    // An epoch of thread 1, of three steps, and of nine.
+    Three,
+    Nine,
+    // A mark of the start, of the end, and of the start with another byte at the end of the last page, which is 0.
+    Start,
+    End,
+    Other,
+}
+
+use Body::{End, Nine, Other, Start, Three};
+
+// The state in which `EXITS` ends, as a mark: by the format's tables its x17, x10, pc, end and steps are not those of the
+// start.
+fn mark_of_the_end(alloc: Global) -> Result<Vec<u8>, Fail> {
+    let start = body_of_a_start(alloc, &EXITS)?;
+    all_replaced(
+        alloc,
+        &start,
+        &[
+            (101, 4, b"\x01\0\0\0"),
+            (73, 4, b"\x07\0\0\0"),
+            (29, 4, b"\x60\0\x01\0"),
+            (25, 1, b"\x01\x07\0\0\0"),
+            (1, 8, b"\x03\0\0\0\0\0\0\0"),
+        ],
+    )
+}
+
+fn bytes_of(alloc: Global, body: Body) -> Result<Vec<u8>, Fail> {
+    match body {
+        Body::Three => Ok(THREE_STEPS.to_vec(alloc)?),
+        Body::Nine => Ok(NINE_STEPS.to_vec(alloc)?),
+        Body::Start => body_of_a_start(alloc, &EXITS),
+        Body::End => mark_of_the_end(alloc),
+        Body::Other => {
+            let start = body_of_a_start(alloc, &EXITS)?;
+            replaced(alloc, &start, 69_879, 1, b"\x01")
+        }
+    }
 }
 
 // Of a guest's journal with two records of these bodies.
@@ -209,40 +256,34 @@ fn two_play_as(
     plays_as(rt, REPLAY, &journal, sent, noted)
 }
 
-// The state in which `EXITS` ends, as a mark: by the format's tables its x17, x10, pc, end and steps are not those of the
-// start.
-fn mark_of_the_end(alloc: Global) -> Result<Vec<u8>, Fail> {
-    let start = body_of_a_start(alloc, &EXITS)?;
-    let x17 = replaced(alloc, &start, 101, 4, b"\x01\0\0\0")?;
-    let x10 = replaced(alloc, &x17, 73, 4, b"\x07\0\0\0")?;
-    let pc = replaced(alloc, &x10, 29, 4, b"\x60\0\x01\0")?;
-    let end = replaced(alloc, &pc, 25, 1, b"\x01\x07\0\0\0")?;
-    replaced(alloc, &end, 1, 8, b"\x03\0\0\0\0\0\0\0")
+fn bodies_play_as(
+    rt: &HostRuntime,
+    first: Body,
+    second: Body,
+    noted: &[u8],
+) -> Result<(Status, u8), Fail> {
+    let first = bytes_of(rt.alloc(), first)?;
+    let second = bytes_of(rt.alloc(), second)?;
+    two_play_as(rt, &EXITS, &first, &second, b"", noted)
 }
 
 #[test]
 fn marks_judged(rt: HostRuntime) -> Result<(), Fail> {
-    let alloc = rt.alloc();
-    let start = body_of_a_start(alloc, &EXITS)?;
-    let end = mark_of_the_end(alloc)?;
-    // The last byte of the last page, which is 0.
-    let other = replaced(alloc, &start, 69_879, 1, b"\x01")?;
     let first_wrong: &[u8] = b"dpcli: record 1 is a wrong mark\n";
     let second_wrong: &[u8] = b"dpcli: record 2 is a wrong mark\n";
     let second_bad: &[u8] = b"dpcli: record 2 does not run\n";
-    let cases: [(&[u8], &[u8], (Status, u8), &[u8]); 7] = [
-        (&start, THREE_STEPS, (Status::Ok, 0), NOTE_OF_EXITS),
+    let cases: [(Body, Body, (Status, u8), &[u8]); 7] = [
+        (Start, Three, (Status::Ok, 0), NOTE_OF_EXITS),
         // A mark is a record too.
-        (&start, NINE_STEPS, (Status::BadEpoch(2), 10), second_bad),
-        (&start, &end, (Status::BadMark(2), 15), second_wrong),
-        (THREE_STEPS, &end, (Status::Ok, 0), NOTE_OF_EXITS),
-        (THREE_STEPS, &start, (Status::BadMark(2), 15), second_wrong),
-        (&end, THREE_STEPS, (Status::BadMark(1), 15), first_wrong),
-        (&other, THREE_STEPS, (Status::BadMark(1), 15), first_wrong),
+        (Start, Nine, (Status::BadEpoch(2), 10), second_bad),
+        (Start, End, (Status::BadMark(2), 15), second_wrong),
+        (Three, End, (Status::Ok, 0), NOTE_OF_EXITS),
+        (Three, Start, (Status::BadMark(2), 15), second_wrong),
+        (End, Three, (Status::BadMark(1), 15), first_wrong),
+        (Other, Three, (Status::BadMark(1), 15), first_wrong),
     ];
     for (first, second, answer, noted) in cases {
-        let came = two_play_as(&rt, &EXITS, first, second, b"", noted)?;
-        assert_eq!(rt; came, answer);
+        assert_eq!(rt; bodies_play_as(&rt, first, second, noted)?, answer);
     }
     Ok(())
 }

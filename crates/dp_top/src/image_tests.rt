@@ -1,27 +1,43 @@
 // Files of guests, refused and accepted, recorded and replayed.
+use crate::changed_bytes::{all_replaced, replaced};
 use crate::guests::{EXITS, TWO_SEGMENTS};
-use crate::record_tests::replaced;
 use crate::replay_tests::{REPLAY, journal_of, plays_as, recorded};
-use crate::tests::{RECORD, ran};
-use disk_mem::{Fails, MemWorld};
+use crate::tests::{Failing, RECORD, ran, world};
+use disk_mem::Fails;
 use disk_model::Stream;
 use dp_report::Status;
 use std::alloc::{AllocError, Global};
 use std::test::Fail;
 
-// What a file comes to: the status of its recording on a disk whose first call would fail, and that of a replay of a journal
-// that has it. Both send the same on Note, and nothing else.
-fn refused(rt: &HostRuntime, file: &[u8], line: &[u8]) -> Result<(Status, Status), Fail> {
-    let alloc = rt.alloc();
-    let failing = MemWorld::new(alloc, Fails::From(1), Fails::Never, 4096)?;
+// The status of a recording of a file on a disk whose first call would fail, where it makes none, and sends this alone.
+fn recording_refused(rt: &HostRuntime, file: &[u8], line: &[u8]) -> Result<Status, Fail> {
+    let failing = world(rt.alloc(), Failing::From(1), Failing::Never)?;
     let (after, status) = ran(rt, &RECORD, file, Fails::Never, failing)?;
     let silent = after.disk_calls() == 0 && after.sent(Stream::Out).is_empty();
     if !silent || after.sent(Stream::Note) != line {
         return Err("the line of the fault alone".into());
     }
-    let journal = journal_of(alloc, file, &[])?;
+    Ok(status)
+}
+
+// What a file comes to: the status of that recording, and that of a replay of a journal that has it. Both send the same on Note,
+// and nothing else.
+fn refused(rt: &HostRuntime, file: &[u8], line: &[u8]) -> Result<(Status, Status), Fail> {
+    let recorded = recording_refused(rt, file, line)?;
+    let journal = journal_of(rt.alloc(), file, &[])?;
     let (replayed, _) = plays_as(rt, REPLAY, &journal, b"", line)?;
-    Ok((status, replayed))
+    Ok((recorded, replayed))
+}
+
+// The same of the guest of 96 bytes with these bytes from an offset on.
+fn changed_refused(
+    rt: &HostRuntime,
+    offset: usize,
+    by: &[u8],
+    line: &[u8],
+) -> Result<(Status, Status), Fail> {
+    let file = replaced(rt.alloc(), &EXITS, offset, by.len(), by)?;
+    refused(rt, &file, line)
 }
 
 fn zeros(alloc: Global, count: usize) -> Result<Vec<u8>, AllocError> {
@@ -56,9 +72,8 @@ fn images_refused(rt: HostRuntime) -> Result<(), Fail> {
         ),
     ];
     for (offset, by, number, line) in cases {
-        let file = replaced(rt.alloc(), &EXITS, offset, by.len(), by)?;
         let fault = Status::BadImage(number);
-        assert_eq!(rt; refused(&rt, &file, line)?, (fault, fault));
+        assert_eq!(rt; changed_refused(&rt, offset, by, line)?, (fault, fault));
     }
     Ok(())
 }
@@ -83,29 +98,35 @@ fn recorded_as(
     sent: &[u8],
     noted: &[u8],
 ) -> Result<(Status, usize, Status), Fail> {
-    let seen = recorded(rt, &RECORD, file)?;
-    let right = seen.sent.as_slice() == sent && seen.noted.as_slice() == noted;
-    if !right {
+    let (after, status) = recorded(rt, &RECORD, file)?;
+    if after.sent(Stream::Out) != sent || after.sent(Stream::Note) != noted {
         return Err("other bytes on Out or on Note".into());
     }
-    let (replayed, _) = plays_as(rt, REPLAY, &seen.disk, sent, noted)?;
-    Ok((seen.status, seen.disk.len(), replayed))
+    let (replayed, _) = plays_as(rt, REPLAY, after.bytes(), sent, noted)?;
+    Ok((status, after.bytes().len(), replayed))
 }
 
 // The digests were had from the format's tables.
 #[test]
 fn images_accepted(rt: HostRuntime) -> Result<(), Fail> {
-    let alloc = rt.alloc();
-    // e_flags, and a second program header of a type that isn't known
-    let entry = replaced(alloc, &EXITS, 24, 1, b"\x74")?;
-    let flags = replaced(alloc, &entry, 36, 1, b"\x01")?;
-    let entries = replaced(alloc, &flags, 44, 1, b"\x02")?;
-    let sizes = replaced(alloc, &entries, 68, 5, b"\x80\0\0\0\x80")?;
-    let mut second = zeros(alloc, 32)?;
-    second = replaced(alloc, &second, 0, 4, b"\x03\0\0\x70")?;
-    let file = replaced(alloc, &sizes, 84, 0, &second)?;
     let noted: &[u8] =
         b"epochs 1 squashes 0 steps 3 sent 0 end exit 7 state 06a721f5c541ef4b3c446ddf48d3ea4072cdd1feb1e0e7aa9b5e7eb7211a6a91\n";
+    // e_flags, and a second program header of a type that isn't known
+    let file = all_replaced(
+        rt.alloc(),
+        &EXITS,
+        &[
+            (24, 1, b"\x74"),
+            (36, 1, b"\x01"),
+            (44, 1, b"\x02"),
+            (68, 5, b"\x80\0\0\0\x80"),
+            (
+                84,
+                0,
+                b"\x03\0\0\x70\0\0\0\0\0\0\0\0\0\0\0\0\0\0\0\0\0\0\0\0\0\0\0\0\0\0\0\0",
+            ),
+        ],
+    )?;
     let came = recorded_as(&rt, &file, b"", noted)?;
     assert_eq!(rt; came, (Status::Ok, 158, Status::Ok));
     let noted: &[u8] =
@@ -118,11 +139,13 @@ fn images_accepted(rt: HostRuntime) -> Result<(), Fail> {
 // EBREAK first: one step, and a trap is an end like another.
 #[test]
 fn a_guest_that_traps(rt: HostRuntime) -> Result<(), Fail> {
-    let alloc = rt.alloc();
-    let code = replaced(alloc, &EXITS, 84, 12, b"\x73\0\x10\0")?;
-    let file = replaced(alloc, &code, 68, 5, b"\x58\0\0\0\x58")?;
     let noted: &[u8] =
         b"epochs 1 squashes 0 steps 1 sent 0 end trap 3 thread 1 value 00010054 state 802cf0037a09142bddca6a322692520e7b8b4eaa4abd6fc9d59abc8393efc7fa\n";
+    let changes: [(usize, usize, &[u8]); 2] = [
+        (84, 12, b"\x73\0\x10\0"),
+        (68, 5, b"\x58\0\0\0\x58"),
+    ];
+    let file = all_replaced(rt.alloc(), &EXITS, &changes)?;
     let came = recorded_as(&rt, &file, b"", noted)?;
     assert_eq!(rt; came, (Status::Ok, 118, Status::Ok));
     Ok(())

@@ -27,19 +27,13 @@ pub use dp_report::Status;
 pub use top::run;
 
 #[cfg(test)]
+mod changed_bytes;
+#[cfg(test)]
 mod changed_journal_tests;
 #[cfg(test)]
 mod guests;
 #[cfg(test)]
 mod image_tests;
-#[cfg(test)]
-mod journal_tests;
-#[cfg(test)]
-mod lower_tests;
-#[cfg(test)]
-mod record_tests;
-#[cfg(test)]
-mod recording_tests;
 #[cfg(test)]
 mod replay_tests;
 #[cfg(test)]

@@ -1,10 +1,9 @@
 // Replays on memory forms: of recordings, and where calls fail.
 ghost use Rattle.std.specs.Prelude.{◌<◌};
 
+use crate::changed_bytes::length_of;
 use crate::guests::{EXITS, WRITES};
-use crate::record_tests::length_of;
-use crate::recording_tests::at;
-use crate::tests::ran;
+use crate::tests::{Failing, fails_of, ran};
 use disk_mem::{Call, Fails, MemWorld};
 use disk_model::Stream;
 use dp_report::Status;
@@ -20,29 +19,6 @@ pub(crate) const ONE_OF_WRITES: &[u8] =
 // The body of an epoch of thread 1, of nine steps.
 pub(crate) const NINE_STEPS: &[u8] = b"\x00\x01\0\0\0\x01\0\x09\0\0\0\0\0\0\0";
 
-// What a run came to, and what it left.
-#[derive(Drop)]
-pub(crate) struct Seen {
-    pub status: Status,
-    pub sent: Vec<u8>,
-    pub noted: Vec<u8>,
-    pub disk: Vec<u8>,
-    pub disk_calls: u64,
-    // Whether no call was a write, a cut or a sync.
-    only_read: bool,
-}
-
-fn look_at(alloc: Global, world: &MemWorld, status: Status) -> Result<Seen, Fail> {
-    Ok(Seen {
-        status,
-        sent: world.sent(Stream::Out).to_vec(alloc)?,
-        noted: world.sent(Stream::Note).to_vec(alloc)?,
-        disk: world.bytes().to_vec(alloc)?,
-        disk_calls: world.disk_calls(),
-        only_read: are_reads(world.calls()),
-    })
-}
-
 fn are_reads(calls: &[Call]) -> bool {
     for call in calls {
         match call {
@@ -55,47 +31,48 @@ fn are_reads(calls: &[Call]) -> bool {
     true
 }
 
-// A replay, by these words, of a disk some of whose calls fail, with an output some of whose emits fail.
-fn replayed(
-    rt: &HostRuntime,
-    words: &[&str],
+// A world some of whose calls fail, which has this journal on its disk, and takes so many bytes at most at an emit.
+fn world_with(
+    alloc: Global,
     journal: &[u8],
-    disk: Fails,
-    sink: Fails,
+    disk: Failing,
+    sink: Failing,
     piece: u32,
-) -> Result<Seen, Fail>
+) -> Result<MemWorld, Fail>
     requires { 0 < piece }
 {
-    let alloc = rt.alloc();
-    let world = MemWorld::new(alloc, disk, sink, piece)?.of_disk(alloc, journal)?;
-    let (after, status) = ran(rt, words, &[], Fails::Never, world)?;
-    look_at(alloc, &after, status)
+    let disk = fails_of(alloc, disk)?;
+    let sink = fails_of(alloc, sink)?;
+    Ok(MemWorld::new(alloc, disk, sink, piece)?.of_disk(alloc, journal)?)
 }
 
-// A recording, by these words, on an empty disk.
-pub(crate) fn recorded(rt: &HostRuntime, words: &[&str], guest: &[u8]) -> Result<Seen, Fail> {
-    let alloc = rt.alloc();
-    let world = MemWorld::new(alloc, Fails::Never, Fails::Never, 4096)?;
-    let (after, status) = ran(rt, words, guest, Fails::Never, world)?;
-    look_at(alloc, &after, status)
-}
-
-// The status of a replay of a journal, and its number, where it sent these bytes on Out and on Note, and did no more than
-// read the disk.
-fn answer_of(seen: &Seen, journal: &[u8], sent: &[u8], noted: &[u8]) -> Result<(Status, u8), Fail> {
-    let only_read = seen.only_read && seen.disk.as_slice() == journal;
-    if !only_read {
+// Whether a replay sent these bytes on Out and on Note, and did no more than read the disk, which has this journal.
+fn is_right(world: &MemWorld, journal: &[u8], sent: &[u8], noted: &[u8]) -> Result<(), Fail> {
+    if !are_reads(world.calls()) || world.bytes() != journal {
         return Err("a replay only reads the disk".into());
     }
-    let right = seen.sent.as_slice() == sent;
-    if !right {
+    if world.sent(Stream::Out) != sent {
         return Err("other bytes on Out".into());
     }
-    let right = seen.noted.as_slice() == noted;
-    if !right {
+    if world.sent(Stream::Note) != noted {
         return Err("other bytes on Note".into());
     }
-    Ok((seen.status, seen.status.number()))
+    Ok(())
+}
+
+// The status of a replay in this world, and its number, where it sent these bytes on Out and on Note, and did no more than read the
+// disk, which has this journal.
+fn replays_as(
+    rt: &HostRuntime,
+    words: &[&str],
+    world: MemWorld,
+    journal: &[u8],
+    sent: &[u8],
+    noted: &[u8],
+) -> Result<(Status, u8), Fail> {
+    let (after, status) = ran(rt, words, &[], Fails::Never, world)?;
+    is_right(&after, journal, sent, noted)?;
+    Ok((status, status.number()))
 }
 
 // The same of a replay, by these words, that meets no fault.
@@ -106,8 +83,18 @@ pub(crate) fn plays_as(
     sent: &[u8],
     noted: &[u8],
 ) -> Result<(Status, u8), Fail> {
-    let seen = replayed(rt, words, journal, Fails::Never, Fails::Never, 4096)?;
-    answer_of(&seen, journal, sent, noted)
+    let world = world_with(rt.alloc(), journal, Failing::Never, Failing::Never, 4096)?;
+    replays_as(rt, words, world, journal, sent, noted)
+}
+
+// A recording, by these words, on an empty disk.
+pub(crate) fn recorded(
+    rt: &HostRuntime,
+    words: &[&str],
+    guest: &[u8],
+) -> Result<(MemWorld, Status), Fail> {
+    let empty = world_with(rt.alloc(), b"", Failing::Never, Failing::Never, 4096)?;
+    ran(rt, words, guest, Fails::Never, empty)
 }
 
 // A journal of a guest whose records have these bodies.
@@ -127,8 +114,8 @@ pub(crate) fn journal_of(alloc: Global, guest: &[u8], bodies: &[&[u8]]) -> Resul
 // Of the journal of `WRITES` with one epoch, where some calls fail, and an emit takes so many bytes at most.
 fn writes_play_as(
     rt: &HostRuntime,
-    disk: Fails,
-    sink: Fails,
+    disk: Failing,
+    sink: Failing,
     piece: u32,
     sent: &[u8],
     noted: &[u8],
@@ -136,34 +123,34 @@ fn writes_play_as(
     requires { 0 < piece }
 {
     let journal = journal_of(rt.alloc(), &WRITES, &[NINE_STEPS])?;
-    let seen = replayed(rt, REPLAY, &journal, disk, sink, piece)?;
-    answer_of(&seen, &journal, sent, noted)
+    let world = world_with(rt.alloc(), &journal, disk, sink, piece)?;
+    replays_as(rt, REPLAY, world, &journal, sent, noted)
 }
 
-// How many calls on the disk a replay of that journal makes, which has 154 bytes.
-fn calls_of_writes(rt: &HostRuntime) -> Result<u64, Fail> {
+// How long that journal is, and how many calls on the disk a replay of it makes.
+fn calls_of_writes(rt: &HostRuntime) -> Result<(usize, u64), Fail> {
     let journal = journal_of(rt.alloc(), &WRITES, &[NINE_STEPS])?;
-    if journal.len() != 154 {
-        return Err("the journal of one epoch has 154 bytes".into());
-    }
-    let seen = replayed(rt, REPLAY, &journal, Fails::Never, Fails::Never, 4096)?;
-    Ok(seen.disk_calls)
+    let world = world_with(rt.alloc(), &journal, Failing::Never, Failing::Never, 4096)?;
+    let (after, _) = ran(rt, REPLAY, &[], Fails::Never, world)?;
+    Ok((journal.len(), after.disk_calls()))
 }
 
 #[test]
 fn each_disk_call_of_a_replay_fails(rt: HostRuntime) -> Result<(), Fail> {
-    let calls = calls_of_writes(&rt)?;
+    let never = Failing::Never;
+    let (len, calls) = calls_of_writes(&rt)?;
     // It is attached, and read.
-    assert!(rt; calls >= 2);
+    assert_eq!(rt; (len, calls >= 2), (154, true));
     let no_disk: &[u8] = b"dpcli: journal device failed\n";
+    let failed = (Status::DiskFault, 6);
     for number in 1..=calls {
-        for fails in [at(rt.alloc(), number)?, Fails::From(number)] {
-            let came = writes_play_as(&rt, fails, Fails::Never, 4096, b"", no_disk)?;
-            assert_eq!(rt; came, (Status::DiskFault, 6), "call {number}");
-        }
+        let came = writes_play_as(&rt, Failing::At(number), never, 4096, b"", no_disk)?;
+        assert_eq!(rt; came, failed, "call {number}");
+        let came = writes_play_as(&rt, Failing::From(number), never, 4096, b"", no_disk)?;
+        assert_eq!(rt; came, failed, "calls from {number}");
     }
-    let behind = Fails::From(calls.saturating_add(1));
-    let came = writes_play_as(&rt, behind, Fails::Never, 4096, b"hi\n", ONE_OF_WRITES)?;
+    let behind = Failing::From(calls.saturating_add(1));
+    let came = writes_play_as(&rt, behind, never, 4096, b"hi\n", ONE_OF_WRITES)?;
     assert_eq!(rt; came, (Status::Ok, 0));
     Ok(())
 }
@@ -180,11 +167,11 @@ fn each_emit_of_a_replay_fails(rt: HostRuntime) -> Result<(), Fail> {
         (3, (Status::Ok, 0), b"hi\n", ONE_OF_WRITES, ONE_OF_WRITES),
     ];
     for (number, answer, sent, noted, noted_before) in cases {
-        let one = at(rt.alloc(), number)?;
-        let came = writes_play_as(&rt, Fails::Never, one, 4096, sent, noted)?;
+        let one = Failing::At(number);
+        let came = writes_play_as(&rt, Failing::Never, one, 4096, sent, noted)?;
         assert_eq!(rt; came, answer, "emit {number}");
-        let all = Fails::From(number);
-        let came = writes_play_as(&rt, Fails::Never, all, 4096, sent, noted_before)?;
+        let all = Failing::From(number);
+        let came = writes_play_as(&rt, Failing::Never, all, 4096, sent, noted_before)?;
         assert_eq!(rt; came, answer, "emits from {number}");
     }
     Ok(())
@@ -212,14 +199,33 @@ fn bytes_of_a_replay_fail(rt: HostRuntime) -> Result<(), Fail> {
         (121, (Status::Ok, 0), b"hi\n", ONE_OF_WRITES, ONE_OF_WRITES),
     ];
     for (number, answer, sent, noted, noted_before) in cases {
-        let one = at(rt.alloc(), number)?;
-        let came = writes_play_as(&rt, Fails::Never, one, 1, sent, noted)?;
+        let one = Failing::At(number);
+        let came = writes_play_as(&rt, Failing::Never, one, 1, sent, noted)?;
         assert_eq!(rt; came, answer, "emit {number}");
-        let all = Fails::From(number);
-        let came = writes_play_as(&rt, Fails::Never, all, 1, sent, noted_before)?;
+        let all = Failing::From(number);
+        let came = writes_play_as(&rt, Failing::Never, all, 1, sent, noted_before)?;
         assert_eq!(rt; came, answer, "emits from {number}");
     }
     Ok(())
+}
+
+// The status of a replay of what a recording left, and whether it sent the same on Out and on Note, and did no more than read the
+// disk.
+fn replay_of(rt: &HostRuntime, first: &MemWorld) -> Result<(Status, bool, bool), Fail> {
+    let journal = first.bytes();
+    let world = world_with(rt.alloc(), journal, Failing::Never, Failing::Never, 4096)?;
+    let (second, status) = ran(rt, REPLAY, &[], Fails::Never, world)?;
+    is_right(
+        &second,
+        journal,
+        second.sent(Stream::Out),
+        second.sent(Stream::Note),
+    )?;
+    Ok((
+        status,
+        second.sent(Stream::Out) == first.sent(Stream::Out),
+        second.sent(Stream::Note) == first.sent(Stream::Note),
+    ))
 }
 
 // The statuses of a recording and of a replay of what it left, and whether the second sent the same on Out and on Note.
@@ -228,15 +234,9 @@ fn recorded_and_replayed(
     words: &[&str],
     guest: &[u8],
 ) -> Result<(Status, Status, bool, bool), Fail> {
-    let first = recorded(rt, words, guest)?;
-    let second = replayed(rt, REPLAY, &first.disk, Fails::Never, Fails::Never, 4096)?;
-    let came = answer_of(&second, &first.disk, &second.sent, &second.noted)?;
-    Ok((
-        first.status,
-        came.0,
-        first.sent.as_slice() == second.sent.as_slice(),
-        first.noted.as_slice() == second.noted.as_slice(),
-    ))
+    let (first, recorded) = recorded(rt, words, guest)?;
+    let (replayed, same_sent, same_noted) = replay_of(rt, &first)?;
+    Ok((recorded, replayed, same_sent, same_noted))
 }
 
 #[test]

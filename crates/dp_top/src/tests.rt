@@ -24,6 +24,39 @@ pub const NOTE_OF_EXITS: &[u8] =
 const USAGE: &[u8] =
     b"usage: dpcli record GUEST JOURNAL [options], replay JOURNAL [--workers N], inspect JOURNAL, selftest N\n";
 
+// Which calls of one kind fail, as a table has it.
+#[derive(Clone, Copy)]
+pub(crate) enum Failing {
+    Never,
+    At(u64),
+    From(u64),
+}
+
+pub(crate) fn fails_of(alloc: Global, failing: Failing) -> Result<Fails, Fail> {
+    match failing {
+        Failing::Never => Ok(Fails::Never),
+        Failing::At(number) => Ok(Fails::At(CallNumbers::from_vec([number].to_vec(alloc)?))),
+        Failing::From(number) => Ok(Fails::From(number)),
+    }
+}
+
+fn texts_of(alloc: Global, words: &[&str]) -> Result<Vec<String>, Fail> {
+    let mut texts = Vec::new(alloc);
+    for word in words {
+        texts.push(String::from_str(alloc, word)?)?;
+    }
+    Ok(texts)
+}
+
+// The file `g` has these bytes.
+fn files_of(alloc: Global, bytes: &[u8], fetch: Fails) -> Result<MemFiles, Fail> {
+    let name = String::from_str(alloc, "g")?;
+    let bytes = bytes.to_vec(alloc)?;
+    let mut named = Vec::new(alloc);
+    named.push(NamedFile { name, bytes })?;
+    Ok(MemFiles::new(named, fetch))
+}
+
 /// What a run with these words comes to, where `g` is this guest and the world has this disk.
 pub(crate) fn ran(
     rt: &HostRuntime,
@@ -33,16 +66,8 @@ pub(crate) fn ran(
     world: MemWorld,
 ) -> Result<(MemWorld, Status), Fail> {
     let alloc = rt.alloc();
-    let mut texts = Vec::new(alloc);
-    for word in words {
-        texts.push(String::from_str(alloc, word)?)?;
-    }
-    let mut named = Vec::new(alloc);
-    named.push(NamedFile {
-        name: String::from_str(alloc, "g")?,
-        bytes: guest.to_vec(alloc)?,
-    })?;
-    let mut files = MemFiles::new(named, fetch);
+    let mut files = files_of(alloc, guest, fetch)?;
+    let texts = texts_of(alloc, words)?;
     let mut inlet = MemInlet::new(Vec::new(alloc), Vec::new(alloc), Fails::Never);
     Ok(run(rt, alloc, &texts, &mut files, &mut inlet, world))
 }
@@ -55,29 +80,82 @@ pub(crate) fn journal_of_exits(alloc: Global) -> Result<Vec<u8>, Fail> {
     Ok(journal)
 }
 
-fn world(alloc: Global, disk: Fails, sink: Fails) -> Result<MemWorld, Fail> {
+pub(crate) fn world(alloc: Global, disk: Failing, sink: Failing) -> Result<MemWorld, Fail> {
+    let disk = fails_of(alloc, disk)?;
+    let sink = fails_of(alloc, sink)?;
     Ok(MemWorld::new(alloc, disk, sink, 4096)?)
+}
+
+// What a run came to: whether it sent what was wanted on Out and on Note, how long the disk is, how many calls it had, and how many
+// calls on the disk and emits failed.
+#[derive(Clone, Copy)]
+struct Came {
+    status: (Status, u8),
+    is_out: bool,
+    is_note: bool,
+    len: usize,
+    disk_calls: u64,
+    disk_faults: u64,
+    sink_faults: u64,
+}
+
+fn look_at(world: &MemWorld, status: Status, out: &[u8], note: &[u8]) -> Came {
+    Came {
+        status: (status, status.number()),
+        is_out: world.sent(Stream::Out) == out,
+        is_note: world.sent(Stream::Note) == note,
+        len: world.bytes().len(),
+        disk_calls: world.disk_calls(),
+        disk_faults: world.disk_fault_count(),
+        sink_faults: world.sink_fault_count(),
+    }
+}
+
+// A run on an empty disk that fetches each file.
+fn came_to(
+    rt: &HostRuntime,
+    words: &[&str],
+    guest: &[u8],
+    disk: Failing,
+    sink: Failing,
+    out: &[u8],
+    note: &[u8],
+) -> Result<Came, Fail> {
+    let empty = world(rt.alloc(), disk, sink)?;
+    let (after, status) = ran(rt, words, guest, Fails::Never, empty)?;
+    Ok(look_at(&after, status, out, note))
+}
+
+// Whether a recording leaves these bytes on a disk that had these first.
+fn leaves(rt: &HostRuntime, guest: &[u8], first: &[u8], wanted: &[u8]) -> Result<bool, Fail> {
+    let alloc = rt.alloc();
+    let empty = world(alloc, Failing::Never, Failing::Never)?;
+    let used = empty.of_disk(alloc, first)?;
+    let (after, _) = ran(rt, &RECORD, guest, Fails::Never, used)?;
+    Ok(after.bytes() == wanted)
+}
+
+// Whether the recording of `EXITS` leaves the journal of 126 bytes.
+fn leaves_its_journal(rt: &HostRuntime) -> Result<bool, Fail> {
+    let journal = journal_of_exits(rt.alloc())?;
+    leaves(rt, &EXITS, b"", &journal)
 }
 
 // The journal byte by byte, and the note with the digest of the state, which was had from the format's tables.
 #[test]
 fn a_journal_and_its_note(rt: HostRuntime) -> Result<(), Fail> {
-    let alloc = rt.alloc();
-    let empty = world(alloc, Fails::Never, Fails::Never)?;
-    let (after, status) = ran(&rt, &RECORD, &EXITS, Fails::Never, empty)?;
-    assert_eq!(rt; (status, status.number()), (Status::Ok, 0));
-    let journal = journal_of_exits(alloc)?;
-    assert_eq!(rt; journal.len(), 126);
-    assert_eq!(rt; after.bytes(), journal.as_slice());
-    assert_eq!(rt; after.sent(Stream::Out).len(), 0);
-    assert_eq!(rt; after.sent(Stream::Note), NOTE_OF_EXITS);
+    let never = Failing::Never;
+    let came = came_to(&rt, &RECORD, &EXITS, never, never, b"", NOTE_OF_EXITS)?;
+    assert_eq!(rt; came.status, (Status::Ok, 0));
+    assert_eq!(rt; (came.len, came.is_out, came.is_note), (126, true, true));
+    assert!(rt; leaves_its_journal(&rt)?);
     Ok(())
 }
 
 // The guest of nine steps, by the options: the status, the journal's length and the note.
 #[test]
 fn options_of_a_recording(rt: HostRuntime) -> Result<(), Fail> {
-    let alloc = rt.alloc();
+    let never = Failing::Never;
     let cases: [(&[&str], Status, usize, &[u8]); 4] = [
         (
             &RECORD,
@@ -106,20 +184,32 @@ fn options_of_a_recording(rt: HostRuntime) -> Result<(), Fail> {
         ),
     ];
     for (words, answer, len, note) in cases {
-        let empty = world(alloc, Fails::Never, Fails::Never)?;
-        let (after, status) = ran(&rt, words, &WRITES, Fails::Never, empty)?;
-        assert_eq!(rt; (status, after.bytes().len()), (answer, len));
-        assert_eq!(rt; after.sent(Stream::Out), b"hi\n".as_slice());
-        assert_eq!(rt; after.sent(Stream::Note), note);
+        let came = came_to(&rt, words, &WRITES, never, never, b"hi\n", note)?;
+        assert_eq!(rt; (came.status.0, came.len), (answer, len));
+        assert_eq!(rt; (came.is_out, came.is_note), (true, true));
     }
     Ok(())
+}
+
+// A run of a guest of no byte, where fetches fail from this one on and each call on the disk would: its status, how many calls
+// there were on the disk, and whether this was sent on Note.
+fn refused_as(
+    rt: &HostRuntime,
+    words: &[&str],
+    fetch: u64,
+    sink: Failing,
+    note: &[u8],
+) -> Result<((Status, u8), u64, bool), Fail> {
+    let failing = world(rt.alloc(), Failing::From(1), sink)?;
+    let (after, status) = ran(rt, words, &[], Fails::From(fetch), failing)?;
+    let came = look_at(&after, status, b"", note);
+    Ok((came.status, came.disk_calls, came.is_note))
 }
 
 // Before the disk is attached nothing is asked of it. The status's line goes out on Note, and where it can't, the status is
 // the same.
 #[test]
 fn refusals_before_the_disk(rt: HostRuntime) -> Result<(), Fail> {
-    let alloc = rt.alloc();
     let usage = (Status::Usage, 2);
     let no_guest = (Status::GuestFault, 3);
     let no_guest_line: &[u8] = b"dpcli: guest file could not be read\n";
@@ -147,70 +237,79 @@ fn refusals_before_the_disk(rt: HostRuntime) -> Result<(), Fail> {
         ),
     ];
     for (words, fetch, refused, line) in cases {
-        let failing = world(alloc, Fails::From(1), Fails::Never)?;
-        let (after, status) = ran(&rt, words, &[], Fails::From(fetch), failing)?;
-        assert_eq!(rt; (status, status.number()), refused);
-        assert_eq!(rt; (after.disk_calls(), after.sent(Stream::Note)), (0, line));
-        let failing = world(alloc, Fails::From(1), Fails::From(1))?;
-        let (after, status) = ran(&rt, words, &[], Fails::From(fetch), failing)?;
-        assert_eq!(rt; (status, status.number()), refused);
-        assert_eq!(rt;
-            (after.disk_calls(), after.sent(Stream::Note).len()),
-            (0, 0)
-        );
+        let came = refused_as(&rt, words, fetch, Failing::Never, line)?;
+        assert_eq!(rt; came, (refused, 0, true));
+        let came = refused_as(&rt, words, fetch, Failing::From(1), b"")?;
+        assert_eq!(rt; came, (refused, 0, true));
     }
     Ok(())
+}
+
+// A recording of `WRITES` on a disk that has these bytes.
+fn came_to_on(rt: &HostRuntime, disk: &[u8], out: &[u8], note: &[u8]) -> Result<Came, Fail> {
+    let alloc = rt.alloc();
+    let empty = world(alloc, Failing::Never, Failing::Never)?;
+    let used = empty.of_disk(alloc, disk)?;
+    let (after, status) = ran(rt, &RECORD, &WRITES, Fails::Never, used)?;
+    Ok(look_at(&after, status, out, note))
 }
 
 // On a disk that isn't empty nothing is written.
 #[test]
 fn journal_in_use(rt: HostRuntime) -> Result<(), Fail> {
-    let alloc = rt.alloc();
-    let used = world(alloc, Fails::Never, Fails::Never)?.of_disk(alloc, &[7])?;
-    let (after, status) = ran(&rt, &RECORD, &WRITES, Fails::Never, used)?;
-    assert_eq!(rt; (status, status.number()), (Status::JournalInUse(1), 8));
-    assert_eq!(rt; (after.bytes(), after.disk_calls()), ([7].as_slice(), 2));
-    assert_eq!(rt; after.sent(Stream::Out).len(), 0);
-    let line: &[u8] = b"dpcli: journal is not empty: 1 bytes\n";
-    assert_eq!(rt; after.sent(Stream::Note), line);
+    let came = came_to_on(&rt, &[7], b"", b"dpcli: journal is not empty: 1 bytes\n")?;
+    assert_eq!(rt; came.status, (Status::JournalInUse(1), 8));
+    assert_eq!(rt;
+        (came.is_out, came.is_note, came.disk_calls),
+        (true, true, 2)
+    );
+    assert!(rt; leaves(&rt, &WRITES, &[7], &[7])?);
     Ok(())
 }
 
 #[test]
 fn faults_of_the_world(rt: HostRuntime) -> Result<(), Fail> {
-    let alloc = rt.alloc();
-    let at = |number| -> Result<Fails, Fail> {
-        Ok(Fails::At(CallNumbers::from_vec([number].to_vec(alloc)?)))
-    };
+    let never = Failing::Never;
     let no_disk: &[u8] = b"dpcli: journal device failed\n";
     let no_output: &[u8] = b"dpcli: output failed\n";
-    let cases = [
+    // which calls on the disk fail, and which emits; the status, how many failed of each, and the line
+    let cases: [(Failing, Failing, Status, (u64, u64), &[u8]); 6] = [
         // attach, len, and the last sync of twelve calls
-        (at(1)?, Fails::Never, Status::DiskFault, (1, 0), no_disk),
-        (at(2)?, Fails::Never, Status::DiskFault, (1, 0), no_disk),
-        (at(12)?, Fails::Never, Status::DiskFault, (1, 0), no_disk),
+        (Failing::At(1), never, Status::DiskFault, (1, 0), no_disk),
+        (Failing::At(2), never, Status::DiskFault, (1, 0), no_disk),
+        (Failing::At(12), never, Status::DiskFault, (1, 0), no_disk),
         // the output, the report's line, and all
-        (Fails::Never, at(1)?, Status::OutputFault, (0, 1), no_output),
-        (Fails::Never, at(2)?, Status::OutputFault, (0, 1), no_output),
         (
-            Fails::Never,
-            Fails::From(1),
+            never,
+            Failing::At(1),
             Status::OutputFault,
-            (0, 2),
-            &[],
+            (0, 1),
+            no_output,
         ),
+        (
+            never,
+            Failing::At(2),
+            Status::OutputFault,
+            (0, 1),
+            no_output,
+        ),
+        (never, Failing::From(1), Status::OutputFault, (0, 2), b""),
     ];
-    for (disk, sink, answer, counted, line) in cases {
-        let failing = world(alloc, disk, sink)?;
-        let (after, status) = ran(&rt, &RECORD, &WRITES, Fails::Never, failing)?;
-        assert_eq!(rt; status, answer);
-        let faults = (after.disk_fault_count(), after.sink_fault_count());
-        assert_eq!(rt; faults, counted);
-        assert_eq!(rt; after.sent(Stream::Note), line);
+    for (disk, sink, answer, faults, line) in cases {
+        let came = came_to(&rt, &RECORD, &WRITES, disk, sink, b"", line)?;
+        assert_eq!(rt; (came.status.0, came.is_note), (answer, true));
+        assert_eq!(rt; (came.disk_faults, came.sink_faults), faults);
     }
     // behind the last call of each
-    let failing = world(alloc, at(13)?, at(3)?)?;
-    let (after, status) = ran(&rt, &RECORD, &WRITES, Fails::Never, failing)?;
-    assert_eq!(rt; (status, after.disk_fault_count()), (Status::Ok, 0));
+    let came = came_to(
+        &rt,
+        &RECORD,
+        &WRITES,
+        Failing::At(13),
+        Failing::At(3),
+        b"",
+        b"",
+    )?;
+    assert_eq!(rt; (came.status.0, came.disk_faults), (Status::Ok, 0));
     Ok(())
 }

@@ -1,6 +1,6 @@
 // Records of a journal, whole and damaged: each field at its least, at its greatest and one past.
-use crate::guests::EXITS;
-use crate::lower_tests::started;
+use super::EXITS;
+use crate::state_tests::started;
 use checkpoint::encode;
 use journal_text::{Rec, next_record};
 use std::alloc::Global;
@@ -25,7 +25,7 @@ fn seen(file: &[u8], at: u64) -> (Kind, u64, usize) {
 }
 
 // How many bytes there are, as a journal has it.
-pub(crate) fn length_of(bytes: &[u8]) -> [u8; 4] {
+fn length_of(bytes: &[u8]) -> [u8; 4] {
     let count = bytes.len().min(u32::MAX as usize) as u32;
     u32::to_le_bytes(count)
 }
@@ -40,8 +40,8 @@ fn recorded(alloc: Global, body: &[u8]) -> Result<Vec<u8>, Fail> {
     Ok(file)
 }
 
-/// The bytes with so many of them, from a place on, replaced.
-pub(crate) fn replaced(
+// The bytes with so many of them, from a place on, replaced.
+fn replaced(
     alloc: Global,
     bytes: &[u8],
     at: usize,
@@ -74,8 +74,8 @@ fn is_mark(alloc: Global, body: &[u8], at: usize, count: usize, by: &[u8]) -> Re
     is_record(alloc, &replaced(alloc, body, at, count, by)?, Kind::Mark)
 }
 
-/// The state in which a guest starts, as a mark's body of 69,880 bytes.
-pub(crate) fn body_of_a_start(alloc: Global, guest: &[u8]) -> Result<Vec<u8>, Fail> {
+// The state in which a guest starts, as a mark's body of 69,880 bytes.
+fn body_of_a_start(alloc: Global, guest: &[u8]) -> Result<Vec<u8>, Fail> {
     let state = started(alloc, guest)?;
     let encoding = encode(alloc, &state)?;
     let body = replaced(alloc, &encoding, 0, 0, b"\x01")?;
@@ -87,79 +87,82 @@ pub(crate) fn body_of_a_start(alloc: Global, guest: &[u8]) -> Result<Vec<u8>, Fa
 }
 
 // In each table a row is an offset in the body, how many bytes are replaced, by what, and whether it is a mark then.
+const NUMBERS: [(usize, usize, &[u8], bool); 11] = [
+    // the kind
+    (0, 1, b"\x01", true),
+    (0, 1, b"\x02", false),
+    // steps and input
+    (1, 8, b"\xff\xff\xff\xff\xff\xff\xff\xff", true),
+    (9, 8, b"\xff\xff\xff\xff\xff\xff\xff\xff", true),
+    // the heap's start and the break: 0, FFFFF000 and one past; no multiple of 4,096; below the start
+    (17, 8, b"\x00\x00\x00\x00\x00\x00\x00\x00", true),
+    (17, 8, b"\x00\xf0\xff\xff\x00\xf0\xff\xff", true),
+    (17, 8, b"\x00\xf0\xff\xff\x01\xf0\xff\xff", false),
+    (17, 8, b"\x01\x10\x01\x00\x01\x10\x01\x00", false),
+    (21, 4, b"\xff\x0f\x01\x00", false),
+    (21, 4, b"\x01\x10\x01\x00", true),
+    (21, 4, b"\x01\xf0\xff\xff", false),
+];
+
 #[test]
 fn numbers_of_a_mark(rt: HostRuntime) -> Result<(), Fail> {
     let body = body_of_a_start(rt.alloc(), &EXITS)?;
-    let cases: [(usize, usize, &[u8], bool); 11] = [
-        // the kind
-        (0, 1, b"\x01", true),
-        (0, 1, b"\x02", false),
-        // steps and input
-        (1, 8, b"\xff\xff\xff\xff\xff\xff\xff\xff", true),
-        (9, 8, b"\xff\xff\xff\xff\xff\xff\xff\xff", true),
-        // the heap's start and the break: 0, FFFFF000 and one past; no multiple of 4,096; below the start
-        (17, 8, b"\x00\x00\x00\x00\x00\x00\x00\x00", true),
-        (17, 8, b"\x00\xf0\xff\xff\x00\xf0\xff\xff", true),
-        (17, 8, b"\x00\xf0\xff\xff\x01\xf0\xff\xff", false),
-        (17, 8, b"\x01\x10\x01\x00\x01\x10\x01\x00", false),
-        (21, 4, b"\xff\x0f\x01\x00", false),
-        (21, 4, b"\x01\x10\x01\x00", true),
-        (21, 4, b"\x01\xf0\xff\xff", false),
-    ];
-    for (at, count, by, answer) in cases {
+    for (at, count, by, answer) in NUMBERS {
         assert_eq!(rt; is_mark(rt.alloc(), &body, at, count, by)?, answer);
     }
     Ok(())
 }
+
+const END_AND_THREADS: [(usize, usize, &[u8], bool); 12] = [
+    // the end: each kind, and one past; a trap of threads 0, 1 and 2, and of causes 0, 7 and 8
+    (25, 1, b"\x01\xff\xff\xff\xff", true),
+    (25, 1, b"\x02\x01\x00\x00\x00\x00\x00\x00", true),
+    (25, 1, b"\x02\x01\x00\x07\xff\xff\xff\xff", true),
+    (25, 1, b"\x02\x01\x00\x08\xff\xff\xff\xff", false),
+    (25, 1, b"\x02\x00\x00\x07\xff\xff\xff\xff", false),
+    (25, 1, b"\x02\x02\x00\x07\xff\xff\xff\xff", false),
+    (25, 1, b"\x03", true),
+    (25, 1, b"\x04", false),
+    // threads: none, and one that waits, that is gone, and of a fourth kind
+    (26, 135, b"\x00\x00", false),
+    (28, 1, b"\x01\xfc\xff\xff\xff", true),
+    (28, 133, b"\x02\xff\xff\xff\xff", true),
+    (28, 1, b"\x03", false),
+];
 
 #[test]
 fn end_and_threads_of_a_mark(rt: HostRuntime) -> Result<(), Fail> {
     let body = body_of_a_start(rt.alloc(), &EXITS)?;
-    let cases: [(usize, usize, &[u8], bool); 12] = [
-        // the end: each kind, and one past; a trap of threads 0, 1 and 2, and of causes 0, 7 and 8
-        (25, 1, b"\x01\xff\xff\xff\xff", true),
-        (25, 1, b"\x02\x01\x00\x00\x00\x00\x00\x00", true),
-        (25, 1, b"\x02\x01\x00\x07\xff\xff\xff\xff", true),
-        (25, 1, b"\x02\x01\x00\x08\xff\xff\xff\xff", false),
-        (25, 1, b"\x02\x00\x00\x07\xff\xff\xff\xff", false),
-        (25, 1, b"\x02\x02\x00\x07\xff\xff\xff\xff", false),
-        (25, 1, b"\x03", true),
-        (25, 1, b"\x04", false),
-        // threads: none, and one that waits, that is gone, and of a fourth kind
-        (26, 135, b"\x00\x00", false),
-        (28, 1, b"\x01\xfc\xff\xff\xff", true),
-        (28, 133, b"\x02\xff\xff\xff\xff", true),
-        (28, 1, b"\x03", false),
-    ];
-    for (at, count, by, answer) in cases {
+    for (at, count, by, answer) in END_AND_THREADS {
         assert_eq!(rt; is_mark(rt.alloc(), &body, at, count, by)?, answer);
     }
     Ok(())
 }
 
+const PAGES: [(usize, usize, &[u8], bool); 12] = [
+    // none, one more than there are, and one fewer
+    (161, 69_719, b"\x00\x00", true),
+    (161, 2, b"\x12\x00", false),
+    (161, 2, b"\x10\x00", false),
+    // the first page has the number below that of the second, the same, and the one above
+    (163, 4, b"\xef\xff\x07\x00", true),
+    (163, 4, b"\xf0\xff\x07\x00", false),
+    (163, 4, b"\xf1\xff\x07\x00", false),
+    // flags
+    (167, 1, b"\x07", true),
+    (167, 1, b"\x08", false),
+    // the last page has the greatest number, and one past
+    (65_779, 4, b"\xfe\xff\x0f\x00", true),
+    (65_779, 4, b"\xff\xff\x0f\x00", false),
+    // a byte too few, and a byte too many
+    (69_879, 1, b"", false),
+    (69_880, 0, b"\x00", false),
+];
+
 #[test]
 fn pages_of_a_mark(rt: HostRuntime) -> Result<(), Fail> {
     let body = body_of_a_start(rt.alloc(), &EXITS)?;
-    let cases: [(usize, usize, &[u8], bool); 12] = [
-        // none, one more than there are, and one fewer
-        (161, 69_719, b"\x00\x00", true),
-        (161, 2, b"\x12\x00", false),
-        (161, 2, b"\x10\x00", false),
-        // the first page has the number below that of the second, the same, and the one above
-        (163, 4, b"\xef\xff\x07\x00", true),
-        (163, 4, b"\xf0\xff\x07\x00", false),
-        (163, 4, b"\xf1\xff\x07\x00", false),
-        // flags
-        (167, 1, b"\x07", true),
-        (167, 1, b"\x08", false),
-        // the last page has the greatest number, and one past
-        (65_779, 4, b"\xfe\xff\x0f\x00", true),
-        (65_779, 4, b"\xff\xff\x0f\x00", false),
-        // a byte too few, and a byte too many
-        (69_879, 1, b"", false),
-        (69_880, 0, b"\x00", false),
-    ];
-    for (at, count, by, answer) in cases {
+    for (at, count, by, answer) in PAGES {
         assert_eq!(rt; is_mark(rt.alloc(), &body, at, count, by)?, answer);
     }
     Ok(())
@@ -191,58 +194,60 @@ fn page_counts_of_a_mark(rt: HostRuntime) -> Result<(), Fail> {
 
 // An epoch's body: kind, how many slices, each slice's thread and steps, how many answers, and each answer: a read's is a length
 // and its bytes, a clock's is nanoseconds.
+const SLICES: [(&[u8], bool); 12] = [
+    // thread 0, the least and the greatest
+    (b"\x00\x01\0\0\0\x00\x00\x01\0\0\0\0\0\0\0", false),
+    (b"\x00\x01\0\0\0\x01\x00\x01\0\0\0\0\0\0\0", true),
+    (b"\x00\x01\0\0\0\xff\xff\x01\0\0\0\0\0\0\0", true),
+    // steps: 0, 1,000,000 and one past, also of two slices
+    (b"\x00\x01\0\0\0\x01\x00\x00\0\0\0\0\0\0\0", false),
+    (b"\x00\x01\0\0\0\x01\x00\x40\x42\x0f\0\0\0\0\0", true),
+    (b"\x00\x01\0\0\0\x01\x00\x41\x42\x0f\0\0\0\0\0", false),
+    (
+        b"\x00\x02\0\0\0\x01\x00\x3f\x42\x0f\0\x01\x00\x01\0\0\0\0\0\0\0",
+        true,
+    ),
+    (
+        b"\x00\x02\0\0\0\x01\x00\x3f\x42\x0f\0\x01\x00\x02\0\0\0\0\0\0\0",
+        false,
+    ),
+    (b"\x00\x01\0\0\0\x01\x00\xff\xff\xff\xff\0\0\0\0", false),
+    // no slice, one more than there is, and as many as can be said
+    (b"\x00\0\0\0\0\0\0\0\0", false),
+    (b"\x00\x02\0\0\0\x01\x00\x01\0\0\0\0\0\0\0", false),
+    (b"\x00\xff\xff\xff\xff\x01\x00\x01\0\0\0\0\0\0\0", false),
+];
+
 #[test]
 fn slices_of_an_epoch(rt: HostRuntime) -> Result<(), Fail> {
-    let cases: [(&[u8], bool); 12] = [
-        // thread 0, the least and the greatest
-        (b"\x00\x01\0\0\0\x00\x00\x01\0\0\0\0\0\0\0", false),
-        (b"\x00\x01\0\0\0\x01\x00\x01\0\0\0\0\0\0\0", true),
-        (b"\x00\x01\0\0\0\xff\xff\x01\0\0\0\0\0\0\0", true),
-        // steps: 0, 1,000,000 and one past, also of two slices
-        (b"\x00\x01\0\0\0\x01\x00\x00\0\0\0\0\0\0\0", false),
-        (b"\x00\x01\0\0\0\x01\x00\x40\x42\x0f\0\0\0\0\0", true),
-        (b"\x00\x01\0\0\0\x01\x00\x41\x42\x0f\0\0\0\0\0", false),
-        (
-            b"\x00\x02\0\0\0\x01\x00\x3f\x42\x0f\0\x01\x00\x01\0\0\0\0\0\0\0",
-            true,
-        ),
-        (
-            b"\x00\x02\0\0\0\x01\x00\x3f\x42\x0f\0\x01\x00\x02\0\0\0\0\0\0\0",
-            false,
-        ),
-        (b"\x00\x01\0\0\0\x01\x00\xff\xff\xff\xff\0\0\0\0", false),
-        // no slice, one more than there is, and as many as can be said
-        (b"\x00\0\0\0\0\0\0\0\0", false),
-        (b"\x00\x02\0\0\0\x01\x00\x01\0\0\0\0\0\0\0", false),
-        (b"\x00\xff\xff\xff\xff\x01\x00\x01\0\0\0\0\0\0\0", false),
-    ];
-    for (body, answer) in cases {
+    for (body, answer) in SLICES {
         assert_eq!(rt; is_record(rt.alloc(), body, Kind::Epoch)?, answer);
     }
     Ok(())
 }
 
 // What stands behind a slice of thread 1 with one step.
+const ANSWERS: [(&[u8], bool); 11] = [
+    // none, one more than there is, and as many as can be said
+    (b"\0\0\0\0", true),
+    (b"\x01\0\0\0", false),
+    (b"\xff\xff\xff\xff", false),
+    // a read of nothing, and of one byte more than there is
+    (b"\x01\0\0\0\x00\0\0", true),
+    (b"\x01\0\0\0\x00\x02\0a", false),
+    // a clock at 0 and at its greatest, and a third kind of answer
+    (b"\x01\0\0\0\x01\0\0\0\0\0\0\0\0", true),
+    (b"\x01\0\0\0\x01\xff\xff\xff\xff\xff\xff\xff\xff", true),
+    (b"\x01\0\0\0\x02\0\0\0\0\0\0\0\0", false),
+    // a byte too few, a byte too many, and nothing
+    (b"\0\0\0", false),
+    (b"\0\0\0\0\0", false),
+    (b"", false),
+];
+
 #[test]
 fn answers_of_an_epoch(rt: HostRuntime) -> Result<(), Fail> {
-    let cases: [(&[u8], bool); 11] = [
-        // none, one more than there is, and as many as can be said
-        (b"\0\0\0\0", true),
-        (b"\x01\0\0\0", false),
-        (b"\xff\xff\xff\xff", false),
-        // a read of nothing, and of one byte more than there is
-        (b"\x01\0\0\0\x00\0\0", true),
-        (b"\x01\0\0\0\x00\x02\0a", false),
-        // a clock at 0 and at its greatest, and a third kind of answer
-        (b"\x01\0\0\0\x01\0\0\0\0\0\0\0\0", true),
-        (b"\x01\0\0\0\x01\xff\xff\xff\xff\xff\xff\xff\xff", true),
-        (b"\x01\0\0\0\x02\0\0\0\0\0\0\0\0", false),
-        // a byte too few, a byte too many, and nothing
-        (b"\0\0\0", false),
-        (b"\0\0\0\0\0", false),
-        (b"", false),
-    ];
-    for (behind, answer) in cases {
+    for (behind, answer) in ANSWERS {
         let body = replaced(
             rt.alloc(),
             b"\x00\x01\0\0\0\x01\x00\x01\0\0\0",
