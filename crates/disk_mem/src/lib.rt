@@ -20,8 +20,6 @@
 #![tactic(auto)]
 
 mod call;
-#[cfg(test)]
-mod clock_tests;
 mod contents;
 mod counter;
 mod crash;
@@ -31,8 +29,6 @@ mod mem_inlet;
 mod mem_world;
 mod named_file;
 mod pieces;
-#[cfg(test)]
-mod worked_calls;
 
 pub use call::Call;
 pub use fails::{CallNumbers, Fails};

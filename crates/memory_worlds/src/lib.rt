@@ -1,10 +1,13 @@
-//! The forms of the outside in memory, as a crate above calls them: files by name, an input in pieces, a disk and two streams, the
-//! record of their calls, and what a crash leaves.
+//! The forms of the outside in memory, as a crate above calls them: files by name, an input in pieces and a clock, a disk and two
+//! streams, the record of their calls, and what a crash leaves.
 //!
 //! This crate is its tests: tables of what each call on a form of `disk_mem` answers and what stands behind it, where calls fail by
-//! their number, and where no memory is enough. The values come from the model of a disk, by hand.
+//! their number, and where no memory is enough; and worked examples of `disk_mem`'s definitions. The values come from the model of a
+//! disk, by hand.
 #![tactic(auto)]
 
+#[cfg(test)]
+mod clock_tests;
 #[cfg(test)]
 mod crash_tests;
 #[cfg(test)]
@@ -15,5 +18,7 @@ mod files_and_inlet_tests;
 mod record_tests;
 #[cfg(test)]
 mod step;
+#[cfg(test)]
+mod worked_calls;
 #[cfg(test)]
 mod world_tests;

@@ -81,7 +81,7 @@ fn clocks()
 {}
 
 // What a crash leaves of a disk of five bytes behind a write over two of them and one past the end, and behind a cut.
-#[tactic(auto, unfolding(crate::specs::Crashing::with_ones))]
+#[tactic(auto, unfolding(disk_mem::specs::Crashing::with_ones))]
 fn crashes()
     ensures kept { left_by 0 (after_call (Write 5 (8 ∷ 8 ∷ []) true) (after_call (Write 1 (9 ∷ 9 ∷ []) true) (start (1 ∷ 2 ∷ 3 ∷ 4 ∷ 5 ∷ [])))) ≡ 1 ∷ 2 ∷ 3 ∷ 4 ∷ 5 ∷ [] }
     ensures read { left_by 1 (after_call (Write 5 (8 ∷ 8 ∷ []) true) (after_call (Write 1 (9 ∷ 9 ∷ []) true) (start (1 ∷ 2 ∷ 3 ∷ 4 ∷ 5 ∷ [])))) ≡ 1 ∷ 9 ∷ 9 ∷ 4 ∷ 5 ∷ 8 ∷ 8 ∷ [] }

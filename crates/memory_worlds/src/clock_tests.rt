@@ -1,5 +1,5 @@
 // The clock of an input in memory.
-use super::*;
+use disk_mem::{Fails, MemInlet};
 use disk_model::Inlet;
 use dp_base::OutOfMemory;
 use std::alloc::Global;
