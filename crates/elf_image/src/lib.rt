@@ -30,6 +30,3 @@ pub use image::{Image, Segment, Segments};
 pub use image_fault::ImageFault;
 pub use loading::load;
 pub use span::Span;
-
-#[cfg(test)]
-mod tests;

@@ -1,6 +1,6 @@
 // Ranges of bytes, read and written.
-use crate::Pages;
-use crate::tests::{map, two_pages};
+use crate::page_tests::{map, two_pages};
+use cow_pages::Pages;
 use dp_base::{Access, Mem, OutOfMemory, Width};
 use std::alloc::Global;
 use std::test::Fail;

@@ -1,4 +1,5 @@
-use crate::Pages;
+// Pages mapped, shared and unmapped, and the accesses to them.
+use cow_pages::Pages;
 use dp_base::limits::{MAX_PAGES, PAGE_NUMBERS};
 use dp_base::{Access, AmoOp, Mem, OutOfMemory, Width};
 use std::alloc::Global;

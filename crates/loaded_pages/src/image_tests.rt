@@ -1,5 +1,5 @@
 // Files that are guests and files that aren't, each by hand.
-use super::*;
+use elf_image::load;
 use std::alloc::{AllocError, Global};
 use std::test::Fail;
 
