@@ -24,6 +24,3 @@ pub use output_fault::OutputFault;
 pub use report::Report;
 pub use report_line::line;
 pub use status::Status;
-
-#[cfg(test)]
-mod tests;

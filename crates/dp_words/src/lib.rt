@@ -22,6 +22,3 @@ mod text;
 pub use command::Command;
 pub use parsing::{WordsFault, parse};
 pub use text::Text;
-
-#[cfg(test)]
-mod tests;

@@ -1,7 +1,7 @@
 // The lines, byte by byte.
-use super::*;
 use disk_model::{Failed, Stream, World};
 use dp_base::Tid;
+use dp_report::{OutputFault, Report, Status, emit_fault, line};
 use guest_state::End;
 use std::alloc::Global;
 use std::test::Fail;

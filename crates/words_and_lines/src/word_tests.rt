@@ -1,4 +1,5 @@
-use crate::{Command, WordsFault, parse};
+// Words that a command line takes, and words that it refuses.
+use dp_words::{Command, WordsFault, parse};
 use std::test::Fail;
 
 #[test]
