@@ -66,7 +66,12 @@ fn look(alloc: Global, file: &[u8]) -> Seen {
 }
 
 // A file with these bytes at an offset in place of its own.
-fn patched(alloc: Global, file: &[u8], offset: usize, bytes: &[u8]) -> Result<Vec<u8>, AllocError> {
+pub(crate) fn patched(
+    alloc: Global,
+    file: &[u8],
+    offset: usize,
+    bytes: &[u8],
+) -> Result<Vec<u8>, AllocError> {
     let mut patched = file.to_vec(alloc)?;
     for (old, new) in patched.iter_mut().skip(offset).zip(bytes) {
         *old = *new;
@@ -75,7 +80,7 @@ fn patched(alloc: Global, file: &[u8], offset: usize, bytes: &[u8]) -> Result<Ve
 }
 
 // A file whose entries are these: p_type, p_vaddr, p_filesz, p_memsz. Their bytes are those of its start.
-fn file_of(alloc: Global, entries: &[[u32; 4]]) -> Result<Vec<u8>, AllocError> {
+pub(crate) fn file_of(alloc: Global, entries: &[[u32; 4]]) -> Result<Vec<u8>, AllocError> {
     let mut file = EXITS.to_vec(alloc)?;
     file.truncate(52);
     let count = entries.len().min(9) as u8;
@@ -318,66 +323,5 @@ fn many_segments(rt: HostRuntime) -> Result<(), Fail> {
     // what isn't loaded isn't looked at
     let entries = [[0x7000_0003, 0x7fff_0000, 1, 0], [1, 0x2_0000, 0, 1]];
     assert_eq!(rt; fault_and_heap(alloc, &entries)?, (0, 0x2_1000));
-    Ok(())
-}
-
-// A page of zeros, but for these bytes at their offsets.
-fn page_with(alloc: Global, parts: &[(usize, &[u8])]) -> Result<Vec<u8>, AllocError> {
-    let mut page = Vec::new(alloc);
-    page.resize(4096, 0)?;
-    for (offset, bytes) in parts {
-        page = patched(alloc, &page, *offset, bytes)?;
-    }
-    Ok(page)
-}
-
-// Segments that share a page, that go over two and that fill one, in a file whose bytes go on with aa.
-#[test]
-fn pages(rt: HostRuntime) -> Result<(), Fail> {
-    let alloc = rt.alloc();
-    let entries = [
-        [1, 0x1_0ffe, 5, 0x10],
-        [1, 0x1_0008, 4, 8],
-        [1, 0x2_0000, 4096, 4096],
-        [1, 0x3_0000, 0, 1],
-    ];
-    let file = file_of(alloc, &entries)?;
-    let file = patched(alloc, &file, 76, &[1])?;
-    let file = patched(alloc, &file, 108, &[4])?;
-    let mut file = patched(alloc, &file, 140, &[2])?;
-    file.resize(5000, 0xaa)?;
-    let image = load(alloc, &file)?;
-    // number, flags, and the bytes that aren't 0
-    let cases: [(u16, u8, &[(usize, &[u8])]); 9] = [
-        (0x0f, 0, &[]),
-        (
-            0x10,
-            5,
-            &[(8, &[0x7f, 0x45, 0x4c, 0x46]), (0xffe, &[0x7f, 0x45])],
-        ),
-        (0x11, 1, &[(0, &[0x4c, 0x46, 1])]),
-        (0x12, 0, &[]),
-        (0x1f, 0, &[]),
-        (0x20, 2, &[(0, &file)]),
-        (0x21, 0, &[]),
-        (0x30, 6, &[]),
-        (0xffff, 0, &[]),
-    ];
-    for (number, flags, parts) in cases {
-        let page = page_with(alloc, parts)?;
-        let number = u32::from(number);
-        assert_eq!(rt; image.segments.page_flags(number), flags, "{number:x}");
-        assert!(rt;
-            image.segments.page_bytes(number).as_slice() == page.as_slice(),
-            "{number:x}"
-        );
-    }
-    // its address is that of page 10 in 32 bits
-    assert_eq!(rt; image.segments.page_flags(0x10_0010), 0);
-    let mut numbers = vec![in alloc; 0x10, 0x11, 0x20, 0x30]?;
-    for number in 0x7fff0..0x80000 {
-        numbers.push(number)?;
-    }
-    assert!(rt; image.segments.start_pages(alloc)? == numbers);
     Ok(())
 }
