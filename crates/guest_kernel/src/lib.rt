@@ -36,24 +36,3 @@ pub use start_state::{start, start_from_file};
 pub use state::State;
 pub use threads::Threads;
 pub use turn_peek::Peek;
-
-#[cfg(test)]
-mod call_tests;
-#[cfg(test)]
-mod fault_tests;
-#[cfg(test)]
-mod futex_tests;
-#[cfg(test)]
-mod heap_tests;
-#[cfg(test)]
-mod input_tests;
-#[cfg(test)]
-mod one_turn;
-#[cfg(test)]
-mod start_tests;
-#[cfg(test)]
-mod tests;
-#[cfg(test)]
-mod thread_tests;
-#[cfg(test)]
-mod worked_chains;

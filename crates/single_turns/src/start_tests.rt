@@ -1,7 +1,7 @@
 // The states in which guests start, each by hand from its file.
-use super::*;
 use crate::one_turn::one_turn;
-use crate::tests::{EXIT_SEVEN, guest, hart_of, ran_from, slice, started, trap};
+use crate::slice_tests::{EXIT_SEVEN, guest, hart_of, ran_from, slice, started, trap};
+use guest_kernel::{End, Hart, Pages, SliceRun, Turn, start_from_file};
 use std::alloc::{AllocError, Global};
 use std::test::Fail;
 
@@ -76,28 +76,33 @@ fn is_page(pages: &Pages, place: usize, row: Row) -> bool {
         })
 }
 
-// The first place at which another page stands than these: pages below the stack, its own, and those above it.
-fn first_wrong(pages: &Pages, below: &[Row], above: &[Row]) -> Option<usize> {
-    let mut place: usize = 0;
-    for row in below {
+// The first place from this one on at which another page stands than these.
+fn first_other(pages: &Pages, start: usize, rows: &[Row]) -> Option<usize> {
+    for (index, row) in rows.iter().enumerate() {
+        let place = start.wrapping_add(index);
         if !is_page(pages, place, *row) {
             return Some(place);
         }
-        place = place.wrapping_add(1);
-    }
-    for number in 0x7fff0..0x80000 {
-        if !is_page(pages, place, (number, 6, 0, 0)) {
-            return Some(place);
-        }
-        place = place.wrapping_add(1);
-    }
-    for row in above {
-        if !is_page(pages, place, *row) {
-            return Some(place);
-        }
-        place = place.wrapping_add(1);
     }
     None
+}
+
+// The same of the pages of the stack.
+fn first_other_of_stack(pages: &Pages, start: usize) -> Option<usize> {
+    for index in 0..16 {
+        let place = start.wrapping_add(index as usize);
+        if !is_page(pages, place, (0x7fff0 + index, 6, 0, 0)) {
+            return Some(place);
+        }
+    }
+    None
+}
+
+// The first place at which another page stands than these: pages below the stack, its own, and those above it.
+fn first_wrong(pages: &Pages, below: &[Row], above: &[Row]) -> Option<usize> {
+    let stack = below.len();
+    let wrong = first_other(pages, 0, below).or(first_other_of_stack(pages, stack));
+    wrong.or(first_other(pages, stack.wrapping_add(16), above))
 }
 
 // Thread 1's pc, the heap's start, the break, how many pages there are, and the first place of another page than is wanted.

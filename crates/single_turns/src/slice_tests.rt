@@ -1,9 +1,10 @@
+// Runs of slices from a guest's start, each worked out by hand, and the guests of words that tests share.
 ghost use Rattle.std.specs.Prelude.{◌≡◌, ◌<◌, ◌^◌, IfOk, length};
 ghost use Rattle.dp_base.specs.Journal.{steps_of};
 ghost use Rattle.guest_kernel.specs.Answers.{bytes_read};
 
-use super::*;
 use dp_base::{Answer, OutOfMemory, Slice, Tid};
+use guest_kernel::{End, Hart, SliceRun, State, Thread, Threads, Turn, start_from_file};
 use std::alloc::{AllocError, Global};
 use std::test::Fail;
 

@@ -1,10 +1,11 @@
-// Exits of threads, each worked out by hand, and what tests of their calls share.
+// How threads stand before a call of one of them and behind it, for the tests of exits, waits and wakes.
 ghost use Rattle.std.specs.Prelude.{◌≡◌, IfOk};
 
-use super::*;
+use crate::mapping::map;
 use crate::one_turn::one_turn;
-use dp_base::Tid;
 use dp_base::limits::MAX_THREADS;
+use dp_base::{OutOfMemory, Tid};
+use guest_kernel::{End, Hart, Pages, State, Thread, Threads, Turn};
 use std::alloc::Global;
 use std::test::Fail;
 
@@ -14,15 +15,22 @@ const CODE: [u8; 12] = [0x73, 0, 0, 0, 0x13, 0, 0, 0, 0x73, 0, 0x10, 0];
 // The word 5, and 01020304 behind it.
 const WORDS: [u8; 8] = [5, 0, 0, 0, 4, 3, 2, 1];
 
+// Maps a page that may be written, with `WORDS` first.
+fn map_words(pages: &mut Pages, number: u32, flags: u8) -> Result<(), OutOfMemory> {
+    map(pages, number, flags)?;
+    pages.write_range(number.wrapping_mul(4096), &WORDS);
+    Ok(())
+}
+
 // `CODE` at 00010000, which may only be executed, and `WORDS` on page 0 and at 00011000, 00012000 and 00013000: the first two may be
 // read and written, the third only be read, the last only be written.
-fn memory(alloc: Global) -> Result<Pages, Fail> {
+fn memory(alloc: Global) -> Result<Pages, OutOfMemory> {
     let mut pages = Pages::new(alloc)?;
-    pages.map_above(0, 6, &WORDS)?;
     pages.map_above(0x10, 1, &CODE)?;
-    pages.map_above(0x11, 6, &WORDS)?;
     pages.map_above(0x12, 4, &WORDS)?;
-    pages.map_above(0x13, 2, &WORDS)?;
+    map_words(&mut pages, 0, 6)?;
+    map_words(&mut pages, 0x11, 6)?;
+    map_words(&mut pages, 0x13, 2)?;
     Ok(pages)
 }
 
@@ -100,9 +108,9 @@ fn stand_of(thread: Option<&Thread>) -> Stand {
 // A thread that calls: its number and its clear address, then a7, a0 and a1.
 #[derive(Clone, Copy)]
 pub(crate) struct Caller {
-    tid: u16,
-    clear: u32,
-    registers: [u32; 3],
+    pub(crate) tid: u16,
+    pub(crate) clear: u32,
+    pub(crate) registers: [u32; 3],
 }
 
 // One whose clear address is 00011000, where a word is.
@@ -188,113 +196,4 @@ pub(crate) fn look(
     let word = word_at(&state.pages, caller.clear / 4 * 4);
     let wrong = first_wrong(state.threads.as_slice(), after);
     Ok((state.end, word, wrong))
-}
-
-// The thread that exits with 9, threads 1 to 3 before that and behind it, and the end. Its clear address is 00011000.
-fn exits() -> [(u16, [Stand; 3], [Stand; 3], End); 11] {
-    let (gone, other) = (Stand::Gone(9), Stand::Gone(3));
-    let (waiting, elsewhere, woken) = (waits(0x11000), waits(0x11004), answered(0));
-    [
-        // the last thread, which needn't be thread 1 or the one with the highest number
-        (1, [CALLS, other, other], [gone, other, other], End::Exit(9)),
-        (2, [other, CALLS, other], [other, gone, other], End::Exit(9)),
-        (3, [other, other, CALLS], [other, other, gone], End::Exit(9)),
-        // the last one that runs, and others wait
-        (
-            1,
-            [CALLS, elsewhere, other],
-            [gone, elsewhere, other],
-            End::Deadlock,
-        ),
-        (
-            2,
-            [elsewhere, CALLS, elsewhere],
-            [elsewhere, gone, elsewhere],
-            End::Deadlock,
-        ),
-        // another runs
-        (
-            1,
-            [CALLS, IDLE, elsewhere],
-            [gone, IDLE, elsewhere],
-            End::None,
-        ),
-        (3, [IDLE, other, CALLS], [IDLE, other, gone], End::None),
-        // it wakes the only other thread
-        (1, [CALLS, waiting, other], [gone, woken, other], End::None),
-        (3, [other, waiting, CALLS], [other, woken, gone], End::None),
-        // it wakes all that wait on its word, and none that waits elsewhere
-        (
-            2,
-            [waiting, CALLS, waiting],
-            [woken, gone, woken],
-            End::None,
-        ),
-        (
-            2,
-            [waiting, CALLS, elsewhere],
-            [woken, gone, elsewhere],
-            End::None,
-        ),
-    ]
-}
-
-// What is seen behind an exit of a thread with 9.
-fn after_exit(
-    alloc: Global,
-    tid: u16,
-    before: [Stand; 3],
-    after: [Stand; 3],
-) -> Result<Seen, Fail> {
-    look(alloc, on_a_word(tid, [0, 9, 0]), &before, &after)
-}
-
-#[test]
-fn ends_of_exits(rt: HostRuntime) -> Result<(), Fail> {
-    for (tid, before, after, end) in exits() {
-        let found = after_exit(rt.alloc(), tid, before, after)?;
-        assert_eq!(rt; found, (end, Some(0), None));
-    }
-    Ok(())
-}
-
-// Thread 1 exits, and thread 2 waits on its clear address: that, the word there, and whether thread 2 is woken.
-fn clearings() -> [(u32, Option<u32>, bool); 11] {
-    [
-        (0x11000, Some(0), true),
-        (0x11004, Some(0), true),
-        // a page that may only be written
-        (0x13000, Some(0), true),
-        // no address
-        (0, Some(5), false),
-        // no multiple of 4
-        (0x11001, Some(5), false),
-        (0x11002, Some(5), false),
-        (0x11003, Some(5), false),
-        // pages that may not be written, and none
-        (0x12000, Some(5), false),
-        (0x10000, Some(0x73), false),
-        (0x50000, None, false),
-        (0xffff_fffc, None, false),
-    ]
-}
-
-#[test]
-fn clear_addresses(rt: HostRuntime) -> Result<(), Fail> {
-    for (clear, word, woken) in clearings() {
-        let caller = Caller {
-            tid: 1,
-            clear,
-            registers: [0, 9, 0],
-        };
-        let (stand, end) = if woken {
-            (answered(0), End::None)
-        } else {
-            (waits(clear), End::Deadlock)
-        };
-        let before = [CALLS, waits(clear)];
-        let found = look(rt.alloc(), caller, &before, &[Stand::Gone(9), stand])?;
-        assert_eq!(rt; found, (end, word, None), "clear address {clear:x}");
-    }
-    Ok(())
 }

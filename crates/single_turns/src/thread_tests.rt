@@ -1,11 +1,11 @@
 // Threads that are made, and the calls that name and yield one, each worked out by hand; and a guest of two threads.
 ghost use Rattle.std.specs.Prelude.{◌≡◌, IfOk};
 
-use super::*;
 use crate::one_turn::one_turn;
-use crate::tests::{Ran, ran, slice};
+use crate::slice_tests::{Ran, ran, slice};
 use dp_base::Tid;
 use dp_base::limits::MAX_THREADS;
+use guest_kernel::{End, Hart, Pages, SliceRun, State, Thread, Threads, Turn};
 use std::alloc::Global;
 use std::test::Fail;
 

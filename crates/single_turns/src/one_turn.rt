@@ -1,8 +1,8 @@
 // One turn of a guest, for the tests.
 ghost use Rattle.std.specs.Prelude.{◌<◌, ◌^◌};
 
-use crate::*;
 use dp_base::{OutOfMemory, Tid};
+use guest_kernel::{State, Turn};
 use std::alloc::Global;
 
 // A turn of a thread without an answer, the guest behind it, and how many bytes it wrote.

@@ -1,8 +1,8 @@
 // The calls that take an answer, worked out by hand. A guest stands at an ecall on page 10 (hexadecimal), which may only be
 // executed. Pages 11, 13 and 14 may be read and written, page 12 only be read.
-use crate::*;
-use dp_base::limits::{MAX_PAGES, PAGE_NUMBERS};
+use crate::mapping::map;
 use dp_base::{Answer, Bytes, OutOfMemory, Tid};
+use guest_kernel::{End, Hart, Pages, State, Thread, Threads, Turn};
 use std::alloc::Global;
 use std::test::Fail;
 
@@ -27,18 +27,6 @@ const ALONE: Turn = Turn::Stepped {
     used: false,
     yielded: false,
 };
-
-// Maps a page of zeros, where that can be.
-pub(crate) fn map(pages: &mut Pages, number: u32, flags: u8) -> Result<(), OutOfMemory> {
-    if pages.flags(number).is_none()
-        && number < PAGE_NUMBERS
-        && flags < 8
-        && pages.pages() < MAX_PAGES
-    {
-        pages.map_page(number, flags)?;
-    }
-    Ok(())
-}
 
 // A guest of one thread at a call with this number and these arguments, which has read five bytes.
 pub(crate) fn at_call(

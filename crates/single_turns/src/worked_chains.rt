@@ -6,12 +6,12 @@ ghost use Rattle.guest_kernel.specs.declared.state.State.{State};
 ghost use Rattle.guest_kernel.specs.Call.{After};
 ghost use Rattle.guest_kernel.specs.Slices.{Stop, at, run, chain};
 
-#[tactic(auto, unfolding(crate::specs::Slices::chain))]
+#[tactic(auto, unfolding(guest_kernel::specs::Slices::chain))]
 fn no_epoch()
     ensures { (s : State) → chain s [] ≡ Ok (s, []) }
 {}
 
-#[tactic(auto, unfolding(crate::specs::Slices::chain))]
+#[tactic(auto, unfolding(guest_kernel::specs::Slices::chain))]
 fn two_epochs()
     // The second goes on from where the first ended, and the outputs are joined.
     ensures both { (s : State) (e f : Epoch) (mid end : After) →

@@ -1,7 +1,7 @@
 // How many pages guests start with, and files that are refused, each by hand.
-use super::*;
+use crate::slice_tests::{EXIT_SEVEN, guest_of};
 use crate::start_tests::{file_of, patched};
-use crate::tests::{EXIT_SEVEN, guest_of};
+use guest_kernel::{ImageFault, start_from_file};
 use std::alloc::{AllocError, Global};
 use std::test::Fail;
 
@@ -83,39 +83,45 @@ fn pages_of_zeros(alloc: Global) -> Result<Result<u32, ImageFault>, AllocError> 
     Ok(pages_of(alloc, &zeros))
 }
 
-// A length, an offset and bytes; what comes of them.
-fn fault_cases() -> [(usize, usize, &'static [u8], Result<u32, ImageFault>); 13] {
+// The length, and what comes of it.
+fn lengths() -> [(usize, Result<u32, ImageFault>); 5] {
     [
-        (96, 0, &[], Ok(17)),
-        (0, 0, &[], Err(ImageFault::NotElf)),
-        (51, 0, &[], Err(ImageFault::NotElf)),
-        (1_048_576, 0, &[], Ok(17)),
-        (1_048_577, 0, &[], Err(ImageFault::TooLong)),
-        (96, 4, &[2], Err(ImageFault::NotClass32)),
-        (96, 5, &[2], Err(ImageFault::NotLittle)),
-        (96, 16, &[3], Err(ImageFault::NotExec)),
-        (96, 18, &[0x3e], Err(ImageFault::NotRiscv)),
-        (96, 42, &[0x38], Err(ImageFault::BadTable)),
-        (96, 52, &[3], Err(ImageFault::Interp)),
+        (96, Ok(17)),
+        (0, Err(ImageFault::NotElf)),
+        (51, Err(ImageFault::NotElf)),
+        (1_048_576, Ok(17)),
+        (1_048_577, Err(ImageFault::TooLong)),
+    ]
+}
+
+// An offset and the byte there; the fault.
+fn wrong_bytes() -> [(usize, u8, ImageFault); 7] {
+    [
+        (4, 2, ImageFault::NotClass32),
+        (5, 2, ImageFault::NotLittle),
+        (16, 3, ImageFault::NotExec),
+        (18, 0x3e, ImageFault::NotRiscv),
+        (42, 0x38, ImageFault::BadTable),
+        (52, 3, ImageFault::Interp),
         // p_memsz
-        (96, 72, &[0x5f], Err(ImageFault::BadSegment)),
-        // p_filesz 0, p_memsz 3f0001
-        (
-            96,
-            68,
-            &[0, 0, 0, 0, 1, 0, 0x3f],
-            Err(ImageFault::TooManyPages),
-        ),
+        (72, 0x5f, ImageFault::BadSegment),
     ]
 }
 
 #[test]
 fn faults(rt: HostRuntime) -> Result<(), Fail> {
     let alloc = rt.alloc();
-    for (length, offset, bytes, pages) in fault_cases() {
-        let found = pages_with(alloc, length, offset, bytes)?;
-        assert_eq!(rt; found, pages, "{length} bytes, at {offset}");
+    for (length, pages) in lengths() {
+        let found = pages_with(alloc, length, 0, &[])?;
+        assert_eq!(rt; found, pages, "{length} bytes");
     }
+    for (offset, byte, fault) in wrong_bytes() {
+        let found = pages_with(alloc, 96, offset, &[byte])?;
+        assert_eq!(rt; found, Err(fault), "at {offset}");
+    }
+    // p_filesz 0, p_memsz 3f0001
+    let found = pages_with(alloc, 96, 68, &[0, 0, 0, 0, 1, 0, 0x3f])?;
+    assert_eq!(rt; found, Err(ImageFault::TooManyPages));
     assert_eq!(rt; pages_of_zeros(alloc)?, Err(ImageFault::TooLong));
     Ok(())
 }

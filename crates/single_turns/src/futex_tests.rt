@@ -1,6 +1,6 @@
 // Waits and wakes, each turn worked out by hand.
-use super::*;
-use crate::call_tests::{CALLS, IDLE, Seen, Stand, answered, look, on_a_word, waits};
+use crate::stands::{CALLS, IDLE, Seen, Stand, answered, look, on_a_word, waits};
+use guest_kernel::End;
 use std::alloc::Global;
 use std::test::Fail;
 

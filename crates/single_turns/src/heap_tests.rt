@@ -1,8 +1,8 @@
 // The break, each move worked out by hand.
-use super::*;
-use crate::input_tests::map;
-use crate::tests::started;
+use crate::mapping::map;
+use crate::slice_tests::started;
 use dp_base::{Access, Mem, Tid, Width};
+use guest_kernel::{End, Hart, Pages, State, Thread, Threads};
 use std::alloc::Global;
 use std::test::Fail;
 

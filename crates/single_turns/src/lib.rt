@@ -1,0 +1,34 @@
+//! Single turns: what each call and each turn of a guest leaves, how guests start, and what runs of slices come to.
+//!
+//! This crate is its tests: they call `guest_kernel` as a crate above it does, over guests of a few pages and threads. Each value is
+//! worked out by hand from the definitions.
+#![tactic(auto)]
+
+#[cfg(test)]
+mod exit_tests;
+#[cfg(test)]
+mod fault_tests;
+#[cfg(test)]
+mod futex_tests;
+#[cfg(test)]
+mod heap_tests;
+#[cfg(test)]
+mod input_tests;
+#[cfg(test)]
+mod mapping;
+#[cfg(test)]
+mod one_turn;
+#[cfg(test)]
+mod slice_tests;
+#[cfg(test)]
+mod stands;
+#[cfg(test)]
+mod start_tests;
+#[cfg(test)]
+mod state_tests;
+#[cfg(test)]
+mod thread_tests;
+#[cfg(test)]
+mod worked_chains;
+#[cfg(test)]
+mod write_tests;
