@@ -170,9 +170,9 @@ pub(crate) type Seen = (End, Option<u32>, Option<(usize, Stand)>);
 
 // The first thread that stands otherwise than is wanted.
 fn first_wrong(threads: &[Thread], wanted: &[Stand]) -> Option<(usize, Stand)> {
-    for (place, (thread, wanted)) in threads.iter().zip(wanted).enumerate() {
-        let found = stand_of(Some(thread));
-        if found != *wanted {
+    for (place, stand) in wanted.iter().enumerate() {
+        let found = stand_of(threads.get(place));
+        if found != *stand {
             return Some((place, found));
         }
     }

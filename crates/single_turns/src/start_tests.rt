@@ -34,21 +34,33 @@ pub(crate) fn patched(
     Ok(patched)
 }
 
-// A file with this entry and these segments: p_offset, p_vaddr, p_filesz, p_memsz, p_flags. `CONTENTS` are at 0x100.
+// The header of a file with this entry and so many segments.
+fn header(alloc: Global, entry: u32, count: u8) -> Result<Vec<u8>, AllocError> {
+    let mut file = guest(alloc, &[])?;
+    file.truncate(52);
+    let file = patched(alloc, &file, 24, &entry.to_le_bytes())?;
+    patched(alloc, &file, 44, &[count])
+}
+
+// Adds the header of a segment: p_offset, p_vaddr, p_filesz, p_memsz, p_flags.
+fn put_segment(file: &mut Vec<u8>, segment: [u32; 5]) -> Result<(), AllocError> {
+    let [offset, addr, filesz, memsz, flags] = segment;
+    for number in [1, offset, addr, addr, filesz, memsz, flags, 4096] {
+        file.extend_from_slice(&number.to_le_bytes())?;
+    }
+    Ok(())
+}
+
+// A file with this entry and these segments. `CONTENTS` are at 0x100.
 pub(crate) fn file_of(
     alloc: Global,
     entry: u32,
     segments: &[[u32; 5]],
 ) -> Result<Vec<u8>, AllocError> {
-    let mut file = guest(alloc, &[])?;
-    file.truncate(52);
     let count = segments.len().min(6) as u8;
-    let file = patched(alloc, &file, 24, &entry.to_le_bytes())?;
-    let mut file = patched(alloc, &file, 44, &[count])?;
-    for [offset, addr, filesz, memsz, flags] in segments {
-        for number in [1, *offset, *addr, *addr, *filesz, *memsz, *flags, 4096] {
-            file.extend_from_slice(&number.to_le_bytes())?;
-        }
+    let mut file = header(alloc, entry, count)?;
+    for segment in segments {
+        put_segment(&mut file, *segment)?;
     }
     file.resize(0x100, 0xaa)?;
     file.extend_from_slice(&CONTENTS)?;

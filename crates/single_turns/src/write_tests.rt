@@ -14,10 +14,11 @@ fn at_write(alloc: Global, arguments: [u32; 3]) -> Result<State, Fail> {
     let mut pages = Pages::new(alloc)?;
     pages.map_above(0x10, 1, &[0x73])?;
     pages.map_above(0x11, 4, &page)?;
-    pages.map_above(0x12, 7, b"cd")?;
+    map(&mut pages, 0x12, 7)?;
     map(&mut pages, 0x13, 3)?;
     map(&mut pages, 0, 4)?;
     map(&mut pages, 0xffffe, 4)?;
+    pages.write_range(0x12000, b"cd");
     let mut hart = Hart {
         pc: 0x10000,
         x: [7; 31],
