@@ -24,6 +24,3 @@ mod writer;
 pub use decoding::decode;
 pub use encoding::encode;
 pub use hash::digest;
-
-#[cfg(test)]
-mod tests;

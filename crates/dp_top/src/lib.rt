@@ -25,18 +25,3 @@ mod top;
 
 pub use dp_report::Status;
 pub use top::run;
-
-#[cfg(test)]
-mod changed_bytes;
-#[cfg(test)]
-mod changed_journal_tests;
-#[cfg(test)]
-mod guests;
-#[cfg(test)]
-mod image_tests;
-#[cfg(test)]
-mod replay_tests;
-#[cfg(test)]
-mod tests;
-#[cfg(test)]
-mod worked_outside;

@@ -32,10 +32,3 @@ pub use answer::{can_step, input_due};
 pub use bounds::Bounds;
 pub use epoch_run::{EpochRun, Ran};
 pub use run::run_epoch;
-
-#[cfg(test)]
-mod input_tests;
-#[cfg(test)]
-mod test_guests;
-#[cfg(test)]
-mod tests;

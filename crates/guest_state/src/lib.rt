@@ -25,8 +25,3 @@ pub use hart::Hart;
 pub use reader::{read_end, read_page, read_thread};
 pub use scan::{Bounds, alive_count, is_checkpoint, live_count};
 pub use thread::Thread;
-
-#[cfg(test)]
-mod tests;
-#[cfg(test)]
-mod worked_checkpoints;

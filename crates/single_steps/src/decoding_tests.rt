@@ -28,47 +28,74 @@ fn illegal_words(rt: HostRuntime) {
         (0x0000_100f, "FENCE.I"),
     ];
     for (word, name) in cases {
-        assert_eq!(rt; decode(word), None, "{name}");
+        assert!(rt; decode(word).is_none(), "{name}");
     }
 }
 
 #[test]
 fn legal_words(rt: HostRuntime) {
-    let (rd, rs1, rs2) = (6, 5, 7);
-    let cases = [
-        // all of FENCE's other fields set
-        (0xffff_8f8f, Instr::Fence),
-        // aq and rl set
-        (0x1602_a32f, Instr::LrW { rd, rs1 }),
-        (0x1e72_a32f, Instr::ScW { rd, rs1, rs2 }),
-        (0xe672_a32f, Instr::AmomaxuW { rd, rs1, rs2 }),
-        // immediates: the longest shift, and signs that are extended
-        (0x41f2_d313, Instr::Srai { rd, rs1, imm: 31 }),
-        (
-            0x8002_8313,
-            Instr::Addi {
-                rd,
-                rs1,
-                imm: 0xffff_f800,
-            },
-        ),
-        (
-            0x8000_00e3,
-            Instr::Beq {
+    // all of FENCE's other fields set
+    assert!(rt; matches!(decode(0xffff_8f8f), Some(Instr::Fence)));
+    // aq and rl set
+    assert!(rt; matches!(decode(0x1602_a32f), Some(Instr::LrW { rd: 6, rs1: 5 })));
+    assert!(rt;
+        matches!(
+            decode(0x1e72_a32f),
+            Some(Instr::ScW {
+                rd: 6,
+                rs1: 5,
+                rs2: 7
+            })
+        )
+    );
+    assert!(rt;
+        matches!(
+            decode(0xe672_a32f),
+            Some(Instr::AmomaxuW {
+                rd: 6,
+                rs1: 5,
+                rs2: 7
+            })
+        )
+    );
+    // immediates: the longest shift, and signs that are extended
+    assert!(rt;
+        matches!(
+            decode(0x41f2_d313),
+            Some(Instr::Srai {
+                rd: 6,
+                rs1: 5,
+                imm: 31
+            })
+        )
+    );
+    assert!(rt;
+        matches!(
+            decode(0x8002_8313),
+            Some(Instr::Addi {
+                rd: 6,
+                rs1: 5,
+                imm: 0xffff_f800
+            })
+        )
+    );
+    assert!(rt;
+        matches!(
+            decode(0x8000_00e3),
+            Some(Instr::Beq {
                 rs1: 0,
                 rs2: 0,
-                imm: 0xffff_f800,
-            },
-        ),
-        (
-            0x8000_00ef,
-            Instr::Jal {
+                imm: 0xffff_f800
+            })
+        )
+    );
+    assert!(rt;
+        matches!(
+            decode(0x8000_00ef),
+            Some(Instr::Jal {
                 rd: 1,
-                imm: 0xfff0_0000,
-            },
-        ),
-    ];
-    for (word, instr) in cases {
-        assert_eq!(rt; decode(word), Some(instr), "{word:08x}");
-    }
+                imm: 0xfff0_0000
+            })
+        )
+    );
 }

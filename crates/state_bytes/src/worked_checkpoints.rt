@@ -14,7 +14,7 @@ fn ends()
     ensures deadlock { end_bytes ends.Deadlock ≡ 3 ∷ [] }
 {}
 
-#[tactic(auto, unfolding(crate::specs::Checkpoint::end_from, crate::specs::Checkpoint::trap_from, crate::specs::Checkpoint::exit_from))]
+#[tactic(auto, unfolding(guest_state::specs::Checkpoint::end_from, guest_state::specs::Checkpoint::trap_from, guest_state::specs::Checkpoint::exit_from))]
 fn ends_read()
     ensures trap { end_from (2 ∷ 1 ∷ 0 ∷ 3 ∷ 0x54 ∷ 0 ∷ 1 ∷ 0 ∷ 9 ∷ []) ≡ Some (ends.Trap (record { 0 = 1 }) 3 0x10054, 9 ∷ []) }
     ensures eighth_cause { end_from (2 ∷ 1 ∷ 0 ∷ 8 ∷ 0 ∷ 0 ∷ 0 ∷ 0 ∷ []) ≡ None }

@@ -1,5 +1,5 @@
 // Checkpoints without pages, written by hand. Those with pages are tested with the crate that encodes states.
-use crate::*;
+use guest_state::{End, Thread, is_checkpoint, read_end, read_page, read_thread};
 use std::alloc::Global;
 use std::test::Fail;
 

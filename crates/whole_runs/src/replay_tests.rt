@@ -2,11 +2,11 @@
 ghost use Rattle.std.specs.Prelude.{◌<◌};
 
 use crate::changed_bytes::length_of;
-use crate::guests::{EXITS, WRITES};
-use crate::tests::{Failing, fails_of, ran};
+use crate::run_tests::{Failing, fails_of, ran};
 use disk_mem::{Call, Fails, MemWorld};
 use disk_model::Stream;
 use dp_report::Status;
+use journal_guests::{EXITS, WRITES};
 use std::alloc::Global;
 use std::test::Fail;
 

@@ -7,7 +7,7 @@ use Rattle.guest_kernel.specs.Call.{After}
 use Rattle.guest_kernel.specs.Slices.{Stop, at, run}
 use Rattle.guest_kernel.specs.Stops.{IsRunAnswer}
 use Rattle.checkpoint.specs.State.{IsEncodable}
-use Rattle.checkpoint.proofs.tests.ended.Goals as goal
+use Rattle.state_bytes.proofs.checkpoint_tests.ended.Goals as goal
 
 -- where a whole run ends
 run_end : (s : State) (output : List ℕ) (found : Result After (Stop × After)) → IsRunAnswer Whole s output found → (there : After) × (found ≡ Ok there) × (s ≡ there.state)

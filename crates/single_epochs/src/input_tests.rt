@@ -1,8 +1,8 @@
 // Epochs of guests that read their input and the clock.
-use crate::test_guests::Stands::Runs;
-use crate::test_guests::*;
-use crate::{Ran, can_step, input_due};
+use crate::epoch_guests::Stands::Runs;
+use crate::epoch_guests::*;
 use dp_base::Answer;
+use epoch_runner::{Ran, can_step, input_due};
 use guest_kernel::{End, State};
 use std::alloc::Global;
 use std::test::Fail;

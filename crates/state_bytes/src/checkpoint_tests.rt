@@ -2,7 +2,7 @@
 ghost use Rattle.std.specs.Prelude.{◌≡◌, IfOk};
 ghost use Rattle.checkpoint.specs.State.{IsEncodable};
 
-use super::*;
+use checkpoint::{decode, digest, encode, laws};
 use dp_base::{Slice, Tid};
 use guest_kernel::{SliceRun, State, start_from_file};
 use std::alloc::Global;

@@ -1,8 +1,8 @@
 // Guests of a few words of code for the tests, and what an epoch of one has done.
-use super::*;
 use disk_mem::{Fails, MemInlet};
 use dp_base::limits::{MAX_EPOCH_STEPS, MAX_THREADS};
 use dp_base::{Slice, Tid};
+use epoch_runner::{Bounds, Ran, run_epoch};
 use guest_kernel::{End, Hart, Pages, State, Thread, Threads};
 use std::alloc::{AllocError, Global};
 use std::test::Fail;

@@ -1,8 +1,8 @@
 // The top call on memory forms.
-use super::*;
-use crate::guests::{EXITS, WRITES};
 use disk_mem::{CallNumbers, Fails, MemFiles, MemInlet, MemWorld, NamedFile};
 use disk_model::Stream;
+use dp_top::{Status, run};
+use journal_guests::{EXITS, WRITES};
 use std::alloc::Global;
 use std::test::Fail;
 

@@ -1,9 +1,9 @@
 // Replays of journals that are cut short or changed: their guest, epochs and marks.
 use crate::changed_bytes::{all_replaced, body_of_a_start, replaced};
-use crate::guests::{EXITS, WRITES};
 use crate::replay_tests::{NINE_STEPS, ONE_OF_WRITES, REPLAY, journal_of, plays_as, recorded};
-use crate::tests::{NOTE_OF_EXITS, journal_of_exits};
+use crate::run_tests::{NOTE_OF_EXITS, journal_of_exits};
 use dp_report::Status;
+use journal_guests::{EXITS, WRITES};
 use std::alloc::Global;
 use std::test::Fail;
 

@@ -1,7 +1,7 @@
-use crate::test_guests::Stands::{Gone, Runs, Waits};
-use crate::test_guests::*;
-use crate::{can_step, input_due};
+use crate::epoch_guests::Stands::{Gone, Runs, Waits};
+use crate::epoch_guests::*;
 use dp_base::Tid;
+use epoch_runner::{can_step, input_due};
 use guest_kernel::End;
 use std::test::Fail;
 
