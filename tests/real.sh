@@ -16,7 +16,7 @@ work=$(mktemp -d) || exit 1
 trap 'rm -rf "$work"' EXIT
 cd "$work" || exit 1
 
-checks=437 # how many there are below; one that isn't made must be missed
+checks=439 # how many there are below; one that isn't made must be missed
 passed=0
 failed=0
 
@@ -250,6 +250,11 @@ for words in "" "record" "record a" "replay" "replay a b" "play a" "record a b -
   check "the words '$words': the status is $status, not Usage" ended_with 2
   check "the words '$words': another line" note_has "usage: dpcli "
 done
+
+# Words that aren't text are no command either.
+run replay $'\xff.dpj'
+check "a word that isn't text: the status is $status, not Usage" ended_with 2
+check "a word that isn't text: another line" note_has "usage: dpcli "
 
 # ---- a journal that is cut
 
