@@ -3,7 +3,7 @@ use disk_model::Stream;
 use dp_base::Bytes;
 
 /// A call on a `MemWorld`. `ok` is `false` if the call failed by its number.
-#[derive(Debug, Drop)]
+#[derive(Drop)]
 pub enum Call {
     Attach {
         ok: bool,

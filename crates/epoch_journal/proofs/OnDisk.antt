@@ -15,7 +15,8 @@ use Rattle.device.specs.Writing.{IsTorn, IsWrittenThrough, SentNothing}
 use Rattle.epoch_journal.specs.Appending.{FrameWritten, IsAppend, RecordWritten}
 use Rattle.epoch_journal.specs.Images.{IsBeforeOrAfter, Reads}
 use Rattle.epoch_journal.specs.Standing.{Stands}
-use Rattle.epoch_journal.proofs.ReadsAs.{all-before, journal-push, journal-records, reads-closed, reads-gate, records}
+use Rattle.epoch_journal.proofs.AtRest.{on-disk}
+use Rattle.epoch_journal.proofs.ReadsAs.{all-before, journal-push, journal-records, reads-gate, reads-shut, records}
 use Rattle.journal_text.specs.Reading.{journal_of}
 use Rattle.journal_text.specs.Records.{IsRecord, Record, body_of}
 
@@ -32,11 +33,14 @@ module _ (end : ℕ) (added : List ℕ) (s : History) (guest : List ℕ) (record
   abbrev before : List ℕ
   before = records guest records_
 
-  old : s.disk ≡ before ++ closed_gate ∷ []
-  old = is.stands.disk ∙ journal-records guest records_
+  abbrev gate_before : ℕ
+  gate_before = is.stands.gate
+
+  old : s.disk ≡ before ++ gate_before ∷ []
+  old = on-disk guest records_ s is.stands
 
   size : length s.disk ≡ length before + 1
-  size = omega (arith, ap (λ (l : List ℕ). length l) old, length-append before (closed_gate ∷ []))
+  size = omega (arith, ap (λ (l : List ℕ). length l) old, length-append before (gate_before ∷ []))
 
   -- ---- the frame is written
 
@@ -44,28 +48,27 @@ module _ (end : ℕ) (added : List ℕ) (s : History) (guest : List ℕ) (record
     longer : t.disk ≡ s.disk ++ added
     longer = body.disk refl (omega (arith, is.at_end)) ∙ overwritten-end end added s.disk is.at_end
 
-    behind : t.disk ≡ before ++ closed_gate ∷ frame (body_of r)
-    behind = longer ∙ ap (λ (l : List ℕ). l ++ added) old ∙ ap (λ (l : List ℕ). (before ++ closed_gate ∷ []) ++ l) is.framed
-        ∙ append_assoc before (closed_gate ∷ []) (frame (body_of r))
+    behind : t.disk ≡ before ++ gate_before ∷ frame (body_of r)
+    behind = longer ∙ ap (λ (l : List ℕ). l ++ added) old ∙ ap (λ (l : List ℕ). (before ++ gate_before ∷ []) ++ l) is.framed
+        ∙ append_assoc before (gate_before ∷ []) (frame (body_of r))
 
     long : length t.disk ≡ length before + (1 + length (frame (body_of r)))
-    long = omega (arith, ap (λ (l : List ℕ). length l) behind, length-append before (closed_gate ∷ frame (body_of r)))
+    long = omega (arith, ap (λ (l : List ℕ). length l) behind, length-append before (gate_before ∷ frame (body_of r)))
 
     opened : (u : History) → IsWrittenThrough (end - 1) (open_gate ∷ []) true t u → Stands guest (records_ ++ r ∷ []) u
     opened u gate = record {
       disk = gate.disk refl (omega (arith, is.at_end, size, long)) ∙ ap (overwritten (end - 1) (open_gate ∷ [])) behind
-          ∙ overwritten-one-byte (end - 1) before (frame (body_of r)) closed_gate open_gate (omega (arith, is.at_end, size))
+          ∙ overwritten-one-byte (end - 1) before (frame (body_of r)) gate_before open_gate (omega (arith, is.at_end, size))
           ∙ journal-push guest records_ r;
       synced = gate.synced refl;
     }
 
-    -- what the last sync had left begins with the journal as it was
-    gate-kept : (u : History) → IsWrittenThrough (end - 1) (open_gate ∷ []) false t u → IsPrefixOf (journal_of guest records_) u.pending.synced
-    gate-kept u gate = (added, gate.kept refl ∙ ap (λ (p : Pending). p.synced) (body.synced refl) ∙ longer ∙ ap (λ (l : List ℕ). l ++ added) is.stands.disk)
+    -- what the last sync had left begins with what was there
+    gate-kept : (u : History) → IsWrittenThrough (end - 1) (open_gate ∷ []) false t u → IsPrefixOf s.disk u.pending.synced
+    gate-kept u gate = (added, gate.kept refl ∙ ap (λ (p : Pending). p.synced) (body.synced refl) ∙ longer)
 
-  frame-kept : (t : History) → IsWrittenThrough end added false s t → IsPrefixOf (journal_of guest records_) t.pending.synced
-  frame-kept t body =
-      ([], body.kept refl ∙ ap (λ (p : Pending). p.synced) is.stands.synced ∙ is.stands.disk ∙ sym (append-nil (journal_of guest records_)))
+  frame-kept : (t : History) → IsWrittenThrough end added false s t → IsPrefixOf s.disk t.pending.synced
+  frame-kept t body = ([], body.kept refl ∙ ap (λ (p : Pending). p.synced) is.stands.synced ∙ sym (append-nil s.disk))
 
   -- ---- every moment
 
@@ -73,13 +76,14 @@ module _ (end : ℕ) (added : List ℕ) (s : History) (guest : List ℕ) (record
     abbrev P : List ℕ → List ℕ → Type 0
     P = IsBeforeOrAfter guest records_ r s
 
-    -- the frame behind the closed gate, torn or whole
+    -- the frame behind a gate that isn't open, torn or whole
     frame-torn : (image sent : List ℕ) → IsTorn end (length added) s image sent → P image sent
     frame-torn image sent torn =
         let pending = subst (λ (p : Pending). IsImage (write_pending end (length added) p) image) is.stands.synced torn.0 in
         let there = image-past-end (length added) s.disk image (subst (λ (n : ℕ). IsImage (write_pending n (length added) (nothing_pending s.disk)) image) is.at_end pending) in
-        let image-is : image ≡ journal_of guest records_ ++ drop (length s.disk) image = there ∙ ap (λ (l : List ℕ). l ++ drop (length s.disk) image) is.stands.disk in
-        (inl (reads-closed guest records_ (drop (length s.disk) image) image is-guest (all-before records_ r are) image-is (omega (arith, pending.no_longer, is.at_end, room))), torn.1)
+        let image-is : image ≡ before ++ gate_before ∷ drop (length s.disk) image =
+        there ∙ ap (λ (l : List ℕ). l ++ drop (length s.disk) image) old ∙ append_assoc before (gate_before ∷ []) (drop (length s.disk) image) in
+        (inl (reads-shut guest records_ gate_before (drop (length s.disk) image) image is-guest (all-before records_ r are) is.stands.shut pending.bytes image-is (omega (arith, pending.no_longer, is.at_end, room))), torn.1)
 
     frame-moments : (ok : Bool) (t : History) → IsWrittenThrough end added ok s t → Always P s t
     frame-moments ok t body = always-weaker (IsTorn end (length added) s) P s t frame-torn (body.moments is.stands.synced (omega (arith, is.at_end)))
@@ -92,8 +96,8 @@ module _ (end : ℕ) (added : List ℕ) (s : History) (guest : List ℕ) (record
           let pending = subst (λ (p : Pending). IsImage (write_pending (end - 1) 1 p) image) (body.synced refl ∙ ap nothing_pending (behind t body)) torn.0 in
           let gate = get_or image (length before) 0 in
           let image-is : image ≡ before ++ gate ∷ frame (body_of r) =
-          image-one-byte before (frame (body_of r)) closed_gate image
-          (subst (λ (n : ℕ). IsImage (write_pending n 1 (nothing_pending (before ++ closed_gate ∷ frame (body_of r)))) image) place pending) in
+          image-one-byte before (frame (body_of r)) gate_before image
+          (subst (λ (n : ℕ). IsImage (write_pending n 1 (nothing_pending (before ++ gate_before ∷ frame (body_of r)))) image) place pending) in
           let few : length (before ++ gate ∷ frame (body_of r)) ≤ MAX_JOURNAL_BYTES =
           omega (arith, length-append before (gate ∷ frame (body_of r)), is.at_end, size, ap (λ (l : List ℕ). length l) is.framed, room) in (
             subst (λ (l : List ℕ). (Reads guest records_ l) ⊎ (Reads guest (records_ ++ r ∷ []) l)) (sym image-is)

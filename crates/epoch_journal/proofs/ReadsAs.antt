@@ -72,16 +72,20 @@ reads-up-to guest records_ rest is are none fits =
     } in
     (place, whole file (ending guest records_ place) (subst (λ (b : List ℕ). IsMadeOf b (ending guest records_ place)) (sym (take_all MAX_JOURNAL_BYTES file fits)) made))
 
--- whatever stands behind the closed gate
-pub reads-closed : (guest : List ℕ) (records_ : List Record) (rest image : List ℕ) → IsGuest guest → AllByRecursion IsRecord records_ → image ≡ journal_of guest records_ ++ rest → length image ≤ MAX_JOURNAL_BYTES → Reads guest records_ image
-reads-closed guest records_ rest image is are image-is fits =
-    let all : image ≡ records guest records_ ++ closed_gate ∷ rest = image-is ∙ ap (λ (l : List ℕ). l ++ rest) (journal-records guest records_) ∙ append_assoc (records guest records_) (closed_gate ∷ []) rest in
+-- whatever stands behind a gate that isn't open
+pub reads-shut : (guest : List ℕ) (records_ : List Record) (gate : ℕ) (rest image : List ℕ) → IsGuest guest → AllByRecursion IsRecord records_ → gate ≢ open_gate → AreBytes image → image ≡ records guest records_ ++ gate ∷ rest → length image ≤ MAX_JOURNAL_BYTES → Reads guest records_ image
+reads-shut guest records_ gate rest image is are shut bytes all fits =
     subst (λ (l : List ℕ). Reads guest records_ l) (sym all)
-    (reads-up-to guest records_ (closed_gate ∷ rest) is are (next_behind_closed rest) (subst (λ (l : List ℕ). length l ≤ MAX_JOURNAL_BYTES) all fits))
+    (reads-up-to guest records_ (gate ∷ rest) is are
+    (next-behind-gate gate rest shut (AreBytes-right (records guest records_) (gate ∷ rest) (subst AreBytes all bytes)))
+    (subst (λ (l : List ℕ). length l ≤ MAX_JOURNAL_BYTES) all fits))
 
 -- a journal at rest
 pub reads-at-rest : (guest : List ℕ) (records_ : List Record) → IsGuest guest → AllByRecursion IsRecord records_ → length (journal_of guest records_) ≤ MAX_JOURNAL_BYTES → Reads guest records_ (journal_of guest records_)
-reads-at-rest guest records_ is are fits = reads-closed guest records_ [] (journal_of guest records_) is are (sym (append-nil (journal_of guest records_))) fits
+reads-at-rest guest records_ is are fits =
+    let all = journal-records guest records_ in
+    subst (λ (l : List ℕ). Reads guest records_ l) (sym all)
+    (reads-up-to guest records_ (closed_gate ∷ []) is are (next_behind_closed []) (subst (λ (l : List ℕ). length l ≤ MAX_JOURNAL_BYTES) all fits))
 
 -- where any gate stands before a frame: the records, or these and one more
 pub reads-gate : (guest : List ℕ) (records_ : List Record) (r : Record) (gate : ℕ) → IsGuest guest → AllByRecursion IsRecord (records_ ++ r ∷ []) → AreBytes (records guest records_ ++ gate ∷ frame (body_of r)) → length (records guest records_ ++ gate ∷ frame (body_of r)) ≤ MAX_JOURNAL_BYTES

@@ -10,23 +10,22 @@ use Rattle.disk_model.specs.Moments.{Always}
 use Rattle.epoch_journal.specs.declared.append.AppendFault.{AppendFault}
 use Rattle.epoch_journal.specs.declared.append.AppendFault.TheVariants as appends
 use Rattle.epoch_journal.specs.Images.{IsBeforeOrAfter}
-use Rattle.epoch_journal.specs.Standing.{Journal, Stands}
-use Rattle.journal_text.specs.Reading.{journal_of}
+use Rattle.epoch_journal.specs.Standing.{IsShut, Journal, Stands}
 use Rattle.journal_text.specs.Records.{IsRecord, Record, body_of}
 
--- a record's frame is appended to a journal that stands on the disk and ends at this place
+-- a record's frame is appended to a journal that is on the disk, whose gate isn't open and is the last byte before this place
 pub record IsAppend (end : ℕ) (added : List ℕ) (before : History) (guest : List ℕ) (records : List Record) (r : Record) : Type 0 where
-  pub stands : Stands guest records before
+  pub stands : IsShut guest records before
   pub at_end : end ≡ length before.disk
   pub framed : added ≡ frame (body_of r)
 
 -- What stands behind the two writes of an append. After a device's fault what the last sync had left on the disk begins with
--- the journal as it was.
+-- what was there.
 abbrev pub RecordLeft : (end : ℕ) → (added : List ℕ) → Bool → History → History → Type 0
 RecordLeft end added true before after =
     (guest : List ℕ) (records : List Record) (r : Record) → IsAppend end added before guest records r → Stands guest (records ++ r ∷ []) after
 RecordLeft end added false before after =
-    (guest : List ℕ) (records : List Record) (r : Record) → IsAppend end added before guest records r → IsPrefixOf (journal_of guest records) after.pending.synced
+    (guest : List ℕ) (records : List Record) (r : Record) → IsAppend end added before guest records r → IsPrefixOf before.disk after.pending.synced
 
 -- At every moment a crash leaves the journal as it was, or the one with the record.
 abbrev pub RecordMoments : (end : ℕ) → (added : List ℕ) → History → History → Type 0

@@ -28,7 +28,8 @@ impl Journal {
     ///
     /// At every moment of the call, also of one that fails, a crash leaves a disk that reads as the journal as it was, or as the
     /// one with this record behind the others. Once it has answered `Ok` only the latter is left. This holds where the journal
-    /// stands on the disk, as it does behind a `begin` or an `append` that answered `Ok`.
+    /// stands on the disk, as it does behind a `begin` or an `append` that answered `Ok`, and the gate behind its records may
+    /// also be another byte that isn't the open gate.
     pub fn append<W: World>(&mut self, world: &mut W, added: &Frame) -> Result<(), AppendFault>
         ensures history { IfKnown (Appended self.old added.now result) (W.history world.old) (W.history world.new) }
         ensures numbers { HasAppended self.old (length added.now) self.new result }

@@ -9,7 +9,7 @@ use Rattle.disk_model.proofs.Moments.{always-then, always-weaker}
 use Rattle.dp_base.specs.declared.limits.TheConstants.{MAX_JOURNAL_BYTES}
 use Rattle.epoch_journal.specs.Appending.{Appended, IsAppend}
 use Rattle.epoch_journal.specs.Standing.{Journal, Stands}
-use Rattle.epoch_journal.proofs.AtRest.{image-reads}
+use Rattle.epoch_journal.proofs.AtRest.{image-reads, length-shut, shut-of}
 use Rattle.epoch_journal.proofs.OnDisk.{length-journal-push}
 use Rattle.journal_text.specs.Reading.{journal_of}
 use Rattle.journal_text.specs.Records.{Record}
@@ -25,7 +25,7 @@ module _ (j : Journal) (added output : List ℕ) (few : j.end + length added ≤
 
   size_behind : (s : History) (guest : List ℕ) (records : List Record) (r : Record) → IsAppend j.end added s guest records r → length (journal_of guest (records ++ r ∷ [])) ≤ MAX_JOURNAL_BYTES
   size_behind s guest records r is =
-      omega (arith, few, is.at_end, ap (λ (l : List ℕ). length l) is.stands.disk, ap (λ (l : List ℕ). length l) is.framed, length-journal-push guest records r)
+      omega (arith, few, is.at_end, length-shut guest records s is.stands, ap (λ (l : List ℕ). length l) is.framed, length-journal-push guest records r)
 
   -- the record is on the disk while its output is sent
   moments_behind : (s t u : History) → Appended j added (Ok tt) s t → Always (IsSending Out output t) t u → CommitMoments j added output s u
@@ -34,7 +34,7 @@ module _ (j : Journal) (added output : List ℕ) (few : j.end + length added ≤
       (always-weaker _ (IsCommitting guest records r output s) s t (λ image sent x. inl x) (a.2 guest records r is guest_is records_are))
       (always-weaker (IsSending Out output t) (IsCommitting guest records r output s) t u
       (λ image sent x. inr (
-        image-reads guest guest_is (records ++ r ∷ []) t image (a.1 guest records r is) records_are (size_behind s guest records r is) x.0,
+        image-reads guest guest_is (records ++ r ∷ []) t image (shut-of guest (records ++ r ∷ []) t (a.1 guest records r is)) records_are (size_behind s guest records r is) x.0,
         (x.1.0, x.1.1 ∙ ap (λ (l : List ℕ). l ++ take x.1.0 output) a.0.sent),
       ))
       sending)

@@ -1,9 +1,10 @@
 -- A recording so far goes on by a round, and stops.
-use Rattle.std.proofs.Common.{◌≡◌, inl, inr, ℕ, ◌+◌, ◌*◌, ◌<◌, ◌≤◌, Bool, true, false, List, [], ◌∷◌, ◌++◌, length, take, Option, Ok, Err, refl, sym, ap, subst, ◌∙◌, append_assoc, arith}
+use Rattle.std.proofs.Common.{◌≡◌, inl, inr, ℕ, ◌+◌, ◌*◌, ◌<◌, ◌≤◌, Bool, true, false, List, [], ◌∷◌, ◌++◌, length, take, Option, Result, Ok, Err, refl, sym, ap, subst, ◌∙◌, append_assoc, arith}
 use Rattle.std.proofs.lemmas.List.{length-append, length_push, take_all}
 use Rattle.dp_base.specs.declared.limits.TheConstants.{EPOCH_END_BYTES, MAX_CALL_BYTES}
 use Rattle.std.specs.List.{AllByRecursion}
 use Rattle.dp_base.specs.declared.answer.Answer.{Answer}
+use Rattle.dp_base.specs.Encoding.{IsPrefixOf}
 use Rattle.dp_base.specs.Journal.{Epoch, IsGuest, steps_of, epoch_body, frame}
 use Rattle.epoch_runner.specs.Answering.{input_due}
 use Rattle.epoch_runner.specs.Supplying.{IsSuppliedBy}
@@ -21,22 +22,24 @@ use Rattle.guest_kernel.specs.Slices.{chain}
 use Rattle.guest_kernel.specs.State.{has_ended}
 use Rattle.recorder.specs.declared.options.Options.{Options}
 use Rattle.recorder.specs.declared.commit.CommitFault.{CommitFault}
+use Rattle.recorder.specs.declared.record_fault.RecordFault.{RecordFault}
 use Rattle.recorder.specs.declared.commit.CommitFault.TheVariants as commits
 use Rattle.recorder.specs.declared.record_fault.RecordFault.TheVariants as faults
 use Rattle.recorder.specs.Faults.{of_commit}
 use Rattle.recorder.specs.Committing.{CommitMoments, Committed, HasCommitted}
 use Rattle.recorder.specs.Recording.{IsNext, Run, epoch_steps, first_after, HasDrawnOn, HasRoom, IsRecorded, MayFollow, Recorded, records_of, reported}
-use Rattle.checkpoint.specs.State.{digest_of}
 use Rattle.device.specs.Sending.{Sent}
 use Rattle.disk_model.specs.declared.world.Stream.TheVariants.{Note}
 use Rattle.dp_report.specs.declared.report.Report.{Report}
 use Rattle.dp_report.specs.Texts.{report_line}
 use Rattle.epoch_journal.specs.Appending.{IsAppend, RecordMoments}
 use Rattle.epoch_journal.specs.Standing.{Journal, Stands}
+use Rattle.epoch_journal.proofs.AtRest.{shut-of}
 use Rattle.epoch_journal.proofs.OnDisk.{length-journal-push}
 use Rattle.journal_text.specs.Reading.{journal_of}
 use Rattle.journal_text.specs.Records.{IsRecord, Record, epoch}
 use Rattle.recorder.specs.Moments.{EachMoment, HoldsAt, answers_in}
+use Rattle.recorder.specs.Telling.{HasTold, IsTold, report_at}
 use Rattle.recorder.proofs.Moments.{AlwaysPartly, answers_are, append_left, appends_partly, are_records, commits_partly, each_moment, known-both, noted-too, records_more}
 use Rattle.recorder.proofs.RunLists.{AreAnswers, answers-push, answers_are-push, draws-push, each-push, epochs-push, records-push, supply-push}
 use Rattle.recorder.proofs.SoFar.{CanGoOn, HasDrawnRound, SoFar, room_kept, still_placed}
@@ -81,7 +84,7 @@ module _ (guest : List ℕ) (guest_is : IsGuest guest) (options : Options) (star
     records_are = are_records options 1 start (empty MAX_ROOM) so_far.done so_far.each
 
     -- while its line is sent
-    pub told_moments : (bytes : List ℕ) (ok : Bool) (later : Option History) → IfKnown (Sent Note bytes ok) now later → EachMoment guest start i there first later
+    told_moments : (bytes : List ℕ) (ok : Bool) (later : Option History) → IfKnown (Sent Note bytes ok) now later → EachMoment guest start i there first later
     told_moments bytes ok later known = known-then _ _ _ _ _ _
         (λ s t u r b empty_ synced. noted-too (HoldsAt guest start i there s) bytes s t u (r empty_ synced) b.1.moments)
         (moments_now there refl) known
@@ -104,18 +107,14 @@ module _ (guest : List ℕ) (guest_is : IsGuest guest) (options : Options) (star
     pub no_supply : has_ended state.end ≡ false → state.steps < options.limit → Recorded guest start options i there first now (Err faults.OutOfMemory)
     no_supply going left = inr (run_so_far, inr (going, left), fits_still, no_more, so_far.history)
 
-    -- its line can't be made
-    pub no_line : has_ended state.end ≡ true → Recorded guest start options i there first now (Err faults.OutOfMemory)
-    no_line ended_ = inr (run_so_far, inl ended_, fits_still, no_more, so_far.history)
-
     -- ---- the guest has ended
 
     module _ (later : Option History) (ended : has_ended state.end ≡ true) (report : Report)
-        (is : report ≡ record { epochs = epochs; squashes = 0; steps = state.steps; sent = sent; end = state.end; state = digest_of state }) where
+        (is : report ≡ report_at epochs sent state) where
       report_is : report ≡ reported run_so_far
       report_is = let count = so_far.count in let sent_is = so_far.sent_is in let made = is in cc
 
-      pub told : IfKnown (Sent Note (report_line report) true) now later → Recorded guest start options i there first later (Ok report)
+      told : IfKnown (Sent Note (report_line report) true) now later → Recorded guest start options i there first later (Ok report)
       told known = (
         run_so_far,
         ended,
@@ -133,7 +132,7 @@ module _ (guest : List ℕ) (guest_is : IsGuest guest) (options : Options) (star
             so_far.history known,
       )
 
-      pub not_told : IfKnown (Sent Note (report_line report) false) now later → Recorded guest start options i there first later (Err faults.OutputFault)
+      not_told : IfKnown (Sent Note (report_line report) false) now later → Recorded guest start options i there first later (Err faults.OutputFault)
       not_told known = inr (
         run_so_far,
         ended,
@@ -151,6 +150,36 @@ module _ (guest : List ℕ) (guest_is : IsGuest guest) (options : Options) (star
             ))
             so_far.history known,
       )
+
+    -- by the answer of the report's telling
+    pub ended_so : (later : Option History) → has_ended state.end ≡ true → (told_ : Result Report RecordFault) → IsTold (report_at epochs sent state) told_ → IfKnown (HasTold (report_at epochs sent state) told_) now later
+        → Recorded guest start options i there first later told_
+    ended_so later ended_ (Ok report) is known = told later ended_ report is (subst (λ (r : Report). IfKnown (Sent Note (report_line r) true) now later) (sym is) known)
+    ended_so later ended_ (Err faults.OutputFault) is known = not_told later ended_ (report_at epochs sent state) refl known
+    ended_so later ended_ (Err faults.OutOfMemory) is known = inr (
+      run_so_far,
+      inl ended_,
+      fits_still,
+      no_more,
+      known-then _ _ _ _ _ _ (λ s t u r k. subst (λ (h : History). IsRecorded guest (epochs_of so_far.done) so_far.output s h) (sym k) r) so_far.history known,
+    )
+    ended_so later ended_ (Err faults.DiskFault) is known = absurd is
+    ended_so later ended_ (Err faults.InputFault) is known = absurd is
+    ended_so later ended_ (Err (faults.JournalInUse len)) is known = absurd is
+    ended_so later ended_ (Err (faults.StepLimit steps)) is known = absurd is
+    ended_so later ended_ (Err (faults.JournalFull end need)) is known = absurd is
+
+    pub ended_moments : (later : Option History) (told_ : Result Report RecordFault) → IsTold (report_at epochs sent state) told_ → IfKnown (HasTold (report_at epochs sent state) told_) now later → EachMoment guest start i there first later
+    ended_moments later (Ok report) is known = told_moments (report_line (report_at epochs sent state)) true later known
+    ended_moments later (Err faults.OutputFault) is known = told_moments (report_line (report_at epochs sent state)) false later known
+    ended_moments later (Err faults.OutOfMemory) is known = known-then _ _ _ _ _ _
+        (λ s t u r k empty_ synced. subst (λ (h : History). Always (HoldsAt guest start i there s) s h) (sym k) (r empty_ synced))
+        (moments_now there refl) known
+    ended_moments later (Err faults.DiskFault) is known = absurd is
+    ended_moments later (Err faults.InputFault) is known = absurd is
+    ended_moments later (Err (faults.JournalInUse len)) is known = absurd is
+    ended_moments later (Err (faults.StepLimit steps)) is known = absurd is
+    ended_moments later (Err (faults.JournalFull end need)) is known = absurd is
 
     -- ---- a round that has drawn
 
@@ -198,7 +227,7 @@ module _ (guest : List ℕ) (guest_is : IsGuest guest) (options : Options) (star
         next_there = subst (λ (x : Supplied). IsNext options (first_after 1 (epochs_of so_far.done)) state x e end output) with_is next_
 
         appends_there : (s t : History) → IsRecorded guest (epochs_of so_far.done) so_far.output s t → IsAppend j.end added t guest (records_of (epochs_of so_far.done)) (epoch e)
-        appends_there s t recorded = record { stands = recorded.stands; at_end = so_far.place_is ∙ ap (λ (l : List ℕ). length l) (sym recorded.stands.disk); framed = framed }
+        appends_there s t recorded = record { stands = shut-of guest (records_of (epochs_of so_far.done)) t recorded.stands; at_end = so_far.place_is ∙ ap (λ (l : List ℕ). length l) (sym recorded.stands.disk); framed = framed }
 
         stands_more : (u : History) → Stands guest (records_of (epochs_of so_far.done) ++ epoch e ∷ []) u → Stands guest (records_of (epochs_of so_far.done ++ e ∷ [])) u
         stands_more u stands = subst (λ (l : List Record). Stands guest l u) (sym (records-push (epochs_of so_far.done) e)) stands
@@ -318,7 +347,7 @@ module _ (guest : List ℕ) (guest_is : IsGuest guest) (options : Options) (star
               (λ s t u r k. record {
                 sent = k.0.sent ∙ r.sent;
                 noted = k.0.noted ∙ r.noted;
-                on_disk = inr (k.1 guest (records_of (epochs_of so_far.done)) (epoch e) (appends_there s t r));
+                on_disk = inr (subst (λ (l : List ℕ). IsPrefixOf l u.pending.synced) r.stands.disk (k.1 guest (records_of (epochs_of so_far.done)) (epoch e) (appends_there s t r)));
                 untouched = inl r.empty;
                 left = λ empty_ synced. append_left guest start E e (MayFollow run_so_far) (round.draw, due_is, end, output, next_there) (records-push E e) t u (k.2 guest (records_of E) (epoch e) (appends_there s t r) guest_is records_there);
               })

@@ -6,12 +6,7 @@ use Rattle.std.proofs.lemmas.List.Sums.{sum_by-cons}
 use Rattle.dp_base.specs.declared.answer.Answer.{Answer}
 use Rattle.dp_base.specs.declared.slice.Slice.{Slice}
 use Rattle.dp_base.specs.Journal.{Epoch, IsAnswer, IsSlice, steps_of}
-use Rattle.epoch_runner.specs.declared.bounds.Bounds.{Bounds}
-use Rattle.epoch_runner.specs.declared.epoch_run.EpochRun.{EpochRun}
-use Rattle.epoch_runner.specs.declared.epoch_run.Ran.{Ran}
-use Rattle.epoch_runner.specs.declared.epoch_run.Ran.TheVariants as ran_as
 use Rattle.epoch_runner.specs.Answering.{input_due}
-use Rattle.epoch_runner.specs.Running.{HasRun, HasRunEpoch}
 use Rattle.supply.specs.Supplied.{Supplied}
 use Rattle.recorder.specs.Drawing.{Draw, Round, answers_of, draws_of, epochs_of, supply_behind, supply_of}
 use Rattle.guest_kernel.specs.declared.state.State.{State}
@@ -93,9 +88,6 @@ records-push [] e = refl
 records-push (x ∷ xs) e = ap (λ (l : List Record). epoch x ∷ l) (records-push xs e)
 
 -- ---- an epoch that was run
-
-pub ran_epoch : (s : State) (w : Supplied) (bounds : Bounds) (ran : Ran) (r : EpochRun) → HasRun s w bounds ran → ran ≡ ran_as.Epoch r → HasRunEpoch s w bounds r
-ran_epoch s w bounds ran r has is = subst (HasRun s w bounds) is has
 
 pub positive_steps : (xs : List Slice) → AllByRecursion IsSlice xs → 0 < length xs → 0 < steps_of xs
 positive_steps [] are some = absurd (omega arith)

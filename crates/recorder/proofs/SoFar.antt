@@ -1,11 +1,7 @@
 -- What a recording is so far, and a round of it that has drawn.
-use Rattle.std.proofs.Common.{◌≡◌, inl, inr, ℕ, ◌+◌, ◌*◌, ◌<◌, ◌≤◌, Bool, true, false, List, length, Option, Ok, refl, sym, ap, subst, ◌∙◌, arith}
+use Rattle.std.proofs.Common.{◌≡◌, ℕ, ◌+◌, ◌*◌, ◌<◌, ◌≤◌, Bool, true, false, List, length, Option, Ok, refl, sym, ap, ◌∙◌, arith}
 use Rattle.dp_base.specs.declared.limits.TheConstants.{EPOCH_END_BYTES, MAX_CALL_BYTES}
-use Rattle.epoch_runner.specs.declared.bounds.Bounds.{Bounds}
-use Rattle.epoch_runner.specs.declared.epoch_run.Ran.{Ran}
-use Rattle.epoch_runner.specs.declared.epoch_run.Ran.TheVariants as ran_as
 use Rattle.epoch_runner.specs.Answering.{can_step, input_due}
-use Rattle.epoch_runner.specs.Running.{HasRun}
 use Rattle.disk_model.specs.Input.{IfInput, Input}
 use Rattle.supply.specs.Supplied.{IsSupply, Supplied, empty, end_of, refilled}
 use Rattle.supply.specs.declared.TheConstants.{MAX_ROOM}
@@ -97,11 +93,3 @@ pub round_goes : (s : State) (w : Supplied) (there later : Option Input) (with_ 
     → ((stamp : ℕ) → can_step s (record w { stamp = stamp }) ≡ can_step s w) → can_step s with_ ≡ true
 round_goes s w there later with_ round ready refills stamps =
     ap (can_step s) round.is ∙ can_go s w round.draw.due round.draw.taken round.draw.reading round.due ready refills stamps
-
--- so an epoch of it isn't idle
-pub not_idle : (s : State) (w : Supplied) (bounds : Bounds) (ran : Ran) (t : State) → HasRun s w bounds ran → ran ≡ ran_as.Idle t → 0 < bounds.steps → can_step s w ≡ true → ⊥
-not_idle s w bounds ran t has is some can =
-    elim (subst (HasRun s w bounds) is has).why [
-      | inl none ↦ omega (arith, none, some)
-      | inr cannot ↦ let both = sym can ∙ cannot in cc
-    ]

@@ -11,7 +11,6 @@ use Rattle.epoch_journal.specs.declared.append.AppendFault.TheVariants as append
 use Rattle.epoch_journal.specs.Appending.{HasAppended, IsAppend, RecordMoments}
 use Rattle.epoch_journal.specs.Images.{IsBeforeOrAfter, Reads}
 use Rattle.epoch_journal.specs.Standing.{Journal, Stands}
-use Rattle.journal_text.specs.Reading.{journal_of}
 use Rattle.journal_text.specs.Records.{IsRecord, Record}
 use Rattle.recorder.specs.declared.commit.CommitFault.{CommitFault}
 use Rattle.recorder.specs.declared.commit.CommitFault.TheVariants as commits
@@ -38,7 +37,7 @@ Committed j added output (Err commits.OutputFault) before after =
 Committed j added output (Err (commits.Full end need)) before after = after ≡ before
 Committed j added output (Err (commits.Failed last)) before after = after ≡ before
 Committed j added output (Err commits.DiskFault) before after = SentNothing before after
-    × ((guest : List ℕ) (records : List Record) (r : Record) → IsAppend j.end added before guest records r → IsPrefixOf (journal_of guest records) after.pending.synced)
+    × ((guest : List ℕ) (records : List Record) (r : Record) → IsAppend j.end added before guest records r → IsPrefixOf before.disk after.pending.synced)
     × RecordMoments j.end added before after
 
 -- what the journal is behind it

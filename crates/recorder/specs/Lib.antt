@@ -2,4 +2,5 @@ pub mod Committing
 pub mod Faults
 pub mod Drawing
 pub mod Recording
+pub mod Telling
 pub mod Moments

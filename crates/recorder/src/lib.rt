@@ -26,10 +26,12 @@
 mod commit;
 mod draw;
 pub mod laws;
+mod next_epoch;
 mod options;
 mod ready;
 mod record_fault;
 mod recording;
+mod telling;
 
 pub use commit::{CommitFault, commit_epoch};
 pub use dp_report::Report;

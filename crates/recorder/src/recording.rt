@@ -1,9 +1,7 @@
 // A whole recording: begin, one round after another, and the report.
-ghost use Rattle.std.specs.Prelude.{◌≡◌, ◌<◌, ◌≤◌, ◌-◌, ◌^◌, min, Err, IfOk, IsErrOf, length};
+ghost use Rattle.std.specs.Prelude.{◌≡◌, ◌<◌, ◌≤◌, ◌-◌, min, Err, IsErrOf};
 ghost use Rattle.std.specs.List.{AllByRecursion};
-ghost use Rattle.dp_base.specs.Journal.{IsBody, IsEpoch, epoch_body, frame};
 ghost use Rattle.disk_model.specs.Counts.{Rose};
-ghost use Rattle.epoch_record.specs.Epoch.{epoch_of};
 ghost use Rattle.guest_kernel.specs.Start.{IsGuestFile, start_state};
 ghost use Rattle.recorder.specs.Faults.{MetNoOther};
 ghost use Rattle.recorder.specs.Moments.{EachMoment};
@@ -12,19 +10,17 @@ ghost use Rattle.recorder.specs.declared.record_fault.RecordFault.TheVariants as
 
 use crate::commit::commit_epoch;
 use crate::draw::draw;
+use crate::next_epoch::next_epoch;
 use crate::options::Options;
 use crate::ready::Ready;
 use crate::record_fault::RecordFault;
-use checkpoint::digest;
-use device::send_all;
-use disk_model::{Inlet, Stream, World};
-use dp_base::{OutOfMemory, Slice};
-use dp_report::{Report, line};
+use crate::telling::tell;
+use disk_model::{Inlet, World};
+use dp_base::Slice;
+use dp_report::Report;
 use epoch_journal::Journal;
-use epoch_record::{Epoch, encode};
-use epoch_runner::{Bounds, Ran, run_epoch};
+use epoch_runner::Bounds;
 use guest_kernel::{State, laws};
-use journal_text::Frame;
 use std::alloc::Global;
 use supply::{MAX_ROOM, Supply};
 
@@ -117,11 +113,7 @@ fn record_rounds<W: World, I: Inlet>(
         }
         draw(inlet, &mut supply, &state)?;
         let bounds = bounds_from(&options, state.steps, first);
-        let Ran::Epoch(run) = run_epoch(alloc, state, &supply, bounds)? else {
-            // In a guest that hasn't ended a thread runs, and none waits for input that wasn't asked for.
-            unreachable!();
-        };
-        let frame = frame_of(alloc, &run.epoch)?;
+        let (frame, run) = next_epoch(alloc, state, &supply, bounds)?;
         let ready = Ready {
             frame,
             out: run.out,
@@ -132,19 +124,7 @@ fn record_rounds<W: World, I: Inlet>(
         epochs += 1;
         sent += ready.out.len() as u64;
     }
-    let report = Report {
-        epochs,
-        squashes: 0,
-        steps: state.steps,
-        sent,
-        end: state.end,
-        state: digest(&state),
-    };
-    let text = line(alloc, &report)?;
-    match send_all(world, Stream::Note, &text) {
-        Ok(()) => Ok(report),
-        Err(_) => Err(RecordFault::OutputFault),
-    }
+    tell(alloc, world, &state, epochs, sent)
 }
 
 // How far an epoch may go behind so many steps, and which thread is first.
@@ -172,16 +152,4 @@ fn next_first(first: u16, slices: &[Slice]) -> u16
         next = slice.tid.0 + 1;
     }
     next
-}
-
-// The frame of an epoch's record.
-fn frame_of(alloc: Global, epoch: &Epoch) -> Result<Frame, OutOfMemory>
-    requires epoch { IsEpoch (epoch_of epoch.now) }
-    requires fits { IsBody (epoch_body (epoch_of epoch.now)) }
-    ensures frame { IfOk result (λ f. f ≡ frame (epoch_body (epoch_of epoch.now))) }
-    ensures some { IfOk result (λ f. 0 < length f) }
-{
-    journal_text::laws::a_record_is_its_body();
-    let body = encode(alloc, epoch)?;
-    Frame::of(alloc, &body)
 }

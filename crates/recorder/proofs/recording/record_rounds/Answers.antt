@@ -20,12 +20,11 @@ use Rattle.epoch_record.specs.Epoch.{epoch_of}
 use Rattle.recorder.specs.Drawing.{Round, epochs_of}
 use Rattle.recorder.specs.Recording.{IsNext, epoch_steps, first_after, first_behind}
 use Rattle.checkpoint.specs.State.{IsEncodable}
-use Rattle.dp_report.specs.declared.report.Report.{Report}
 use Rattle.recorder.proofs.Drawings.{take_laws}
 use Rattle.recorder.proofs.Begun.{begin_failed, begin_failed_moments, begun_so_far}
-use Rattle.recorder.proofs.Rounds.{commit_failed, commit_failed_moments, committed, drawn_moments, input_fault, moments_now, no_line, no_supply, not_told, out_of_memory, placed_still, step_limit, told, told_moments}
-use Rattle.recorder.proofs.RunLists.{epochs-push, first_after-push, low_numbers, positive_steps, ran_epoch}
-use Rattle.recorder.proofs.SoFar.{CanGoOn, SoFar, not_idle, round_goes, round_of}
+use Rattle.recorder.proofs.Rounds.{commit_failed, commit_failed_moments, committed, drawn_moments, ended_moments, ended_so, input_fault, moments_now, no_supply, out_of_memory, placed_still, step_limit}
+use Rattle.recorder.proofs.RunLists.{epochs-push, first_after-push, low_numbers, positive_steps}
+use Rattle.recorder.proofs.SoFar.{CanGoOn, SoFar, round_goes, round_of}
 use Rattle.recorder.proofs.recording.record_rounds.Goals as goal
 
 is_guest : (file : List ℕ) → length file ≤ MAX_GUEST_BYTES → AreBytes file → IsGuest file
@@ -97,30 +96,6 @@ returns-in_err-draw-clause-recorded g c =
     rw (p.1 ∙ ap (λ e. Err e) p.2) (input_fault c.args.guest.now (is_guest c.args.guest.now (c.a_file_without_fault_has_segments.ensures.size c.args.guest.now c.requires.guest) (λ i. omega (arith, c.type_inv.guest i))) c.args.options c.args.start _ _ _ _ l.state l.supply l.journal l.epochs l.sent l.invariant.so_far _ (sym c.ended.ensures ∙ c.rounds-test.true) c.if-state-options.false
     (c.in_err-draw.ensures.due (refl {a = true})) c.in_err-draw.ensures.kept)
 
-pub returns-in_err-run-clause-recorded : goal.returns-in_err-run-clause-recorded
-returns-in_err-run-clause-recorded g c =
-    let l = c.rounds in
-    let so_far = l.invariant.so_far in
-    let laws = take_laws c.an_answer_is_of_the_input.ensures.refill c.the_windows_are_the_input.ensures.left c.the_windows_are_the_input.ensures.end in
-    let round = round_of l.supply l.state (g.I.Inlet.input l.inlet) (g.I.Inlet.input c.draw.new.inlet) c.draw.new.supply c.in_ok-draw.ensures.drew
-    (c.a_supply_lets_a_guest_step.ensures.used_up l.state l.supply so_far.is_supply so_far.placed so_far.inside) c.in_ok-draw.ensures.is_supply in
-    let p = err_from_is_err_and c.from_residual-in_err-run.result c.from_residual-in_err-run.ensures.1 in
-    rw (p.1 ∙ ap (λ e. Err e) p.2) (out_of_memory c.args.guest.now (is_guest c.args.guest.now (c.a_file_without_fault_has_segments.ensures.size c.args.guest.now c.requires.guest) (λ i. omega (arith, c.type_inv.guest i))) c.args.options c.args.start _ _ _ _ l.state l.supply l.journal l.epochs l.sent so_far laws _ c.draw.new.supply round (sym c.ended.ensures ∙ c.rounds-test.true) c.if-state-options.false)
-
-pub unreachable-requires : goal.unreachable-requires
-unreachable-requires g c =
-    let l = c.rounds in
-    let so_far = l.invariant.so_far in
-    let with_ = c.draw.new.supply in
-    let going : has_ended l.state.end ≡ false = sym c.ended.ensures ∙ c.rounds-test.true in
-    let laws = c.a_supply_lets_a_guest_step.ensures in
-    let round = round_of l.supply l.state (g.I.Inlet.input l.inlet) (g.I.Inlet.input c.draw.new.inlet) with_ c.in_ok-draw.ensures.drew
-    (laws.used_up l.state l.supply so_far.is_supply so_far.placed so_far.inside) c.in_ok-draw.ensures.is_supply in
-    let can = round_goes l.state l.supply (g.I.Inlet.input l.inlet) (g.I.Inlet.input c.draw.new.inlet) with_ round (laws.ready l.state l.supply going (so_far.goes_on.runs going))
-    (λ more stamp due. laws.refilled l.state l.supply more stamp so_far.placed so_far.inside due) (λ stamp. laws.stamped l.state l.supply stamp) in
-    let few : c.bounds_from-bounds.result.steps ≡ epoch_steps c.args.options l.state = c.bounds_from-bounds.ensures.steps in
-    not_idle l.state with_ c.bounds_from-bounds.result c.in_ok-run.field-0 c.in_default.field-0 c.in_ok-run.ensures c.in_default.is (omega (arith, few, c.args.options.epoch_range.0, c.if-state-options.false)) can
-
 pub returns-in_err-frame-clause-recorded : goal.returns-in_err-frame-clause-recorded
 returns-in_err-frame-clause-recorded g c =
     let l = c.rounds in
@@ -131,6 +106,18 @@ returns-in_err-frame-clause-recorded g c =
     let p = err_from_is_err_and c.from_residual-in_err-frame.result c.from_residual-in_err-frame.ensures.1 in
     rw (p.1 ∙ ap (λ e. Err e) p.2) (out_of_memory c.args.guest.now (is_guest c.args.guest.now (c.a_file_without_fault_has_segments.ensures.size c.args.guest.now c.requires.guest) (λ i. omega (arith, c.type_inv.guest i))) c.args.options c.args.start _ _ _ _ l.state l.supply l.journal l.epochs l.sent so_far laws _ c.draw.new.supply round (sym c.ended.ensures ∙ c.rounds-test.true) c.if-state-options.false)
 
+pub next_epoch-requires-clause-can : goal.next_epoch-requires-clause-can
+next_epoch-requires-clause-can g c =
+    let l = c.rounds in
+    let so_far = l.invariant.so_far in
+    let with_ = c.draw.new.supply in
+    let going : has_ended l.state.end ≡ false = sym c.ended.ensures ∙ c.rounds-test.true in
+    let laws = c.a_supply_lets_a_guest_step.ensures in
+    let round = round_of l.supply l.state (g.I.Inlet.input l.inlet) (g.I.Inlet.input c.draw.new.inlet) with_ c.in_ok-draw.ensures.drew
+    (laws.used_up l.state l.supply so_far.is_supply so_far.placed so_far.inside) c.in_ok-draw.ensures.is_supply in
+    round_goes l.state l.supply (g.I.Inlet.input l.inlet) (g.I.Inlet.input c.draw.new.inlet) with_ round (laws.ready l.state l.supply going (so_far.goes_on.runs going))
+    (λ more stamp due. laws.refilled l.state l.supply more stamp so_far.placed so_far.inside due) (λ stamp. laws.stamped l.state l.supply stamp)
+
 pub returns-in_err-commit_epoch-clause-recorded : goal.returns-in_err-commit_epoch-clause-recorded
 returns-in_err-commit_epoch-clause-recorded g c =
     let l = c.rounds in
@@ -140,9 +127,9 @@ returns-in_err-commit_epoch-clause-recorded g c =
     let round = round_of l.supply l.state (g.I.Inlet.input l.inlet) (g.I.Inlet.input c.draw.new.inlet) with_ c.in_ok-draw.ensures.drew
     (c.a_supply_lets_a_guest_step.ensures.used_up l.state l.supply so_far.is_supply so_far.placed so_far.inside) c.in_ok-draw.ensures.is_supply in
     let placed = placed_still c.args.guest.now (is_guest c.args.guest.now (c.a_file_without_fault_has_segments.ensures.size c.args.guest.now c.requires.guest) (λ i. omega (arith, c.type_inv.guest i))) c.args.options c.args.start _ _ (g.I.Inlet.input l.inlet) (g.W.World.history l.world) l.state l.supply l.journal l.epochs l.sent so_far laws (g.I.Inlet.input c.draw.new.inlet) with_ round in
-    let run_ = c.in-Epoch.run' in
+    let run_ = c.in_ok-frame.run' in
     let bounds = c.bounds_from-bounds.result in
-    let ran = ran_epoch l.state with_ bounds c.in_ok-run.field-0 run_ c.in_ok-run.ensures c.in-Epoch.is in
+    let ran = c.in_ok-frame.ensures.run in
     let supplied = c.an_epoch_is_supplied.ensures l.state with_ bounds (epoch_of run_.epoch) run_.out run_.end ran.scheduled placed.0 placed.1 in
     let p = err_from_is_err_and c.from_residual-in_err-commit_epoch.result c.from_residual-in_err-commit_epoch.ensures.1 in
     let next_ = is_next c.args.options (first_after 1 (epochs_of so_far.done)) l.state with_ bounds run_ c.bounds_from-bounds.ensures.steps c.bounds_from-bounds.ensures.slice (c.bounds_from-bounds.ensures.first ∙ l.invariant.first_is) ran in
@@ -152,15 +139,15 @@ returns-in_err-commit_epoch-clause-recorded g c =
 pub rounds-smaller : goal.rounds-smaller
 rounds-smaller g c =
     let l = c.rounds in
-    let run_ = c.in-Epoch.run' in
-    let ran = ran_epoch l.state c.draw.new.supply c.bounds_from-bounds.result c.in_ok-run.field-0 run_ c.in_ok-run.ensures c.in-Epoch.is in
+    let run_ = c.in_ok-frame.run' in
+    let ran = c.in_ok-frame.ensures.run in
     omega (arith, ran.runs.counted, positive_steps (epoch_of run_.epoch).slices ran.runs.is_epoch.slices ran.runs.is_epoch.some_slice, c.if-state-options.false)
 
 pub next_first-first-requires : goal.next_first-first-requires
 next_first-first-requires g c =
     let l = c.rounds in
-    let run_ = c.in-Epoch.run' in
-    let ran = ran_epoch l.state c.draw.new.supply c.bounds_from-bounds.result c.in_ok-run.field-0 run_ c.in_ok-run.ensures c.in-Epoch.is in
+    let run_ = c.in_ok-frame.run' in
+    let ran = c.in_ok-frame.ensures.run in
     let e = epoch_of run_.epoch in
     let few = c.threads_are_few.ensures.run l.state e.slices e.answers (at run_.end run_.out []) ran.runs.ran l.invariant.so_far.goes_on.few in
     let made = c.threads_are_few.ensures.made l.state e.slices e.answers (at run_.end run_.out []) ran.runs.ran in
@@ -176,9 +163,9 @@ rounds-preserved g c =
     let round = round_of l.supply l.state (g.I.Inlet.input l.inlet) (g.I.Inlet.input c.draw.new.inlet) with_ c.in_ok-draw.ensures.drew
     (c.a_supply_lets_a_guest_step.ensures.used_up l.state l.supply so_far.is_supply so_far.placed so_far.inside) c.in_ok-draw.ensures.is_supply in
     let placed = placed_still c.args.guest.now (is_guest c.args.guest.now (c.a_file_without_fault_has_segments.ensures.size c.args.guest.now c.requires.guest) (λ i. omega (arith, c.type_inv.guest i))) c.args.options c.args.start _ _ (g.I.Inlet.input l.inlet) (g.W.World.history l.world) l.state l.supply l.journal l.epochs l.sent so_far laws (g.I.Inlet.input c.draw.new.inlet) with_ round in
-    let run_ = c.in-Epoch.run' in
+    let run_ = c.in_ok-frame.run' in
     let bounds = c.bounds_from-bounds.result in
-    let ran = ran_epoch l.state with_ bounds c.in_ok-run.field-0 run_ c.in_ok-run.ensures c.in-Epoch.is in
+    let ran = c.in_ok-frame.ensures.run in
     let e = epoch_of run_.epoch in
     let there = at run_.end run_.out [] in
     let supplied = c.an_epoch_is_supplied.ensures l.state with_ bounds e run_.out run_.end ran.scheduled placed.0 placed.1 in
@@ -205,32 +192,17 @@ rounds-preserved g c =
       no_input_fault = c.in_ok-draw.ensures.none ∙ l.invariant.no_input_fault;
     }
 
-pub digest-requires : goal.digest-requires
-digest-requires g c =
+pub tell-requires : goal.tell-requires
+tell-requires g c =
     let l = c.rounds in
     let so_far = l.invariant.so_far in
     let first = subst IsEncodable (sym c.requires.starts) (c.a_start_state_is_encodable.ensures c.args.guest.now c.requires.guest (λ i. omega (arith, c.type_inv.guest i))) in
     c.a_chain_keeps_a_state_encodable.ensures c.args.start (epochs_of so_far.done) l.state so_far.output first so_far.are_answers so_far.chained (omega (arith, so_far.counted)) (omega (arith, so_far.counted, so_far.little_input, c.args.options.limit_range.1))
 
-pub returns-in_err-text-clause-recorded : goal.returns-in_err-text-clause-recorded
-returns-in_err-text-clause-recorded g c =
-    let l = c.rounds in
-    let p = err_from_is_err_and c.from_residual-in_err-text.result c.from_residual-in_err-text.ensures.1 in
-    rw (p.1 ∙ ap (λ e. Err e) p.2) (no_line c.args.guest.now (is_guest c.args.guest.now (c.a_file_without_fault_has_segments.ensures.size c.args.guest.now c.requires.guest) (λ i. omega (arith, c.type_inv.guest i))) c.args.options c.args.start _ _ _ _ l.state l.supply l.journal l.epochs l.sent l.invariant.so_far (sym c.ended.ensures ∙ c.rounds-test.false))
-
-pub returns-in-Ok-clause-recorded : goal.returns-in-Ok-clause-recorded
-returns-in-Ok-clause-recorded g c =
-    let l = c.rounds in
-    let made : List ℕ → Report = λ d. record { epochs = l.epochs; squashes = 0; steps = l.state.steps; sent = l.sent; end = l.state.end; state = d } in
-    let text = c.deref.ensures.value ∙ c.in_ok-text.ensures in
-    told c.args.guest.now (is_guest c.args.guest.now (c.a_file_without_fault_has_segments.ensures.size c.args.guest.now c.requires.guest) (λ i. omega (arith, c.type_inv.guest i))) c.args.options c.args.start _ _ _ _ l.state l.supply l.journal l.epochs l.sent l.invariant.so_far _ (sym c.ended.ensures ∙ c.rounds-test.false) (made c.digest.result) (ap made c.digest.ensures) (rw text at c.in-Ok.ensures.history)
-
 pub returns-clause-recorded : goal.returns-clause-recorded
 returns-clause-recorded g c =
     let l = c.rounds in
-    let made : List ℕ → Report = λ d. record { epochs = l.epochs; squashes = 0; steps = l.state.steps; sent = l.sent; end = l.state.end; state = d } in
-    let text = c.deref.ensures.value ∙ c.in_ok-text.ensures in
-    not_told c.args.guest.now (is_guest c.args.guest.now (c.a_file_without_fault_has_segments.ensures.size c.args.guest.now c.requires.guest) (λ i. omega (arith, c.type_inv.guest i))) c.args.options c.args.start _ _ _ _ l.state l.supply l.journal l.epochs l.sent l.invariant.so_far _ (sym c.ended.ensures ∙ c.rounds-test.false) (made c.digest.result) (ap made c.digest.ensures) (rw text at c.in-Err.ensures.history)
+    ended_so c.args.guest.now (is_guest c.args.guest.now (c.a_file_without_fault_has_segments.ensures.size c.args.guest.now c.requires.guest) (λ i. omega (arith, c.type_inv.guest i))) c.args.options c.args.start _ _ _ _ l.state l.supply l.journal l.epochs l.sent l.invariant.so_far _ (sym c.ended.ensures ∙ c.rounds-test.false) c.tell.result c.tell.ensures.told c.tell.ensures.history
 
 -- ---- every moment
 
@@ -260,15 +232,6 @@ returns-in_err-draw-clause-moments g c =
     let l = c.rounds in
     moments_now c.args.guest.now (is_guest c.args.guest.now (c.a_file_without_fault_has_segments.ensures.size c.args.guest.now c.requires.guest) (λ i. omega (arith, c.type_inv.guest i))) c.args.options c.args.start _ _ _ _ l.state l.supply l.journal l.epochs l.sent l.invariant.so_far _ c.in_err-draw.ensures.kept
 
-pub returns-in_err-run-clause-moments : goal.returns-in_err-run-clause-moments
-returns-in_err-run-clause-moments g c =
-    let l = c.rounds in
-    let so_far = l.invariant.so_far in
-    let laws = take_laws c.an_answer_is_of_the_input.ensures.refill c.the_windows_are_the_input.ensures.left c.the_windows_are_the_input.ensures.end in
-    let round = round_of l.supply l.state (g.I.Inlet.input l.inlet) (g.I.Inlet.input c.draw.new.inlet) c.draw.new.supply c.in_ok-draw.ensures.drew
-    (c.a_supply_lets_a_guest_step.ensures.used_up l.state l.supply so_far.is_supply so_far.placed so_far.inside) c.in_ok-draw.ensures.is_supply in
-    drawn_moments c.args.guest.now (is_guest c.args.guest.now (c.a_file_without_fault_has_segments.ensures.size c.args.guest.now c.requires.guest) (λ i. omega (arith, c.type_inv.guest i))) c.args.options c.args.start _ _ _ _ l.state l.supply l.journal l.epochs l.sent so_far laws _ c.draw.new.supply round
-
 pub returns-in_err-frame-clause-moments : goal.returns-in_err-frame-clause-moments
 returns-in_err-frame-clause-moments g c =
     let l = c.rounds in
@@ -287,26 +250,16 @@ returns-in_err-commit_epoch-clause-moments g c =
     let round = round_of l.supply l.state (g.I.Inlet.input l.inlet) (g.I.Inlet.input c.draw.new.inlet) with_ c.in_ok-draw.ensures.drew
     (c.a_supply_lets_a_guest_step.ensures.used_up l.state l.supply so_far.is_supply so_far.placed so_far.inside) c.in_ok-draw.ensures.is_supply in
     let placed = placed_still c.args.guest.now (is_guest c.args.guest.now (c.a_file_without_fault_has_segments.ensures.size c.args.guest.now c.requires.guest) (λ i. omega (arith, c.type_inv.guest i))) c.args.options c.args.start _ _ (g.I.Inlet.input l.inlet) (g.W.World.history l.world) l.state l.supply l.journal l.epochs l.sent so_far laws (g.I.Inlet.input c.draw.new.inlet) with_ round in
-    let run_ = c.in-Epoch.run' in
+    let run_ = c.in_ok-frame.run' in
     let bounds = c.bounds_from-bounds.result in
-    let ran = ran_epoch l.state with_ bounds c.in_ok-run.field-0 run_ c.in_ok-run.ensures c.in-Epoch.is in
+    let ran = c.in_ok-frame.ensures.run in
     let supplied = c.an_epoch_is_supplied.ensures l.state with_ bounds (epoch_of run_.epoch) run_.out run_.end ran.scheduled placed.0 placed.1 in
     let next_ = is_next c.args.options (first_after 1 (epochs_of so_far.done)) l.state with_ bounds run_ c.bounds_from-bounds.ensures.steps c.bounds_from-bounds.ensures.slice (c.bounds_from-bounds.ensures.first ∙ l.invariant.first_is) ran in
     let longer = c.an_epoch_more.ensures c.args.start (epochs_of so_far.done) (epoch_of run_.epoch) l.state so_far.output (at run_.end run_.out []) so_far.chained ran.runs.ran in
     commit_failed_moments c.args.guest.now (is_guest c.args.guest.now (c.a_file_without_fault_has_segments.ensures.size c.args.guest.now c.requires.guest) (λ i. omega (arith, c.type_inv.guest i))) c.args.options c.args.start _ _ _ _ l.state l.supply l.journal l.epochs l.sent so_far laws _ with_ round _ (epoch_of run_.epoch) run_.end run_.out next_ supplied c.in_ok-frame.frame c.in_ok-frame.ensures.frame
     longer c.in_err-commit_epoch.field-0.0 c.commit_epoch.new.journal c.in_err-commit_epoch.ensures.numbers c.in_err-commit_epoch.ensures.history
 
-pub returns-in_err-text-clause-moments : goal.returns-in_err-text-clause-moments
-returns-in_err-text-clause-moments g c =
-    let l = c.rounds in
-    moments_now c.args.guest.now (is_guest c.args.guest.now (c.a_file_without_fault_has_segments.ensures.size c.args.guest.now c.requires.guest) (λ i. omega (arith, c.type_inv.guest i))) c.args.options c.args.start _ _ _ _ l.state l.supply l.journal l.epochs l.sent l.invariant.so_far _ refl
-
-pub returns-in-Ok-clause-moments : goal.returns-in-Ok-clause-moments
-returns-in-Ok-clause-moments g c =
-    let l = c.rounds in
-    told_moments c.args.guest.now (is_guest c.args.guest.now (c.a_file_without_fault_has_segments.ensures.size c.args.guest.now c.requires.guest) (λ i. omega (arith, c.type_inv.guest i))) c.args.options c.args.start _ _ _ _ l.state l.supply l.journal l.epochs l.sent l.invariant.so_far _ _ _ c.in-Ok.ensures.history
-
 pub returns-clause-moments : goal.returns-clause-moments
 returns-clause-moments g c =
     let l = c.rounds in
-    told_moments c.args.guest.now (is_guest c.args.guest.now (c.a_file_without_fault_has_segments.ensures.size c.args.guest.now c.requires.guest) (λ i. omega (arith, c.type_inv.guest i))) c.args.options c.args.start _ _ _ _ l.state l.supply l.journal l.epochs l.sent l.invariant.so_far _ _ _ c.in-Err.ensures.history
+    ended_moments c.args.guest.now (is_guest c.args.guest.now (c.a_file_without_fault_has_segments.ensures.size c.args.guest.now c.requires.guest) (λ i. omega (arith, c.type_inv.guest i))) c.args.options c.args.start _ _ _ _ l.state l.supply l.journal l.epochs l.sent l.invariant.so_far _ c.tell.result c.tell.ensures.told c.tell.ensures.history

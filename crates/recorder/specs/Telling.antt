@@ -1,0 +1,37 @@
+-- What telling a recording's report comes to, by the answer. This project's own.
+use Rattle.std.specs.Prelude.{◌≡◌, ℕ, true, false, Result, Ok, Err, ⊤}
+use Rattle.checkpoint.specs.State.{digest_of}
+use Rattle.device.specs.Sending.{Sent}
+use Rattle.disk_model.specs.declared.world.Stream.TheVariants.{Note}
+use Rattle.disk_model.specs.History.{History}
+use Rattle.dp_report.specs.declared.report.Report.{Report}
+use Rattle.dp_report.specs.Texts.{report_line}
+use Rattle.guest_kernel.specs.declared.state.State.{State}
+use Rattle.recorder.specs.declared.record_fault.RecordFault.{RecordFault}
+use Rattle.recorder.specs.declared.record_fault.RecordFault.TheVariants as faults
+
+-- the report of a guest in this state, behind so many epochs and so many bytes sent
+abbrev pub report_at : (epochs sent : ℕ) → State → Report
+report_at epochs sent s = record { epochs = epochs; squashes = 0; steps = s.steps; sent = sent; end = s.end; state = digest_of s }
+
+-- it answers the report, a fault of the output or want of memory
+abbrev pub IsTold : Report → Result Report RecordFault → Type 0
+IsTold r (Ok told) = told ≡ r
+IsTold r (Err faults.OutputFault) = ⊤
+IsTold r (Err faults.OutOfMemory) = ⊤
+IsTold r (Err faults.DiskFault) = ⊥
+IsTold r (Err faults.InputFault) = ⊥
+IsTold r (Err (faults.JournalInUse len)) = ⊥
+IsTold r (Err (faults.StepLimit steps)) = ⊥
+IsTold r (Err (faults.JournalFull end need)) = ⊥
+
+-- the report's line was sent, or a prefix of it, or nothing
+abbrev pub HasTold : Report → Result Report RecordFault → History → History → Type 0
+HasTold r (Ok told) before after = Sent Note (report_line r) true before after
+HasTold r (Err faults.OutputFault) before after = Sent Note (report_line r) false before after
+HasTold r (Err faults.OutOfMemory) before after = after ≡ before
+HasTold r (Err faults.DiskFault) before after = ⊥
+HasTold r (Err faults.InputFault) before after = ⊥
+HasTold r (Err (faults.JournalInUse len)) before after = ⊥
+HasTold r (Err (faults.StepLimit steps)) before after = ⊥
+HasTold r (Err (faults.JournalFull end need)) before after = ⊥
