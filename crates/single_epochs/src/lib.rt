@@ -1,6 +1,8 @@
-//! Single epochs: which threads take which slices, what is answered, and where an epoch ends.
+//! Single epochs: which threads take which slices, what is answered, and where an epoch ends; and the windows of the input that
+//! answers come from.
 //!
-//! This crate is its tests: they call `epoch_runner` as a crate above it does. Each slice was worked out by hand.
+//! This crate is its tests: they call `epoch_runner` and `supply` as a crate above them does. Each slice and each window was worked
+//! out by hand.
 #![tactic(auto)]
 
 #[cfg(test)]
@@ -9,3 +11,5 @@ mod epoch_guests;
 mod epoch_tests;
 #[cfg(test)]
 mod input_tests;
+#[cfg(test)]
+mod supply_tests;

@@ -1,9 +1,9 @@
-use super::*;
 use disk_mem::{CallNumbers, Fails, MemInlet};
 use disk_model::Inlet;
 use dp_base::OutOfMemory;
 use std::alloc::Global;
 use std::test::Fail;
+use supply::{InputFault, MAX_ROOM, Supply};
 
 fn inlet_of(alloc: Global, pieces: [&[u8]; 3], fails: Fails) -> Result<MemInlet, OutOfMemory> {
     let mut all = Vec::new(alloc);
