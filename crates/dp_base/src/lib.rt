@@ -43,8 +43,6 @@ pub use slice::Slice;
 pub use tid::Tid;
 
 #[cfg(test)]
-mod tests;
-#[cfg(test)]
 mod worked_bytes;
 #[cfg(test)]
 mod worked_limits;

@@ -21,6 +21,3 @@ pub mod laws;
 pub use decoding::decode;
 pub use encoding::encode;
 pub use epoch::Epoch;
-
-#[cfg(test)]
-mod tests;

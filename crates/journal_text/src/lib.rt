@@ -28,6 +28,4 @@ pub use head::{Head, header};
 pub use next::{MARK_KIND, Rec, next_record};
 
 #[cfg(test)]
-mod tests;
-#[cfg(test)]
 mod worked_journals;

@@ -71,39 +71,3 @@ impl SliceLog {
         self.items
     }
 }
-
-#[cfg(test)]
-mod tests {
-    use super::*;
-    use dp_base::Tid;
-    use std::test::Fail;
-
-    #[test]
-    fn slices_in_order(rt: HostRuntime) -> Result<(), Fail> {
-        let mut log = SliceLog::new(rt.alloc());
-        log.put(Slice {
-            tid: Tid(1),
-            steps: 2,
-        })?;
-        log.put(Slice {
-            tid: Tid(9),
-            steps: 1,
-        })?;
-        let mut at = 0;
-        assert_eq!(rt; log.next(&mut at).map(|slice| slice.steps), Some(2));
-        assert_eq!(rt; log.next(&mut at).map(|slice| slice.tid), Some(Tid(9)));
-        assert_eq!(rt; (log.next(&mut at), at), (None, 2));
-        Ok(())
-    }
-
-    #[test]
-    fn slices_given_back(rt: HostRuntime) -> Result<(), Fail> {
-        let slices = [Slice {
-            tid: Tid(4),
-            steps: 7,
-        }];
-        let log = SliceLog::from_vec(slices.to_vec(rt.alloc())?);
-        assert_eq!(rt; log.into_vec().as_slice(), slices.as_slice());
-        Ok(())
-    }
-}

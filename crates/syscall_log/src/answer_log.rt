@@ -71,21 +71,3 @@ impl AnswerLog {
         self.items
     }
 }
-
-#[cfg(test)]
-mod tests {
-    use super::*;
-    use std::test::Fail;
-
-    #[test]
-    fn answers_in_order(rt: HostRuntime) -> Result<(), Fail> {
-        let mut log = AnswerLog::from_vec(Vec::new(rt.alloc()));
-        log.put(Answer::Clock(7))?;
-        log.put(Answer::Clock(9))?;
-        let mut at = 1;
-        assert!(rt; matches!(log.next(&mut at), Some(Answer::Clock(9))));
-        assert!(rt; log.next(&mut at).is_none());
-        assert_eq!(rt; (at, log.into_vec().len()), (2, 2));
-        Ok(())
-    }
-}

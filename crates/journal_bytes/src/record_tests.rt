@@ -1,5 +1,5 @@
-use super::*;
 use dp_base::OutOfMemory;
+use journal_text::{Frame, Head, Rec, header, next_record};
 use std::alloc::Global;
 use std::test::Fail;
 
@@ -134,7 +134,7 @@ fn headers(rt: HostRuntime) {
 }
 
 // The frame of an epoch of three steps.
-#[tactic(auto, unfolding(crate::specs::Records::record_in, dp_base::specs::Journal::epoch_body_at, dp_base::specs::Journal::many_at, dp_base::specs::Journal::slice_at))]
+#[tactic(auto, unfolding(journal_text::specs::Records::record_in, dp_base::specs::Journal::epoch_body_at, dp_base::specs::Journal::many_at, dp_base::specs::Journal::slice_at))]
 fn frame_of_three_steps(alloc: Global) -> Result<Frame, OutOfMemory> {
     Frame::of(
         alloc,

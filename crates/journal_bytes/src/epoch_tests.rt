@@ -1,5 +1,5 @@
-use super::*;
 use dp_base::OutOfMemory;
+use epoch_record::{decode, encode, laws};
 use std::alloc::Global;
 use std::test::Fail;
 
