@@ -41,8 +41,3 @@ pub use out_of_memory::OutOfMemory;
 pub use page::{Page, PageView};
 pub use slice::Slice;
 pub use tid::Tid;
-
-#[cfg(test)]
-mod worked_bytes;
-#[cfg(test)]
-mod worked_limits;

@@ -26,6 +26,3 @@ mod next;
 pub use frame::Frame;
 pub use head::{Head, header};
 pub use next::{MARK_KIND, Rec, next_record};
-
-#[cfg(test)]
-mod worked_journals;

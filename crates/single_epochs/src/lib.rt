@@ -13,3 +13,5 @@ mod epoch_tests;
 mod input_tests;
 #[cfg(test)]
 mod supply_tests;
+#[cfg(test)]
+mod worked_answers;

@@ -18,8 +18,6 @@
 
 mod laws;
 mod supply;
-#[cfg(test)]
-mod worked_answers;
 
 pub use laws::{an_answer_is_of_the_input, an_answer_is_of_the_window, the_windows_are_the_input};
 pub use supply::{InputFault, Supply};

@@ -3,7 +3,7 @@ ghost use Rattle.std.specs.Prelude.{◌≡◌, ◌∷◌, [], true, false, Some,
 ghost use Rattle.supply.specs.Supplied.{answer_at, empty, refilled, unfilled};
 ghost use Rattle.supply.specs.Windows.{bytes_left};
 
-use crate::MAX_ROOM;
+use supply::MAX_ROOM;
 
 fn limits()
     ensures { MAX_ROOM ≡ 65536 }
@@ -37,7 +37,7 @@ fn refills()
 {}
 
 // All bytes up to an empty piece.
-#[tactic(auto, unfolding(crate::specs::Windows::bytes_left))]
+#[tactic(auto, unfolding(supply::specs::Windows::bytes_left))]
 fn lefts()
     ensures { bytes_left ((7 ∷ 8 ∷ []) ∷ (9 ∷ []) ∷ [] ∷ (6 ∷ []) ∷ []) ≡ 7 ∷ 8 ∷ 9 ∷ [] }
 {}

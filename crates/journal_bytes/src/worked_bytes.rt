@@ -37,7 +37,7 @@ fn no_code_for_256()
     ensures { IsPrefixCode (number_at 1) (little_bytes 1) (λ x. x ≤ 256) → ⊥ }
 {}
 
-#[tactic(auto, unfolding(crate::specs::Journal::header_at))]
+#[tactic(auto, unfolding(dp_base::specs::Journal::header_at))]
 fn headers()
     ensures encoded { header (0xaa ∷ 0xbb ∷ []) ≡ 1 ∷ 0x44 ∷ 0x50 ∷ 0x4a ∷ 0x31 ∷ 2 ∷ 0 ∷ 0 ∷ 0 ∷ 0xaa ∷ 0xbb ∷ [] }
     ensures read { header_at (1 ∷ 0x44 ∷ 0x50 ∷ 0x4a ∷ 0x31 ∷ 2 ∷ 0 ∷ 0 ∷ 0 ∷ 0xaa ∷ 0xbb ∷ 0 ∷ []) ≡ Some (0xaa ∷ 0xbb ∷ [], 0 ∷ []) }
@@ -49,7 +49,7 @@ fn headers()
     ensures too_long { (guest : List ℕ) → length guest ≡ 4294967296 → IsGuest guest → ⊥ }
 {}
 
-#[tactic(auto, unfolding(crate::specs::Journal::record_at))]
+#[tactic(auto, unfolding(dp_base::specs::Journal::record_at))]
 fn records()
     ensures encoded { record_of (0xaa ∷ []) ≡ 1 ∷ 1 ∷ 0 ∷ 0 ∷ 0 ∷ 0xaa ∷ [] }
     ensures framed { frame (0xaa ∷ []) ≡ 1 ∷ 0 ∷ 0 ∷ 0 ∷ 0xaa ∷ 0 ∷ [] }
@@ -62,7 +62,7 @@ fn records()
     ensures too_long { (body : List ℕ) → length body ≡ 16777217 → IsBody body → ⊥ }
 {}
 
-#[tactic(auto, unfolding(crate::specs::Journal::slice_at))]
+#[tactic(auto, unfolding(dp_base::specs::Journal::slice_at))]
 fn slices()
     ensures encoded { slice (record { tid = record { 0 = 0x0102 }; steps = 0x03040506 }) ≡ 2 ∷ 1 ∷ 6 ∷ 5 ∷ 4 ∷ 3 ∷ [] }
     ensures read { slice_at (2 ∷ 1 ∷ 6 ∷ 5 ∷ 4 ∷ 3 ∷ 9 ∷ []) ≡ Some (record { tid = record { 0 = 0x0102 }; steps = 0x03040506 }, 9 ∷ []) }
@@ -73,7 +73,7 @@ fn slices()
     ensures greatest { IsSlice (record { tid = record { 0 = 65535 }; steps = 4294967295 }) }
 {}
 
-#[tactic(auto, unfolding(crate::specs::Journal::answer_at, crate::specs::Journal::read_at, crate::specs::Journal::clock_at))]
+#[tactic(auto, unfolding(dp_base::specs::Journal::answer_at, dp_base::specs::Journal::read_at, dp_base::specs::Journal::clock_at))]
 fn answers()
     ensures clock { answer_at (1 ∷ 5 ∷ 0 ∷ 0 ∷ 0 ∷ 0 ∷ 0 ∷ 0 ∷ 0x80 ∷ 9 ∷ []) ≡ Some (Clock 0x8000000000000005, 9 ∷ []) }
     ensures read { answer_at (0 ∷ 2 ∷ 0 ∷ 0xaa ∷ 0xbb ∷ 9 ∷ []) ≡ Some (Read (0xaa ∷ 0xbb ∷ []), 9 ∷ []) }
@@ -87,7 +87,7 @@ fn answers()
 {}
 
 // The body of three steps of thread 1, what follows it, and what is not one.
-#[tactic(auto, unfolding(crate::specs::Journal::epoch_body_at, crate::specs::Journal::many_at, crate::specs::Journal::slice_at, crate::specs::Journal::answer_at, crate::specs::Journal::read_at, crate::specs::Journal::clock_at))]
+#[tactic(auto, unfolding(dp_base::specs::Journal::epoch_body_at, dp_base::specs::Journal::many_at, dp_base::specs::Journal::slice_at, dp_base::specs::Journal::answer_at, dp_base::specs::Journal::read_at, dp_base::specs::Journal::clock_at))]
 fn epochs()
     ensures encoded { epoch_body (record { slices = record { tid = record { 0 = 1 }; steps = 3 } ∷ record { tid = record { 0 = 2 }; steps = 4 } ∷ []; answers = Clock 5 ∷ Read (7 ∷ []) ∷ [] }) ≡ 0 ∷ 2 ∷ 0 ∷ 0 ∷ 0 ∷ 1 ∷ 0 ∷ 3 ∷ 0 ∷ 0 ∷ 0 ∷ 2 ∷ 0 ∷ 4 ∷ 0 ∷ 0 ∷ 0 ∷ 2 ∷ 0 ∷ 0 ∷ 0 ∷ 1 ∷ 5 ∷ 0 ∷ 0 ∷ 0 ∷ 0 ∷ 0 ∷ 0 ∷ 0 ∷ 0 ∷ 1 ∷ 0 ∷ 7 ∷ [] }
     ensures read { epoch_body_at (0 ∷ 1 ∷ 0 ∷ 0 ∷ 0 ∷ 1 ∷ 0 ∷ 3 ∷ 0 ∷ 0 ∷ 0 ∷ 0 ∷ 0 ∷ 0 ∷ 0 ∷ []) ≡ Some (record { slices = record { tid = record { 0 = 1 }; steps = 3 } ∷ []; answers = [] }, []) }

@@ -18,7 +18,7 @@ fn encodings()
 {}
 
 // What stands at a gate.
-#[tactic(auto, unfolding(crate::specs::Records::next_at, crate::specs::Records::fitting_at, crate::specs::Records::record_in, crate::specs::Records::mark_in, dp_base::specs::Journal::epoch_body_at, dp_base::specs::Journal::many_at, dp_base::specs::Journal::slice_at, dp_base::specs::Journal::answer_at, dp_base::specs::Journal::read_at, dp_base::specs::Journal::clock_at, guest_state::specs::Checkpoint::checkpoint_from, guest_state::specs::Checkpoint::end_from, guest_state::specs::Checkpoint::thread_from, guest_state::specs::Checkpoint::gone_from))]
+#[tactic(auto, unfolding(journal_text::specs::Records::next_at, journal_text::specs::Records::fitting_at, journal_text::specs::Records::record_in, journal_text::specs::Records::mark_in, dp_base::specs::Journal::epoch_body_at, dp_base::specs::Journal::many_at, dp_base::specs::Journal::slice_at, dp_base::specs::Journal::answer_at, dp_base::specs::Journal::read_at, dp_base::specs::Journal::clock_at, guest_state::specs::Checkpoint::checkpoint_from, guest_state::specs::Checkpoint::end_from, guest_state::specs::Checkpoint::thread_from, guest_state::specs::Checkpoint::gone_from))]
 fn gates()
     ensures nothing { next_at [] ≡ ended }
     ensures closed { next_at (0 ∷ 0x0f ∷ 0 ∷ 0 ∷ 0 ∷ 0 ∷ 1 ∷ 0 ∷ 0 ∷ 0 ∷ 1 ∷ 0 ∷ 3 ∷ 0 ∷ 0 ∷ 0 ∷ 0 ∷ 0 ∷ 0 ∷ 0 ∷ []) ≡ ended }
@@ -35,7 +35,7 @@ fn gates()
     ensures mark_with_a_byte_behind { next_at (1 ∷ 0x24 ∷ 0 ∷ 0 ∷ 0 ∷ 1 ∷ 3 ∷ 0 ∷ 0 ∷ 0 ∷ 0 ∷ 0 ∷ 0 ∷ 0 ∷ 0 ∷ 0 ∷ 0 ∷ 0 ∷ 0 ∷ 0 ∷ 0 ∷ 0 ∷ 0 ∷ 0x10 ∷ 0 ∷ 0 ∷ 4 ∷ 0x10 ∷ 0 ∷ 0 ∷ 0 ∷ 1 ∷ 0 ∷ 2 ∷ 7 ∷ 0 ∷ 0 ∷ 0 ∷ 0 ∷ 0 ∷ 0 ∷ []) ≡ bad }
 {}
 
-#[tactic(auto, unfolding(crate::specs::Reading::reads, crate::specs::Records::list_from, crate::specs::Records::next_at, crate::specs::Records::fitting_at, crate::specs::Records::record_in, crate::specs::Records::mark_in, dp_base::specs::Journal::header_at, dp_base::specs::Journal::epoch_body_at, dp_base::specs::Journal::many_at, dp_base::specs::Journal::slice_at, guest_state::specs::Checkpoint::checkpoint_from, guest_state::specs::Checkpoint::end_from, guest_state::specs::Checkpoint::thread_from, guest_state::specs::Checkpoint::gone_from))]
+#[tactic(auto, unfolding(journal_text::specs::Reading::reads, journal_text::specs::Records::list_from, journal_text::specs::Records::next_at, journal_text::specs::Records::fitting_at, journal_text::specs::Records::record_in, journal_text::specs::Records::mark_in, dp_base::specs::Journal::header_at, dp_base::specs::Journal::epoch_body_at, dp_base::specs::Journal::many_at, dp_base::specs::Journal::slice_at, guest_state::specs::Checkpoint::checkpoint_from, guest_state::specs::Checkpoint::end_from, guest_state::specs::Checkpoint::thread_from, guest_state::specs::Checkpoint::gone_from))]
 fn journals()
     ensures nothing { reads [] ≡ None }
     ensures gate_alone { reads (1 ∷ []) ≡ None }

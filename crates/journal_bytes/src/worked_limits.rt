@@ -19,7 +19,7 @@ ghost use Rattle.dp_base.specs.declared.limits.TheConstants.{
   STACK_POINTER,
 };
 
-use crate::Page;
+use dp_base::Page;
 
 // What a guest may have.
 fn guests()
@@ -46,6 +46,9 @@ fn recordings()
 {}
 
 // The bytes of a page are as many as the limit says.
-fn pages(page: &Page)
-    ensures { length page.now.bytes ≡ PAGE_BYTES }
-{}
+fn pages(page: &Page) -> usize
+    ensures bytes { length page.now.bytes ≡ PAGE_BYTES }
+    ensures len { result ≡ PAGE_BYTES }
+{
+    page.bytes.as_slice().len()
+}

@@ -2,7 +2,7 @@ use Rattle.std.proofs.Common.{◌≤◌, [], refl, arith}
 use Rattle.byteorder.specs.Endian.{little_bytes}
 use Rattle.dp_base.specs.Field.{number_at}
 use Rattle.dp_base.specs.Encoding.{IsPrefixCode}
-use Rattle.dp_base.proofs.worked_bytes.no_code_for_256.Goals as goal
+use Rattle.journal_bytes.proofs.worked_bytes.no_code_for_256.Goals as goal
 
 pub returns : goal.returns
 returns c = λ (code : IsPrefixCode (number_at 1) (little_bytes 1) (λ x. x ≤ 256)).
