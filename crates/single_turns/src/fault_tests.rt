@@ -94,34 +94,42 @@ fn lengths() -> [(usize, Result<u32, ImageFault>); 5] {
     ]
 }
 
-// An offset and the byte there; the fault.
-fn wrong_bytes() -> [(usize, u8, ImageFault); 7] {
+#[test]
+fn lengths_of_a_file(rt: HostRuntime) -> Result<(), Fail> {
+    for (length, pages) in lengths() {
+        let found = pages_with(rt.alloc(), length, 0, &[])?;
+        assert_eq!(rt; found, pages, "{length} bytes");
+    }
+    Ok(())
+}
+
+// An offset and the bytes there; the fault.
+fn wrong_bytes() -> [(usize, &'static [u8], ImageFault); 8] {
     [
-        (4, 2, ImageFault::NotClass32),
-        (5, 2, ImageFault::NotLittle),
-        (16, 3, ImageFault::NotExec),
-        (18, 0x3e, ImageFault::NotRiscv),
-        (42, 0x38, ImageFault::BadTable),
-        (52, 3, ImageFault::Interp),
+        (4, &[2], ImageFault::NotClass32),
+        (5, &[2], ImageFault::NotLittle),
+        (16, &[3], ImageFault::NotExec),
+        (18, &[0x3e], ImageFault::NotRiscv),
+        (42, &[0x38], ImageFault::BadTable),
+        (52, &[3], ImageFault::Interp),
         // p_memsz
-        (72, 0x5f, ImageFault::BadSegment),
+        (72, &[0x5f], ImageFault::BadSegment),
+        // p_filesz 0, p_memsz 3f0001
+        (68, &[0, 0, 0, 0, 1, 0, 0x3f], ImageFault::TooManyPages),
     ]
 }
 
 #[test]
 fn faults(rt: HostRuntime) -> Result<(), Fail> {
-    let alloc = rt.alloc();
-    for (length, pages) in lengths() {
-        let found = pages_with(alloc, length, 0, &[])?;
-        assert_eq!(rt; found, pages, "{length} bytes");
-    }
-    for (offset, byte, fault) in wrong_bytes() {
-        let found = pages_with(alloc, 96, offset, &[byte])?;
+    for (offset, bytes, fault) in wrong_bytes() {
+        let found = pages_with(rt.alloc(), 96, offset, bytes)?;
         assert_eq!(rt; found, Err(fault), "at {offset}");
     }
-    // p_filesz 0, p_memsz 3f0001
-    let found = pages_with(alloc, 96, 68, &[0, 0, 0, 0, 1, 0, 0x3f])?;
-    assert_eq!(rt; found, Err(ImageFault::TooManyPages));
-    assert_eq!(rt; pages_of_zeros(alloc)?, Err(ImageFault::TooLong));
+    Ok(())
+}
+
+#[test]
+fn a_file_of_zeros(rt: HostRuntime) -> Result<(), Fail> {
+    assert_eq!(rt; pages_of_zeros(rt.alloc())?, Err(ImageFault::TooLong));
     Ok(())
 }

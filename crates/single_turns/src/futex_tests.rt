@@ -1,5 +1,5 @@
 // Waits and wakes, each turn worked out by hand.
-use crate::stands::{CALLS, IDLE, Seen, Stand, answered, look, on_a_word, waits};
+use crate::stands::{CALLS, Caller, IDLE, Seen, Stand, answered, look, on_a_word, waits};
 use guest_kernel::End;
 use std::alloc::Global;
 use std::test::Fail;
@@ -87,101 +87,91 @@ fn waits_that_begin(rt: HostRuntime) -> Result<(), Fail> {
     Ok(())
 }
 
-// Who wakes, on which address and at most how many; the threads before, and those behind it.
-fn cases_of_wakes() -> [(u16, [u32; 2], [Stand; 4], [Stand; 4]); 11] {
-    let (waiting, elsewhere, woken) = (waits(0x11000), waits(0x11004), answered(0));
+// How a thread stands while one wakes others.
+#[derive(Clone, Copy)]
+enum Role {
+    // It wakes so many.
+    Wakes(u32),
+    Runs,
+    Gone(u32),
+    // It waits on an address, before and behind.
+    Waits(u32),
+    // It waits there, and is woken.
+    Woken(u32),
+}
+
+use Role::{Gone, Runs, Waits, Wakes, Woken};
+
+fn before(role: Role) -> Stand {
+    match role {
+        Role::Wakes(_) => CALLS,
+        Role::Runs => IDLE,
+        Role::Gone(code) => Stand::Gone(code),
+        Role::Waits(on) => waits(on),
+        Role::Woken(on) => waits(on),
+    }
+}
+
+fn behind(role: Role) -> Stand {
+    match role {
+        Role::Wakes(count) => answered(count),
+        Role::Woken(_) => answered(0),
+        _ => before(role),
+    }
+}
+
+// Who wakes, on which address and at most how many; how threads 1 to 4 stand.
+fn cases_of_wakes() -> [(u16, u32, u32, Role, Role, Role, Role); 11] {
+    let (waits, woken) = (Waits(0x11000), Woken(0x11000));
+    let (waits_elsewhere, woken_elsewhere) = (Waits(0x11004), Woken(0x11004));
     [
         // of threads 2 and 3 the lowest
-        (
-            1,
-            [0x11000, 1],
-            [CALLS, waiting, waiting, IDLE],
-            [answered(1), woken, waiting, IDLE],
-        ),
-        (
-            4,
-            [0x11000, 1],
-            [IDLE, waiting, waiting, CALLS],
-            [IDLE, woken, waiting, answered(1)],
-        ),
-        (
-            2,
-            [0x11000, 2],
-            [waiting, CALLS, waiting, waiting],
-            [woken, answered(2), woken, waiting],
-        ),
+        (1, 0x11000, 1, Wakes(1), woken, waits, Runs),
+        (4, 0x11000, 1, Runs, woken, waits, Wakes(1)),
+        (2, 0x11000, 2, woken, Wakes(2), woken, waits),
         // none
-        (
-            1,
-            [0x11000, 0],
-            [CALLS, waiting, waiting, IDLE],
-            [answered(0), waiting, waiting, IDLE],
-        ),
+        (1, 0x11000, 0, Wakes(0), waits, waits, Runs),
         // more than wait
-        (
-            1,
-            [0x11000, 3],
-            [CALLS, waiting, waiting, IDLE],
-            [answered(2), woken, woken, IDLE],
-        ),
-        (
-            3,
-            [0x11000, 0xffff_ffff],
-            [waiting, waiting, CALLS, waiting],
-            [woken, woken, answered(3), woken],
-        ),
-        (
-            3,
-            [0x11000, 0x8000_0000],
-            [waiting, Stand::Gone(1), CALLS, waiting],
-            [woken, Stand::Gone(1), answered(2), woken],
-        ),
+        (1, 0x11000, 3, Wakes(2), woken, woken, Runs),
+        (3, 0x11000, 0xffff_ffff, woken, woken, Wakes(3), woken),
+        (3, 0x11000, 0x8000_0000, woken, Gone(1), Wakes(2), woken),
         // only those on the address
+        (1, 0x11000, 2, Wakes(2), waits_elsewhere, woken, woken),
         (
             1,
-            [0x11000, 2],
-            [CALLS, elsewhere, waiting, waiting],
-            [answered(2), elsewhere, woken, woken],
-        ),
-        (
-            1,
-            [0x11004, 9],
-            [CALLS, elsewhere, waiting, elsewhere],
-            [answered(2), woken, waiting, woken],
+            0x11004,
+            9,
+            Wakes(2),
+            woken_elsewhere,
+            waits,
+            woken_elsewhere,
         ),
         // none waits there
-        (
-            1,
-            [0x11002, 1],
-            [CALLS, elsewhere, waiting, Stand::Gone(0)],
-            [answered(0), elsewhere, waiting, Stand::Gone(0)],
-        ),
+        (1, 0x11002, 1, Wakes(0), waits_elsewhere, waits, Gone(0)),
         // on an address at which no word can be read
-        (
-            1,
-            [0x50001, 1],
-            [CALLS, waits(0x50001), waiting, IDLE],
-            [answered(1), woken, waiting, IDLE],
-        ),
+        (1, 0x50001, 1, Wakes(1), Woken(0x50001), waits, Runs),
     ]
 }
 
-// What is seen behind a wake by a thread, on an address and of at most so many.
+// What is seen behind a wake by a thread.
 fn after_wake(
     alloc: Global,
-    tid: u16,
-    arguments: [u32; 2],
-    before: [Stand; 4],
-    after: [Stand; 4],
+    caller: Caller,
+    first: Role,
+    second: Role,
+    third: Role,
+    fourth: Role,
 ) -> Result<Seen, Fail> {
-    let [addr, count] = arguments;
-    look(alloc, on_a_word(tid, [6, addr, count]), &before, &after)
+    let stood = [before(first), before(second), before(third), before(fourth)];
+    let stand = [behind(first), behind(second), behind(third), behind(fourth)];
+    look(alloc, caller, &stood, &stand)
 }
 
 #[test]
 fn wakes(rt: HostRuntime) -> Result<(), Fail> {
-    for (tid, [addr, count], before, after) in cases_of_wakes() {
-        let found = after_wake(rt.alloc(), tid, [addr, count], before, after)?;
+    for (tid, addr, count, first, second, third, fourth) in cases_of_wakes() {
+        let caller = on_a_word(tid, [6, addr, count]);
+        let found = after_wake(rt.alloc(), caller, first, second, third, fourth)?;
         assert_eq!(rt; found, as_wanted(End::None), "{count} at {addr:x}");
     }
     Ok(())

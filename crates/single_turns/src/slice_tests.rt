@@ -137,24 +137,37 @@ fn ending(before: u16, end: End, pc: u32) -> Around {
     (whole, stops(0, steps), false)
 }
 
-// Each has so many steps before its last one.
+// The words, how many steps there are before the last one, the end, and where thread 1 stands behind it.
+fn ending_guests() -> [(&'static [u32], u16, End, u32); 5] {
+    [
+        (&EXIT_SEVEN, 2, End::Exit(7), 0x10060),
+        // addi x10, x0, -1
+        (
+            &[0x0010_0893, 0xfff0_0513, 0x73],
+            2,
+            End::Exit(0xffff_ffff),
+            0x10060,
+        ),
+        // EBREAK
+        (
+            &[0x0010_0073, 0x0010_0893, 0x73],
+            0,
+            trap(3, 0x10054),
+            0x10054,
+        ),
+        // no word at all: the zeros behind the headers
+        (&[], 0, trap(2, 0), 0x10054),
+        // addi x17, x0, 11, which is no call; the word behind it is no instruction
+        (&[0x00b0_0893, 0x73], 2, trap(2, 0), 0x1005c),
+    ]
+}
+
 #[test]
 fn guests_end(rt: HostRuntime) -> Result<(), Fail> {
-    let alloc = rt.alloc();
-    let found = around(alloc, &EXIT_SEVEN, 2)?;
-    assert_eq!(rt; found, ending(2, End::Exit(7), 0x10060));
-    // addi x10, x0, -1
-    let found = around(alloc, &[0x0010_0893, 0xfff0_0513, 0x73], 2)?;
-    assert_eq!(rt; found, ending(2, End::Exit(0xffff_ffff), 0x10060));
-    // EBREAK
-    let found = around(alloc, &[0x0010_0073, 0x0010_0893, 0x73], 0)?;
-    assert_eq!(rt; found, ending(0, trap(3, 0x10054), 0x10054));
-    // no word at all: the zeros behind the headers
-    let found = around(alloc, &[], 0)?;
-    assert_eq!(rt; found, ending(0, trap(2, 0), 0x10054));
-    // addi x17, x0, 11, which is no call; the word behind it is no instruction
-    let found = around(alloc, &[0x00b0_0893, 0x73], 2)?;
-    assert_eq!(rt; found, ending(2, trap(2, 0), 0x1005c));
+    for (words, before, end, pc) in ending_guests() {
+        let found = around(rt.alloc(), words, before)?;
+        assert_eq!(rt; found, ending(before, end, pc));
+    }
     Ok(())
 }
 
@@ -213,6 +226,9 @@ fn registers(rt: HostRuntime) -> Result<(), Fail> {
     Ok(())
 }
 
+// A slice: its thread and its steps.
+pub(crate) type Cut = (u16, u32);
+
 pub(crate) fn slice(tid: u16, steps: u32) -> Slice {
     Slice {
         tid: Tid(tid),
@@ -231,18 +247,42 @@ fn ran_seven(alloc: Global, slices: &[Slice], clock: Option<u64>) -> Result<(Sli
     Ok((run, steps))
 }
 
+// The same of two slices, of one or of none.
+fn ran_seven_so(
+    alloc: Global,
+    first: Option<Cut>,
+    second: Option<Cut>,
+    clock: Option<u64>,
+) -> Result<(SliceRun, u64), Fail> {
+    match first {
+        Some(first) => match second {
+            Some(second) => {
+                let slices = [slice(first.0, first.1), slice(second.0, second.1)];
+                ran_seven(alloc, &slices, clock)
+            }
+            None => ran_seven(alloc, &[slice(first.0, first.1)], clock),
+        },
+        None => ran_seven(alloc, &[], clock),
+    }
+}
+
+// The slices, and the clock's answer that is left; what they come to, and the step count.
+fn runs_of_seven() -> [(Option<Cut>, Option<Cut>, Option<u64>, SliceRun, u64); 5] {
+    [
+        (Some((1, 2)), Some((9, 1)), None, stops(1, 0), 2),
+        (Some((1, 1)), Some((1, 4)), None, stops(1, 2), 3),
+        (Some((1, 2)), None, Some(5), stops(1, 0), 2),
+        (None, None, Some(5), stops(0, 0), 0),
+        (Some((9, 0)), None, None, SliceRun::Whole, 0),
+    ]
+}
+
 #[test]
 fn runs_that_stop(rt: HostRuntime) -> Result<(), Fail> {
-    let alloc = rt.alloc();
-    let found = ran_seven(alloc, &[slice(1, 2), slice(9, 1)], None)?;
-    assert_eq!(rt; found, (stops(1, 0), 2));
-    let found = ran_seven(alloc, &[slice(1, 1), slice(1, 4)], None)?;
-    assert_eq!(rt; found, (stops(1, 2), 3));
-    let found = ran_seven(alloc, &[slice(1, 2)], Some(5))?;
-    assert_eq!(rt; found, (stops(1, 0), 2));
-    assert_eq!(rt; ran_seven(alloc, &[], Some(5))?, (stops(0, 0), 0));
-    let found = ran_seven(alloc, &[slice(9, 0)], None)?;
-    assert_eq!(rt; found, (SliceRun::Whole, 0));
+    for (first, second, clock, run, steps) in runs_of_seven() {
+        let found = ran_seven_so(rt.alloc(), first, second, clock)?;
+        assert_eq!(rt; found, (run, steps));
+    }
     Ok(())
 }
 

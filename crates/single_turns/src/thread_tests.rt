@@ -2,7 +2,7 @@
 ghost use Rattle.std.specs.Prelude.{◌≡◌, IfOk};
 
 use crate::one_turn::one_turn;
-use crate::slice_tests::{Ran, ran, slice};
+use crate::slice_tests::{Cut, Ran, ran, slice};
 use dp_base::Tid;
 use dp_base::limits::MAX_THREADS;
 use guest_kernel::{End, Hart, Pages, SliceRun, State, Thread, Threads, Turn};
@@ -247,24 +247,27 @@ fn outcome(ran: Ran) -> Outcome {
     (run, end, steps, first)
 }
 
-// What slices of these threads and steps come to.
-fn two(alloc: Global, first: (u16, u32), second: (u16, u32)) -> Result<Outcome, Fail> {
+// What two slices come to.
+fn two(alloc: Global, first: Cut, second: Cut) -> Result<Outcome, Fail> {
     let slices = [slice(first.0, first.1), slice(second.0, second.1)];
     Ok(outcome(ran(alloc, &TWO_THREADS, &slices, &[])?))
 }
 
-fn three(
-    alloc: Global,
-    first: (u16, u32),
-    second: (u16, u32),
-    third: (u16, u32),
-) -> Result<Outcome, Fail> {
+fn three(alloc: Global, first: Cut, second: Cut, third: Cut) -> Result<Outcome, Fail> {
     let slices = [
         slice(first.0, first.1),
         slice(second.0, second.1),
         slice(third.0, third.1),
     ];
     Ok(outcome(ran(alloc, &TWO_THREADS, &slices, &[])?))
+}
+
+// What two slices come to, or three.
+fn cut_so(alloc: Global, first: Cut, second: Cut, third: Option<Cut>) -> Result<Outcome, Fail> {
+    match third {
+        Some(third) => three(alloc, first, second, third),
+        None => two(alloc, first, second),
+    }
 }
 
 // A run to the end, which is the 17th step.
@@ -278,27 +281,58 @@ fn stopped(slice: usize, steps: u64, first: Option<(u32, u32)>) -> Outcome {
     (run, End::None, steps, first)
 }
 
+// Three slices that run to the end.
+fn whole_runs() -> [(Cut, Cut, Cut); 2] {
+    [
+        // thread 1 waits, and the exit of thread 2 wakes it
+        ((1, 11), (2, 2), (1, 4)),
+        // thread 2 is gone before the wait, which finds another word
+        ((1, 7), (2, 2), (1, 8)),
+    ]
+}
+
 #[test]
-fn a_guest_of_two_threads(rt: HostRuntime) -> Result<(), Fail> {
-    let alloc = rt.alloc();
-    // thread 1 waits, and the exit of thread 2 wakes it
-    assert_eq!(rt; three(alloc, (1, 11), (2, 2), (1, 4))?, to_the_end());
-    // thread 2 is gone before the wait, which finds another word
-    assert_eq!(rt; three(alloc, (1, 7), (2, 2), (1, 8))?, to_the_end());
-    let (.., first) = three(alloc, (1, 10), (2, 2), (1, 1))?;
-    assert_eq!(rt; first, Some((0x10080, 0xffff_fff5)));
-    // behind its wake thread 1 stands behind its wait
-    let (.., first) = two(alloc, (1, 11), (2, 2))?;
-    assert_eq!(rt; first, Some((0x10080, 0)));
-    // while it waits it has no turn, and neither has thread 2 before it is made and behind its exit
-    assert_eq!(rt; two(alloc, (1, 11), (1, 1))?, stopped(1, 11, None));
-    assert_eq!(rt;
-        two(alloc, (1, 6), (2, 1))?,
-        stopped(1, 6, Some((0x1006c, 0x10090)))
-    );
-    assert_eq!(rt;
-        three(alloc, (1, 7), (2, 2), (2, 1))?,
-        stopped(2, 9, Some((0x10070, 2)))
-    );
+fn two_threads_to_the_end(rt: HostRuntime) -> Result<(), Fail> {
+    for (first, second, third) in whole_runs() {
+        assert_eq!(rt; three(rt.alloc(), first, second, third)?, to_the_end());
+    }
+    Ok(())
+}
+
+// Two slices or three, and the pc and x10 of thread 1 behind them.
+fn waits_of_thread_one() -> [(Cut, Cut, Option<Cut>, u32, u32); 2] {
+    [
+        // the wait finds another word
+        ((1, 10), (2, 2), Some((1, 1)), 0x10080, 0xffff_fff5),
+        // behind its wake it stands behind its wait
+        ((1, 11), (2, 2), None, 0x10080, 0),
+    ]
+}
+
+#[test]
+fn behind_the_wait(rt: HostRuntime) -> Result<(), Fail> {
+    for (first, second, third, pc, a0) in waits_of_thread_one() {
+        let (.., stand) = cut_so(rt.alloc(), first, second, third)?;
+        assert_eq!(rt; stand, Some((pc, a0)));
+    }
+    Ok(())
+}
+
+// Two slices or three, of which the last has no turn; which one that is, the step count, and the pc and x10 of thread 1.
+fn slices_without_a_turn() -> [(Cut, Cut, Option<Cut>, usize, u64, Option<(u32, u32)>); 3] {
+    [
+        // thread 1 while it waits, and thread 2 before it is made and behind its exit
+        ((1, 11), (1, 1), None, 1, 11, None),
+        ((1, 6), (2, 1), None, 1, 6, Some((0x1006c, 0x10090))),
+        ((1, 7), (2, 2), Some((2, 1)), 2, 9, Some((0x10070, 2))),
+    ]
+}
+
+#[test]
+fn threads_without_a_turn(rt: HostRuntime) -> Result<(), Fail> {
+    for (first, second, third, last, steps, stand) in slices_without_a_turn() {
+        let found = cut_so(rt.alloc(), first, second, third)?;
+        assert_eq!(rt; found, stopped(last, steps, stand));
+    }
     Ok(())
 }

@@ -1,13 +1,17 @@
 // Writes, each worked out by hand.
+ghost use Rattle.std.specs.Prelude.{◌≡◌, ◌<◌, ◌^◌, IfOk};
+
 use crate::mapping::map;
-use dp_base::Tid;
+use dp_base::{OutOfMemory, Tid};
 use guest_kernel::{End, Hart, Pages, State, Thread, Threads, Turn};
 use std::alloc::Global;
 use std::test::Fail;
 
 // A guest that stands at an ecall, with these arguments and x17 2. Its page 10 (hexadecimal) may only be executed,
 // page 13 be executed and written; the others may be read.
-fn at_write(alloc: Global, arguments: [u32; 3]) -> Result<State, Fail> {
+fn at_write(alloc: Global, arguments: [u32; 3]) -> Result<State, OutOfMemory>
+    ensures { IfOk result (λ state. state.steps ≡ 0) }
+{
     let mut page = [0; 4096];
     page[4094] = b'a';
     page[4095] = b'b';
@@ -43,24 +47,37 @@ fn at_write(alloc: Global, arguments: [u32; 3]) -> Result<State, Fail> {
 // The turn and the step count; how many bytes are written, and whether they start so; a0, the pc and the clear address.
 type Written = ((Turn, u64), (usize, bool), (u32, u32, u32));
 
-fn write(alloc: Global, arguments: [u32; 3], first: &[u8]) -> Result<Written, Fail> {
-    let mut state = at_write(alloc, arguments)?;
-    if state.steps != 0 {
-        return Err("no turn was taken".into());
-    }
+// A turn of thread 1, the guest behind it, and the output, which was `x` before.
+fn turned(alloc: Global, before: State) -> Result<(Turn, State, Vec<u8>), OutOfMemory>
+    requires { before.steps < 2 ^ 63 }
+{
+    let mut state = before;
     let mut out = Vec::from_slice(alloc, b"x")?;
     let turn = state.turn(alloc, Tid(1), None, &mut out)?;
-    let [b'x', written @ ..] = out.as_slice() else {
-        return Err("the bytes before stay".into());
-    };
-    let Some(Thread::Runs { hart, clear }) = state.threads.get(Tid(1)) else {
-        return Err("thread 1 runs".into());
-    };
-    Ok((
-        (turn, state.steps),
-        (written.len(), written.starts_with(first)),
-        (hart.register(10), hart.pc, *clear),
-    ))
+    Ok((turn, state, out))
+}
+
+// How many bytes stand behind an `x`, and whether they start so.
+fn behind_x(out: &[u8], first: &[u8]) -> Option<(usize, bool)> {
+    match out {
+        [b'x', written @ ..] => Some((written.len(), written.starts_with(first))),
+        _ => None,
+    }
+}
+
+// A0, the pc and the clear address of thread 1.
+fn thread_one(state: &State) -> Option<(u32, u32, u32)> {
+    match state.threads.get(Tid(1)) {
+        Some(Thread::Runs { hart, clear }) => Some((hart.register(10), hart.pc, *clear)),
+        _ => None,
+    }
+}
+
+fn write(alloc: Global, arguments: [u32; 3], first: &[u8]) -> Result<Written, Fail> {
+    let (turn, state, out) = turned(alloc, at_write(alloc, arguments)?)?;
+    let written = behind_x(&out, first).ok_or("the bytes before stay")?;
+    let thread = thread_one(&state).ok_or("thread 1 runs")?;
+    Ok(((turn, state.steps), written, thread))
 }
 
 // Fd, addr and len; the answer; how many bytes are written, and how they start.
