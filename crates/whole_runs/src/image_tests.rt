@@ -2,7 +2,7 @@
 use crate::changed_bytes::{all_replaced, replaced};
 use crate::replay_tests::{REPLAY, journal_of, plays_as, recorded};
 use crate::run_tests::{Failing, RECORD, ran, world};
-use disk_mem::Fails;
+use disk_mem::{Fails, MemWorld};
 use disk_model::Stream;
 use dp_report::Status;
 use journal_guests::EXITS;
@@ -104,8 +104,23 @@ fn images_of_no_byte_and_of_too_many(rt: HostRuntime) -> Result<(), Fail> {
     Ok(())
 }
 
-// What a recording came to: its status, the journal's length, and whether a replay of the journal sends the same on Out and on
-// Note.
+// What a recording left, as it came to this status: that, the journal's length, and the status of its replay, where both send the
+// same on Out and on Note.
+fn replayed_as(
+    rt: &HostRuntime,
+    after: &MemWorld,
+    status: Status,
+    sent: &[u8],
+    noted: &[u8],
+) -> Result<(Status, usize, Status), Fail> {
+    if after.sent(Stream::Out) != sent || after.sent(Stream::Note) != noted {
+        return Err("other bytes on Out or on Note".into());
+    }
+    let (replayed, _) = plays_as(rt, REPLAY, after.bytes(), sent, noted)?;
+    Ok((status, after.bytes().len(), replayed))
+}
+
+// The same of a recording of a file.
 fn recorded_as(
     rt: &HostRuntime,
     file: &[u8],
@@ -113,11 +128,7 @@ fn recorded_as(
     noted: &[u8],
 ) -> Result<(Status, usize, Status), Fail> {
     let (after, status) = recorded(rt, &RECORD, file)?;
-    if after.sent(Stream::Out) != sent || after.sent(Stream::Note) != noted {
-        return Err("other bytes on Out or on Note".into());
-    }
-    let (replayed, _) = plays_as(rt, REPLAY, after.bytes(), sent, noted)?;
-    Ok((status, after.bytes().len(), replayed))
+    replayed_as(rt, &after, status, sent, noted)
 }
 
 // The digests were had from the format's tables.

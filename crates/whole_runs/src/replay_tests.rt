@@ -111,7 +111,23 @@ pub(crate) fn journal_of(alloc: Global, guest: &[u8], bodies: &[&[u8]]) -> Resul
     Ok(journal)
 }
 
-// Of the journal of `WRITES` with one epoch, where some calls fail, and an emit takes so many bytes at most.
+// Of a journal, where some calls fail, and an emit takes so many bytes at most.
+fn failing_plays_as(
+    rt: &HostRuntime,
+    journal: &[u8],
+    disk: Failing,
+    sink: Failing,
+    piece: u32,
+    sent: &[u8],
+    noted: &[u8],
+) -> Result<(Status, u8), Fail>
+    requires { 0 < piece }
+{
+    let world = world_with(rt.alloc(), journal, disk, sink, piece)?;
+    replays_as(rt, REPLAY, world, journal, sent, noted)
+}
+
+// Of the journal of `WRITES` with one epoch.
 fn writes_play_as(
     rt: &HostRuntime,
     disk: Failing,
@@ -123,8 +139,33 @@ fn writes_play_as(
     requires { 0 < piece }
 {
     let journal = journal_of(rt.alloc(), &WRITES, &[NINE_STEPS])?;
-    let world = world_with(rt.alloc(), &journal, disk, sink, piece)?;
-    replays_as(rt, REPLAY, world, &journal, sent, noted)
+    failing_plays_as(rt, &journal, disk, sink, piece, sent, noted)
+}
+
+// The same where the call on the disk with this number fails, and where all from it on fail.
+fn disk_fails(rt: &HostRuntime, number: u64) -> Result<[(Status, u8); 2], Fail> {
+    let line: &[u8] = b"dpcli: journal device failed\n";
+    let (one, all) = (Failing::At(number), Failing::From(number));
+    let once = writes_play_as(rt, one, Failing::Never, 4096, b"", line)?;
+    let ever = writes_play_as(rt, all, Failing::Never, 4096, b"", line)?;
+    Ok([once, ever])
+}
+
+// The same of an emit, with what Note gets of each.
+fn emit_fails(
+    rt: &HostRuntime,
+    number: u64,
+    piece: u32,
+    sent: &[u8],
+    noted: &[u8],
+    noted_before: &[u8],
+) -> Result<[(Status, u8); 2], Fail>
+    requires { 0 < piece }
+{
+    let (one, all) = (Failing::At(number), Failing::From(number));
+    let once = writes_play_as(rt, Failing::Never, one, piece, sent, noted)?;
+    let ever = writes_play_as(rt, Failing::Never, all, piece, sent, noted_before)?;
+    Ok([once, ever])
 }
 
 // How long that journal is, and how many calls on the disk a replay of it makes.
@@ -135,55 +176,76 @@ fn calls_of_writes(rt: &HostRuntime) -> Result<(usize, u64), Fail> {
     Ok((journal.len(), after.disk_calls()))
 }
 
+// It is attached, and read.
+#[test]
+fn disk_calls_of_a_replay(rt: HostRuntime) -> Result<(), Fail> {
+    let (len, calls) = calls_of_writes(&rt)?;
+    assert_eq!(rt; (len, calls >= 2), (154, true));
+    Ok(())
+}
+
 #[test]
 fn each_disk_call_of_a_replay_fails(rt: HostRuntime) -> Result<(), Fail> {
-    let never = Failing::Never;
-    let (len, calls) = calls_of_writes(&rt)?;
-    // It is attached, and read.
-    assert_eq!(rt; (len, calls >= 2), (154, true));
-    let no_disk: &[u8] = b"dpcli: journal device failed\n";
-    let failed = (Status::DiskFault, 6);
+    let (_, calls) = calls_of_writes(&rt)?;
     for number in 1..=calls {
-        let came = writes_play_as(&rt, Failing::At(number), never, 4096, b"", no_disk)?;
-        assert_eq!(rt; came, failed, "call {number}");
-        let came = writes_play_as(&rt, Failing::From(number), never, 4096, b"", no_disk)?;
-        assert_eq!(rt; came, failed, "calls from {number}");
+        let came = disk_fails(&rt, number)?;
+        assert_eq!(rt; came, [(Status::DiskFault, 6); 2], "call {number}");
     }
-    let behind = Failing::From(calls.saturating_add(1));
-    let came = writes_play_as(&rt, behind, never, 4096, b"hi\n", ONE_OF_WRITES)?;
-    assert_eq!(rt; came, (Status::Ok, 0));
     Ok(())
+}
+
+// Where the calls behind the last would fail.
+fn behind_the_disk_calls(rt: &HostRuntime) -> Result<(Status, u8), Fail> {
+    let (_, calls) = calls_of_writes(rt)?;
+    let behind = Failing::From(calls.saturating_add(1));
+    writes_play_as(rt, behind, Failing::Never, 4096, b"hi\n", ONE_OF_WRITES)
+}
+
+#[test]
+fn disk_calls_behind_the_last(rt: HostRuntime) -> Result<(), Fail> {
+    assert_eq!(rt; behind_the_disk_calls(&rt)?, (Status::Ok, 0));
+    Ok(())
+}
+
+// The first emit that fails; the answer, what is sent on Out and on Note, and on Note where all fail from it on.
+fn emits_that_fail() -> [(
+    u64,
+    (Status, u8),
+    &'static [u8],
+    &'static [u8],
+    &'static [u8],
+); 3] {
+    let failed = (Status::OutputFault, 7);
+    let line: &[u8] = b"dpcli: output failed\n";
+    [
+        (1, failed, b"", line, b""),
+        (2, failed, b"hi\n", line, b""),
+        (3, (Status::Ok, 0), b"hi\n", ONE_OF_WRITES, ONE_OF_WRITES),
+    ]
 }
 
 // One emit sends the output, one the report's line, and one the status's. Rows are of one emit that fails, and of all from
 // it on.
 #[test]
 fn each_emit_of_a_replay_fails(rt: HostRuntime) -> Result<(), Fail> {
-    let failed = (Status::OutputFault, 7);
-    let line: &[u8] = b"dpcli: output failed\n";
-    let cases: [(u64, (Status, u8), &[u8], &[u8], &[u8]); 3] = [
-        (1, failed, b"", line, b""),
-        (2, failed, b"hi\n", line, b""),
-        (3, (Status::Ok, 0), b"hi\n", ONE_OF_WRITES, ONE_OF_WRITES),
-    ];
-    for (number, answer, sent, noted, noted_before) in cases {
-        let one = Failing::At(number);
-        let came = writes_play_as(&rt, Failing::Never, one, 4096, sent, noted)?;
-        assert_eq!(rt; came, answer, "emit {number}");
-        let all = Failing::From(number);
-        let came = writes_play_as(&rt, Failing::Never, all, 4096, sent, noted_before)?;
-        assert_eq!(rt; came, answer, "emits from {number}");
+    for (number, answer, sent, noted, noted_before) in emits_that_fail() {
+        let came = emit_fails(&rt, number, 4096, sent, noted, noted_before)?;
+        assert_eq!(rt; came, [answer; 2], "emit {number}");
     }
     Ok(())
 }
 
-// The same where an emit takes one byte: three send the output, and 117 the report's line. What was sent of that stands
-// before the status's line.
-#[test]
-fn bytes_of_a_replay_fail(rt: HostRuntime) -> Result<(), Fail> {
+// The same of an emit of one byte.
+fn bytes_that_fail() -> [(
+    u64,
+    (Status, u8),
+    &'static [u8],
+    &'static [u8],
+    &'static [u8],
+); 7] {
     let failed = (Status::OutputFault, 7);
     let line: &[u8] = b"dpcli: output failed\n";
-    let cases: [(u64, (Status, u8), &[u8], &[u8], &[u8]); 7] = [
+    [
         (1, failed, b"", line, b""),
         (2, failed, b"h", line, b""),
         (3, failed, b"hi", line, b""),
@@ -197,35 +259,42 @@ fn bytes_of_a_replay_fail(rt: HostRuntime) -> Result<(), Fail> {
             b"epochs 1 squashes 0 steps 9 sent 3 end exit 0 state 5e7e08b662a2648fef71b4527eed27a6cdaea8232e2b564dfcc9f494b1615bd4",
         ),
         (121, (Status::Ok, 0), b"hi\n", ONE_OF_WRITES, ONE_OF_WRITES),
-    ];
-    for (number, answer, sent, noted, noted_before) in cases {
-        let one = Failing::At(number);
-        let came = writes_play_as(&rt, Failing::Never, one, 1, sent, noted)?;
-        assert_eq!(rt; came, answer, "emit {number}");
-        let all = Failing::From(number);
-        let came = writes_play_as(&rt, Failing::Never, all, 1, sent, noted_before)?;
-        assert_eq!(rt; came, answer, "emits from {number}");
+    ]
+}
+
+// The same where an emit takes one byte: three send the output, and 117 the report's line. What was sent of that stands
+// before the status's line.
+#[test]
+fn bytes_of_a_replay_fail(rt: HostRuntime) -> Result<(), Fail> {
+    for (number, answer, sent, noted, noted_before) in bytes_that_fail() {
+        let came = emit_fails(&rt, number, 1, sent, noted, noted_before)?;
+        assert_eq!(rt; came, [answer; 2], "emit {number}");
     }
     Ok(())
 }
 
-// The status of a replay of what a recording left, and whether it sent the same on Out and on Note, and did no more than read the
-// disk.
-fn replay_of(rt: &HostRuntime, first: &MemWorld) -> Result<(Status, bool, bool), Fail> {
-    let journal = first.bytes();
-    let world = world_with(rt.alloc(), journal, Failing::Never, Failing::Never, 4096)?;
-    let (second, status) = ran(rt, REPLAY, &[], Fails::Never, world)?;
-    is_right(
-        &second,
-        journal,
-        second.sent(Stream::Out),
-        second.sent(Stream::Note),
-    )?;
+// Whether a replay of what a recording left sent the same on Out and on Note, where it did no more than read the disk.
+fn sent_again(first: &MemWorld, second: &MemWorld) -> Result<(bool, bool), Fail> {
+    let (sent, noted) = (second.sent(Stream::Out), second.sent(Stream::Note));
+    is_right(second, first.bytes(), sent, noted)?;
     Ok((
-        status,
-        second.sent(Stream::Out) == first.sent(Stream::Out),
-        second.sent(Stream::Note) == first.sent(Stream::Note),
+        sent == first.sent(Stream::Out),
+        noted == first.sent(Stream::Note),
     ))
+}
+
+// The status of that replay, and the same.
+fn replay_of(rt: &HostRuntime, first: &MemWorld) -> Result<(Status, bool, bool), Fail> {
+    let world = world_with(
+        rt.alloc(),
+        first.bytes(),
+        Failing::Never,
+        Failing::Never,
+        4096,
+    )?;
+    let (second, status) = ran(rt, REPLAY, &[], Fails::Never, world)?;
+    let (same_sent, same_noted) = sent_again(first, &second)?;
+    Ok((status, same_sent, same_noted))
 }
 
 // The statuses of a recording and of a replay of what it left, and whether the second sent the same on Out and on Note.

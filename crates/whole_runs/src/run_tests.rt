@@ -267,13 +267,12 @@ fn journal_in_use(rt: HostRuntime) -> Result<(), Fail> {
     Ok(())
 }
 
-#[test]
-fn faults_of_the_world(rt: HostRuntime) -> Result<(), Fail> {
+// Which calls on the disk fail, and which emits; the status, how many failed of each, and the line.
+fn calls_that_fail() -> [(Failing, Failing, Status, (u64, u64), &'static [u8]); 6] {
     let never = Failing::Never;
     let no_disk: &[u8] = b"dpcli: journal device failed\n";
     let no_output: &[u8] = b"dpcli: output failed\n";
-    // which calls on the disk fail, and which emits; the status, how many failed of each, and the line
-    let cases: [(Failing, Failing, Status, (u64, u64), &[u8]); 6] = [
+    [
         // attach, len, and the last sync of twelve calls
         (Failing::At(1), never, Status::DiskFault, (1, 0), no_disk),
         (Failing::At(2), never, Status::DiskFault, (1, 0), no_disk),
@@ -294,22 +293,35 @@ fn faults_of_the_world(rt: HostRuntime) -> Result<(), Fail> {
             no_output,
         ),
         (never, Failing::From(1), Status::OutputFault, (0, 2), b""),
-    ];
-    for (disk, sink, answer, faults, line) in cases {
-        let came = came_to(&rt, &RECORD, &WRITES, disk, sink, b"", line)?;
-        assert_eq!(rt; (came.status.0, came.is_note), (answer, true));
-        assert_eq!(rt; (came.disk_faults, came.sink_faults), faults);
+    ]
+}
+
+// What a recording of `WRITES` comes to where these calls fail: its status, whether it sent this line on Note, and how many calls on
+// the disk and emits failed.
+fn faults_of(
+    rt: &HostRuntime,
+    disk: Failing,
+    sink: Failing,
+    line: &[u8],
+) -> Result<(Status, bool, (u64, u64)), Fail> {
+    let came = came_to(rt, &RECORD, &WRITES, disk, sink, b"", line)?;
+    let faults = (came.disk_faults, came.sink_faults);
+    Ok((came.status.0, came.is_note, faults))
+}
+
+#[test]
+fn faults_of_the_world(rt: HostRuntime) -> Result<(), Fail> {
+    for (disk, sink, answer, faults, line) in calls_that_fail() {
+        let came = faults_of(&rt, disk, sink, line)?;
+        assert_eq!(rt; came, (answer, true, faults));
     }
-    // behind the last call of each
-    let came = came_to(
-        &rt,
-        &RECORD,
-        &WRITES,
-        Failing::At(13),
-        Failing::At(3),
-        b"",
-        b"",
-    )?;
-    assert_eq!(rt; (came.status.0, came.disk_faults), (Status::Ok, 0));
+    Ok(())
+}
+
+// Behind the last call of each nothing fails.
+#[test]
+fn calls_behind_the_last(rt: HostRuntime) -> Result<(), Fail> {
+    let (status, _, (disk_faults, _)) = faults_of(&rt, Failing::At(13), Failing::At(3), b"")?;
+    assert_eq!(rt; (status, disk_faults), (Status::Ok, 0));
     Ok(())
 }
