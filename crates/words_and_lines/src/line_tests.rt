@@ -60,28 +60,24 @@ impl World for Notes {
     }
 }
 
-// What is noted of a status, where the emit behind so many fails.
-#[derive(Drop)]
-struct Seen {
-    answer: Result<(), OutputFault>,
-    text: Vec<u8>,
-}
-
-fn noted(alloc: Global, status: Status, emits: u32) -> Seen {
+// What the line of a status comes to where the emit behind so many fails, and whether this was noted.
+fn noted(
+    alloc: Global,
+    status: Status,
+    emits: u32,
+    text: &[u8],
+) -> (Result<(), OutputFault>, bool) {
     let mut notes = Notes {
         noted: Vec::new(alloc),
         emits,
     };
     let answer = emit_fault(&mut notes, &status);
-    Seen {
-        answer,
-        text: notes.noted,
-    }
+    (answer, notes.noted.as_slice() == text)
 }
 
-#[test]
-fn statuses(rt: HostRuntime) -> Result<(), Fail> {
-    let cases: [(Status, u8, &[u8]); 26] = [
+// A status, its number, and its line.
+fn lines_of_statuses() -> [(Status, u8, &'static [u8]); 26] {
+    [
         (Status::Ok, 0, b""),
         (
             Status::Usage,
@@ -160,11 +156,14 @@ fn statuses(rt: HostRuntime) -> Result<(), Fail> {
         (Status::OutOfMemory, 13, b"dpcli: out of memory\n"),
         (Status::NoJournal, 14, b"dpcli: no journal\n"),
         (Status::BadMark(3), 15, b"dpcli: record 3 is a wrong mark\n"),
-    ];
-    for (status, number, text) in cases {
-        assert_eq!(rt; status.number(), number);
-        let seen = noted(rt.alloc(), status, 100);
-        assert_eq!(rt; (seen.answer, seen.text.as_slice()), (Ok(()), text));
+    ]
+}
+
+#[test]
+fn statuses(rt: HostRuntime) -> Result<(), Fail> {
+    for (status, number, text) in lines_of_statuses() {
+        let came = noted(rt.alloc(), status, 100, text);
+        assert_eq!(rt; (status.number(), came), (number, (Ok(()), true)));
     }
     Ok(())
 }
@@ -180,11 +179,8 @@ fn failed_emits(rt: HostRuntime) -> Result<(), Fail> {
         b"dpcli: record 12 is a w",
     ];
     for (emits, sent) in (0..).zip(sent) {
-        let seen = noted(rt.alloc(), Status::BadMark(12), emits);
-        assert_eq!(rt;
-            (seen.answer, seen.text.as_slice()),
-            (Err(OutputFault), sent)
-        );
+        let came = noted(rt.alloc(), Status::BadMark(12), emits, sent);
+        assert_eq!(rt; came, (Err(OutputFault), true), "behind {emits} emits");
     }
     Ok(())
 }
