@@ -54,120 +54,124 @@ fn all_leave(
 }
 
 // The disk's bytes first, the calls, the number of the one that fails, and the three images.
-const BEHIND_WRITES: [(&[u8], [Step; 3], u64, [&[u8]; 3]); 9] = [
-    (b"", [Nothing, Nothing, Nothing], 0, [b"", b"", b""]),
-    (
-        b"abc",
-        [Nothing, Nothing, Nothing],
-        0,
-        [b"abc", b"abc", b"abc"],
-    ),
-    (
-        b"",
-        [Write(0, b"xx"), Nothing, Nothing],
-        0,
-        [b"", b"xx", b"\x01\x01"],
-    ),
-    (
-        b"",
-        [Write(0, b"xx"), Sync, Nothing],
-        0,
-        [b"xx", b"xx", b"xx"],
-    ),
-    // over old bytes and past the end
-    (
-        b"\x01\x02\x03\x04\x05",
-        [Write(1, b"\x09\x09"), Write(5, b"\x08\x08"), Nothing],
-        0,
-        [
+fn behind_writes() -> [(&'static [u8], [Step; 3], u64, [&'static [u8]; 3]); 9] {
+    [
+        (b"", [Nothing, Nothing, Nothing], 0, [b"", b"", b""]),
+        (
+            b"abc",
+            [Nothing, Nothing, Nothing],
+            0,
+            [b"abc", b"abc", b"abc"],
+        ),
+        (
+            b"",
+            [Write(0, b"xx"), Nothing, Nothing],
+            0,
+            [b"", b"xx", b"\x01\x01"],
+        ),
+        (
+            b"",
+            [Write(0, b"xx"), Sync, Nothing],
+            0,
+            [b"xx", b"xx", b"xx"],
+        ),
+        // over old bytes and past the end
+        (
             b"\x01\x02\x03\x04\x05",
-            b"\x01\x09\x09\x04\x05\x08\x08",
-            b"\x01\x01\x01\x04\x05\x01\x01",
-        ],
-    ),
-    // a write that fails, over old bytes and past a gap
-    (
-        b"abcde",
-        [Write(1, b"xx"), Nothing, Nothing],
-        1,
-        [b"abcde", b"abcde", b"a\x01\x01de"],
-    ),
-    (
-        b"ab",
-        [Write(4, b"x"), Nothing, Nothing],
-        1,
-        [b"ab", b"ab", b"ab\x01\x01\x01"],
-    ),
-    // a sync that fails, and one between two writes
-    (
-        b"abcde",
-        [Write(1, b"x"), Sync, Nothing],
-        2,
-        [b"abcde", b"axcde", b"a\x01cde"],
-    ),
-    (
-        b"abcde",
-        [Write(1, b"x"), Sync, Write(3, b"y")],
-        0,
-        [b"axcde", b"axcye", b"axc\x01e"],
-    ),
-];
+            [Write(1, b"\x09\x09"), Write(5, b"\x08\x08"), Nothing],
+            0,
+            [
+                b"\x01\x02\x03\x04\x05",
+                b"\x01\x09\x09\x04\x05\x08\x08",
+                b"\x01\x01\x01\x04\x05\x01\x01",
+            ],
+        ),
+        // a write that fails, over old bytes and past a gap
+        (
+            b"abcde",
+            [Write(1, b"xx"), Nothing, Nothing],
+            1,
+            [b"abcde", b"abcde", b"a\x01\x01de"],
+        ),
+        (
+            b"ab",
+            [Write(4, b"x"), Nothing, Nothing],
+            1,
+            [b"ab", b"ab", b"ab\x01\x01\x01"],
+        ),
+        // a sync that fails, and one between two writes
+        (
+            b"abcde",
+            [Write(1, b"x"), Sync, Nothing],
+            2,
+            [b"abcde", b"axcde", b"a\x01cde"],
+        ),
+        (
+            b"abcde",
+            [Write(1, b"x"), Sync, Write(3, b"y")],
+            0,
+            [b"axcde", b"axcye", b"axc\x01e"],
+        ),
+    ]
+}
 
 #[test]
 fn images_behind_writes_and_syncs(rt: HostRuntime) -> Result<(), Fail> {
-    for (first, steps, failing, wanted) in BEHIND_WRITES {
+    for (row, (first, steps, failing, wanted)) in (1..).zip(behind_writes()) {
         let came = all_leave(rt.alloc(), first, steps, failing, wanted)?;
-        assert_eq!(rt; came, [true; 4], "behind {steps:?}");
+        assert_eq!(rt; came, [true; 4], "row {row}");
     }
     Ok(())
 }
 
 // The calls on a disk of five bytes, the number of the one that fails, and the three images.
-const BEHIND_CUTS: [([Step; 3], u64, [&[u8]; 3]); 7] = [
-    (
-        [Cut(2), Nothing, Nothing],
-        0,
-        [b"ab", b"ab", b"ab\x01\x01\x01"],
-    ),
-    (
-        [Cut(2), Nothing, Nothing],
-        1,
-        [b"ab", b"abcde", b"ab\x01\x01\x01"],
-    ),
-    (
-        [Cut(9), Nothing, Nothing],
-        0,
-        [b"abcde", b"abcde", b"abcde\x01\x01\x01\x01"],
-    ),
-    // the greatest length stays the one before the cut, or is the end of the write
-    (
-        [Cut(2), Write(2, b"x"), Nothing],
-        0,
-        [b"ab", b"abx", b"ab\x01\x01\x01"],
-    ),
-    (
-        [Cut(2), Write(4, b"xx"), Nothing],
-        0,
-        [b"ab", b"ab\0\0xx", b"ab\x01\x01\x01\x01"],
-    ),
-    (
-        [Cut(2), Sync, Write(2, b"x")],
-        0,
-        [b"ab", b"abx", b"ab\x01"],
-    ),
-    // a byte stays pending where it was cut off
-    (
-        [Write(0, b"x"), Cut(3), Write(3, b"y")],
-        0,
-        [b"abc", b"xbcy", b"\x01bc\x01\x01"],
-    ),
-];
+fn behind_cuts() -> [([Step; 3], u64, [&'static [u8]; 3]); 7] {
+    [
+        (
+            [Cut(2), Nothing, Nothing],
+            0,
+            [b"ab", b"ab", b"ab\x01\x01\x01"],
+        ),
+        (
+            [Cut(2), Nothing, Nothing],
+            1,
+            [b"ab", b"abcde", b"ab\x01\x01\x01"],
+        ),
+        (
+            [Cut(9), Nothing, Nothing],
+            0,
+            [b"abcde", b"abcde", b"abcde\x01\x01\x01\x01"],
+        ),
+        // the greatest length stays the one before the cut, or is the end of the write
+        (
+            [Cut(2), Write(2, b"x"), Nothing],
+            0,
+            [b"ab", b"abx", b"ab\x01\x01\x01"],
+        ),
+        (
+            [Cut(2), Write(4, b"xx"), Nothing],
+            0,
+            [b"ab", b"ab\0\0xx", b"ab\x01\x01\x01\x01"],
+        ),
+        (
+            [Cut(2), Sync, Write(2, b"x")],
+            0,
+            [b"ab", b"abx", b"ab\x01"],
+        ),
+        // a byte stays pending where it was cut off
+        (
+            [Write(0, b"x"), Cut(3), Write(3, b"y")],
+            0,
+            [b"abc", b"xbcy", b"\x01bc\x01\x01"],
+        ),
+    ]
+}
 
 #[test]
 fn images_behind_cuts(rt: HostRuntime) -> Result<(), Fail> {
-    for (steps, failing, wanted) in BEHIND_CUTS {
+    for (row, (steps, failing, wanted)) in (1..).zip(behind_cuts()) {
         let came = all_leave(rt.alloc(), b"abcde", steps, failing, wanted)?;
-        assert_eq!(rt; came, [true; 4], "behind {steps:?}");
+        assert_eq!(rt; came, [true; 4], "row {row}");
     }
     Ok(())
 }

@@ -44,13 +44,17 @@ const FILES: [(&str, &[u8]); 4] = [
 ];
 
 // Five files, two of one name, one of a byte more than a fetch returns.
-fn files_of(alloc: Global, fails: Fails) -> Result<MemFiles, OutOfMemory> {
+fn five_files(alloc: Global) -> Result<Vec<NamedFile>, OutOfMemory> {
     let mut files = Vec::new(alloc);
     for (name, bytes) in FILES {
         add_file(alloc, &mut files, name, bytes)?;
     }
     add_long_file(alloc, &mut files)?;
-    Ok(MemFiles::new(files, fails))
+    Ok(files)
+}
+
+fn files_of(alloc: Global, fails: Fails) -> Result<MemFiles, OutOfMemory> {
+    Ok(MemFiles::new(five_files(alloc)?, fails))
 }
 
 // What each of six names gives, how many fetches there were, and how many failed.

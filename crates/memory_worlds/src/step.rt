@@ -2,7 +2,7 @@
 use disk_mem::MemWorld;
 use disk_model::World;
 
-#[derive(Clone, Copy, Debug)]
+#[derive(Clone, Copy)]
 pub(crate) enum Step {
     Attach,
     Len,

@@ -50,33 +50,24 @@ pub(crate) fn has_letters(calls: &[Call], wanted: &[u8]) -> bool {
     calls.len() == wanted.len()
 }
 
-const SEVEN: [Step; 7] = [
-    Step::Attach,
-    Step::Write(0, b"abc"),
-    Step::Len,
-    Step::Read(1),
-    Step::Cut(2),
-    Step::Write(2, b"d"),
-    Step::Sync,
-];
-
-// Which of seven calls on the disk fail.
-fn seven_calls(world: &mut MemWorld) -> [bool; 7] {
-    let mut failed = [false; 7];
-    for (failed, step) in failed.iter_mut().zip(SEVEN) {
-        *failed = !take_step(world, step);
-    }
-    failed
+// Whether a call fails just where its letter is small.
+fn is_as(world: &mut MemWorld, step: Step, letter: u8) -> bool {
+    take_step(world, step) != letter.is_ascii_lowercase()
 }
 
-// Whether just those calls failed that have a small letter.
-fn failed_as(failed: [bool; 7], letters: &[u8]) -> bool {
-    for (failed, letter) in failed.iter().zip(letters) {
-        if *failed != letter.is_ascii_lowercase() {
-            return false;
-        }
-    }
-    failed.len() == letters.len()
+// Whether of seven calls on the disk just those fail that have a small letter.
+fn fail_as(world: &mut MemWorld, letters: &[u8]) -> bool {
+    let [attach, write, len, read, cut, write_behind, sync] = letters else {
+        return false;
+    };
+    let first = is_as(world, Step::Attach, *attach);
+    let second = is_as(world, Step::Write(0, b"abc"), *write);
+    let third = is_as(world, Step::Len, *len);
+    let fourth = is_as(world, Step::Read(1), *read);
+    let fifth = is_as(world, Step::Cut(2), *cut);
+    let sixth = is_as(world, Step::Write(2, b"d"), *write_behind);
+    let seventh = is_as(world, Step::Sync, *sync);
+    first && second && third && fourth && fifth && sixth && seventh
 }
 
 // Whether seven calls failed and are recorded as these letters say, and left these bytes; the counts of calls and faults of the
@@ -88,10 +79,9 @@ fn seven_calls_as(
     bytes: &[u8],
 ) -> Result<([bool; 3], [u64; 4], bool), OutOfMemory> {
     let mut world = MemWorld::new(alloc, fails_of(alloc, disk)?, Fails::From(1), 4)?;
-    let failed = seven_calls(&mut world);
     Ok((
         [
-            failed_as(failed, letters),
+            fail_as(&mut world, letters),
             has_letters(world.calls(), letters),
             world.bytes() == bytes,
         ],
@@ -129,36 +119,36 @@ fn disk_calls_fail_by_number(rt: HostRuntime) -> Result<(), Fail> {
     Ok(())
 }
 
-const FOUR: [(Stream, &[u8]); 4] = [
-    (Stream::Out, b"hi\n"),
-    (Stream::Note, b"no"),
-    (Stream::Out, b"\n"),
-    (Stream::Out, b""),
-];
-
-// What each of four emits takes.
-fn four_emits(world: &mut MemWorld) -> [Result<usize, Failed>; 4] {
-    let mut taken = [Ok(0); 4];
-    for (answer, (to, piece)) in taken.iter_mut().zip(FOUR) {
-        *answer = world.emit(to, piece);
-    }
-    taken
+// Whether an emit takes as much as this says. It has no clause, so that its caller carries nothing of the world's contract.
+fn takes(world: &mut MemWorld, to: Stream, piece: &[u8], wanted: Result<usize, Failed>) -> bool {
+    world.emit(to, piece) == wanted
 }
 
-// What each of four emits takes; whether the streams got these bytes; the counts of emits and their faults, and of calls on the
-// disk; and whether an allocation failed.
+// Whether four emits take as much as these say.
+fn take_as(world: &mut MemWorld, taken: [Result<usize, Failed>; 4]) -> bool {
+    let [first, second, third, fourth] = taken;
+    let is_first = takes(world, Stream::Out, b"hi\n", first);
+    let is_second = takes(world, Stream::Note, b"no", second);
+    let is_third = takes(world, Stream::Out, b"\n", third);
+    let is_fourth = takes(world, Stream::Out, b"", fourth);
+    is_first && is_second && is_third && is_fourth
+}
+
+// Whether four emits take as much as these say, and the streams got these bytes; the counts of emits and their faults, and of calls on
+// the disk; and whether an allocation failed.
 fn four_emits_as(
     alloc: Global,
     sink: Failing,
     piece: u32,
+    taken: [Result<usize, Failed>; 4],
     out: &[u8],
     note: &[u8],
-) -> Result<([Result<usize, Failed>; 4], [bool; 2], [u64; 3], bool), OutOfMemory> {
+) -> Result<([bool; 3], [u64; 3], bool), OutOfMemory> {
     let sink = fails_of(alloc, sink)?;
     let mut world = MemWorld::new(alloc, Fails::From(1), sink, piece.max(1))?;
     Ok((
-        four_emits(&mut world),
         [
+            take_as(&mut world, taken),
             world.sent(Stream::Out) == out,
             world.sent(Stream::Note) == note,
         ],
@@ -214,10 +204,10 @@ const EMITS: [(Failing, u32, [Result<usize, Failed>; 4], &[u8], &[u8], u64); 5] 
 #[test]
 fn emits_in_pieces(rt: HostRuntime) -> Result<(), Fail> {
     for (sink, piece, taken, out, note, faults) in EMITS {
-        let came = four_emits_as(rt.alloc(), sink, piece, out, note)?;
+        let came = four_emits_as(rt.alloc(), sink, piece, taken, out, note)?;
         assert_eq!(rt;
             came,
-            (taken, [true; 2], [4, faults, 0], false),
+            ([true; 3], [4, faults, 0], false),
             "pieces of {piece}"
         );
     }
@@ -262,26 +252,34 @@ fn writes(rt: HostRuntime) -> Result<(), Fail> {
     Ok(())
 }
 
-// How many bytes a read of that disk gives into a buffer of four, and the buffer behind it.
-fn read_from(alloc: Global, at: u64) -> Result<(Result<usize, Failed>, [u8; 4]), OutOfMemory> {
+// How many bytes a read of that disk gives into a buffer of four, and whether the buffer has these bytes behind it.
+fn read_as(
+    alloc: Global,
+    at: u64,
+    after: &[u8],
+) -> Result<(Result<usize, Failed>, bool), OutOfMemory> {
     let mut world = disk_of(alloc, b"abcde")?;
     let mut buf = [b'.'; 4];
     let answer = world.read_at(at, &mut buf);
-    Ok((answer, buf))
+    Ok((answer, buf.as_slice() == after))
 }
 
 // An offset, how many bytes are read there, and the buffer behind that.
-const READS: [(u64, usize, [u8; 4]); 4] = [
-    (0, 4, *b"abcd"),
-    (3, 2, *b"de.."),
-    (5, 0, *b"...."),
-    (u64::MAX, 0, *b"...."),
+const READS: [(u64, usize, &[u8]); 4] = [
+    (0, 4, b"abcd"),
+    (3, 2, b"de.."),
+    (5, 0, b"...."),
+    (u64::MAX, 0, b"...."),
 ];
 
 #[test]
 fn reads(rt: HostRuntime) -> Result<(), Fail> {
     for (at, count, after) in READS {
-        assert_eq!(rt; read_from(rt.alloc(), at)?, (Ok(count), after), "at {at}");
+        assert_eq!(rt;
+            read_as(rt.alloc(), at, after)?,
+            (Ok(count), true),
+            "at {at}"
+        );
     }
     Ok(())
 }
