@@ -27,5 +27,3 @@ pub use read_call::read_at_once;
 
 #[cfg(test)]
 mod worked_arguments;
-#[cfg(test)]
-mod worked_peeks;

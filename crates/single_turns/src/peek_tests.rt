@@ -1,33 +1,19 @@
 // Next turns worked out by hand. Page 10 may only be executed, page 11 only be read and page 12 only be written, the last page
 // that may be mapped too, and nothing is mapped behind them. The instruction stands at 00010000; its rs1 is x5, its rs2 x6, which
 // is 1, and its rd x7.
-use crate::arguments::{A0, A1, A2, A7, CLOCK, EBADF, EFAULT, READ};
-use crate::peek::{Peek, peek_thread};
-use crate::read_call::read_at_once;
-use cow_pages::Pages;
+use crate::mapping::map;
 use dp_base::OutOfMemory;
-use dp_base::limits::{MAX_PAGES, PAGE_NUMBERS};
-use guest_state::{Hart, Thread};
+use guest_kernel::{Hart, Pages, Thread};
 use std::alloc::Global;
 use std::test::Fail;
+use turn_peek::arguments::{A0, A1, A2, A7, CLOCK, EBADF, EFAULT, READ};
+use turn_peek::{Peek, peek_thread, read_at_once};
 
 const CODE: u32 = 0x0001_0000;
 
 const ECALL: u32 = 0x0000_0073;
 
 const ADDI: u32 = 0x0012_8393;
-
-// Maps a page of zeros, where that can be.
-fn map(pages: &mut Pages, number: u32, flags: u8) -> Result<(), OutOfMemory> {
-    if pages.flags(number).is_none()
-        && number < PAGE_NUMBERS
-        && flags < 8
-        && pages.pages() < MAX_PAGES
-    {
-        pages.map_page(number, flags)?;
-    }
-    Ok(())
-}
 
 fn pages_of(alloc: Global, word: u32) -> Result<Pages, OutOfMemory> {
     let mut pages = Pages::new(alloc)?;
