@@ -32,6 +32,8 @@ mod state_tests;
 #[cfg(test)]
 mod thread_tests;
 #[cfg(test)]
+mod worked_arguments;
+#[cfg(test)]
 mod worked_chains;
 #[cfg(test)]
 mod write_tests;

@@ -24,6 +24,3 @@ mod read_call;
 
 pub use peek::{Peek, peek_thread};
 pub use read_call::read_at_once;
-
-#[cfg(test)]
-mod worked_arguments;
