@@ -2,16 +2,17 @@
 use Rattle.std.proofs.Common.{◌≡◌, ℕ, zero, suc, ◌<◌, ◌≤◌, Bool, true, false, cond, eqb, ltb, leb, ◌&&◌, List, ◌∷◌, length, Option, Some, None, refl, sym, ap, ◌∙◌, arith}
 use Rattle.std.proofs.lemmas.Bool.{and_parts, leb-true}
 use Rattle.std.proofs.lemmas.Option.{same_Some}
+use Rattle.std.specs.Option.{option_map}
 use Rattle.dp_base.specs.declared.limits.TheConstants.{MAX_PAGES, MAX_THREADS, MAX_LIVE_THREADS}
 use Rattle.dp_base.specs.declared.page.Page.{Page}
 use Rattle.dp_base.specs.Encoding.{whole}
 use Rattle.dp_base.specs.Field.{◌>>=◌, number_at}
 use Rattle.dp_base.specs.Journal.{many_at}
 use Rattle.dp_base.proofs.Fields.{bind_some}
-use Rattle.guest_state.specs.declared.end.End.{End}
 use Rattle.guest_state.specs.declared.thread.Thread.{Thread}
-use Rattle.guest_state.specs.Checkpoint.{Checkpoint, checkpoint_from, end_from, thread_from, page_from, is_bounded, is_heap, live, rising, traps_within, if_bounded}
-use Rattle.checkpoint.specs.Reading.{if_rising, rising_pages_at}
+use Rattle.guest_state.specs.Checkpoint.{Checkpoint, checkpoint_from, thread_from, page_from, is_bounded, is_heap, live, rising, traps_within, if_bounded}
+use Rattle.checkpoint.specs.declared.decoding.Head.{Head}
+use Rattle.checkpoint.specs.Reading.{behind_head, if_rising, rising_pages_at, with_head}
 
 many_length : {X : Type 0} (item : List ℕ → Option (X × List ℕ)) (n : ℕ) (bytes : List ℕ) (x : List X × List ℕ) → many_at item n bytes ≡ Some x → length x.0 ≡ n
 unfolding many_at
@@ -22,34 +23,27 @@ many_length {X} item (suc n) bytes x is =
     sym (ap (λ (t : List X × List ℕ). length t.0) (same_Some _ _ b.2)) ∙ ap suc (many_length item n a.0.1 b.0 b.1)
 
 -- all that stands before the pages
-pub record Head (body : List ℕ) (steps input heap brk : ℕ) (end : End) (threads : List Thread) (thread_count page_count : ℕ) (behind : List ℕ) : Type 0 where
-  pub r1 : List ℕ
-  pub r2 : List ℕ
-  pub r3 : List ℕ
-  pub r4 : List ℕ
-  pub r5 : List ℕ
-  pub r6 : List ℕ
-  pub r7 : List ℕ
-  pub steps_at : number_at 8 body ≡ Some (steps, r1)
-  pub input_at : number_at 8 r1 ≡ Some (input, r2)
-  pub heap_at : number_at 4 r2 ≡ Some (heap, r3)
-  pub brk_at : number_at 4 r3 ≡ Some (brk, r4)
-  pub end_at : end_from r4 ≡ Some (end, r5)
-  pub thread_count_at : number_at 2 r5 ≡ Some (thread_count, r6)
-  pub threads_at : many_at thread_from thread_count r6 ≡ Some (threads, r7)
-  pub page_count_at : number_at 2 r7 ≡ Some (page_count, behind)
+pub record BeforePages (body : List ℕ) (head : Head) (threads : List Thread) (page_count : ℕ) (behind : List ℕ) : Type 0 where
+  pub rest : List ℕ
+  pub page_counts : List ℕ
+  pub head_at : checkpoint_from body ≡ behind_head (head, rest)
+  pub threads_at : many_at thread_from head.thread_count rest ≡ Some (threads, page_counts)
+  pub page_count_at : number_at 2 page_counts ≡ Some (page_count, behind)
 
-module _ (body : List ℕ) (steps input heap brk : ℕ) (end : End) (threads : List Thread) (thread_count page_count : ℕ) (behind : List ℕ) (h : Head body steps input heap brk end threads thread_count page_count behind) where
+-- what the head's clause says where one was read
+pub head_read : {A : Type 0} (f : A → Head × List ℕ) (o : Option A) (x : A) (r : Option (Checkpoint × List ℕ)) → o ≡ Some x → r ≡ with_head (option_map f o) → r ≡ behind_head (f x)
+head_read {A} f o x r is clause = clause ∙ ap (λ (p : Option A). with_head (option_map f p)) is
+
+module _ (body : List ℕ) (head : Head) (threads : List Thread) (page_count : ℕ) (behind : List ℕ) (h : BeforePages body head threads page_count behind) where
   abbrev made : List Page → Checkpoint
-  made pages = record { steps = steps; input = input; heap = heap; brk = brk; end = end; threads = threads; pages = pages }
+  made pages = record { steps = head.steps; input = head.input; heap = head.heap; brk = head.brk; end = head.end; threads = threads; pages = pages }
 
   abbrev last : List Page × List ℕ → Option (Checkpoint × List ℕ)
   last pages = if_bounded (made pages.0) pages.1
 
   -- the rest of it is its pages
   from_pages : checkpoint_from body ≡ (many_at page_from page_count behind >>= last)
-  unfolding checkpoint_from
-  from_pages = rw (h.steps_at, h.input_at, h.heap_at, h.brk_at, h.end_at, h.thread_count_at, h.threads_at, h.page_count_at) refl
+  from_pages = h.head_at ∙ rw (h.threads_at, h.page_count_at) refl
 
   abbrev alone : Checkpoint × List ℕ → Option Checkpoint
   alone found = cond (eqb (length found.1) 0) (Some found.0) None
@@ -60,10 +54,10 @@ module _ (body : List ℕ) (steps input heap brk : ℕ) (end : End) (threads : L
 
   -- bounds that are counted, and those of the definition
   abbrev pub holds : ℕ → Bool
-  holds alive = is_heap heap brk && (ltb 0 thread_count && leb thread_count MAX_THREADS && leb alive MAX_LIVE_THREADS) && traps_within thread_count end && leb page_count MAX_PAGES && true
+  holds alive = is_heap head.heap head.brk && (ltb 0 head.thread_count && leb head.thread_count MAX_THREADS && leb alive MAX_LIVE_THREADS) && traps_within head.thread_count head.end && leb page_count MAX_PAGES && true
 
-  thread_size : length threads ≡ thread_count
-  thread_size = many_length thread_from thread_count h.r6 (threads, h.r7) h.threads_at
+  thread_size : length threads ≡ head.thread_count
+  thread_size = many_length thread_from head.thread_count h.rest (threads, h.page_counts) h.threads_at
 
   too_many : (pages : List Page × List ℕ) → MAX_PAGES < page_count → many_at page_from page_count behind ≡ Some pages → last pages ≡ None
   too_many pages many is = not_bounded (is_bounded (made pages.0)) refl
@@ -75,7 +69,7 @@ module _ (body : List ℕ) (steps input heap brk : ℕ) (end : End) (threads : L
       not_bounded false e = ap (λ (c : Bool). cond c (Some (made pages.0, pages.1)) None) e
       not_bounded true e =
           let threads_bounded = ltb 0 (length threads) && leb (length threads) MAX_THREADS && leb (live threads) MAX_LIVE_THREADS in
-          let before = is_heap heap brk && threads_bounded && traps_within (length threads) end in
+          let before = is_heap head.heap head.brk && threads_bounded && traps_within (length threads) head.end in
           let a = and_parts (before && leb (length pages.0) MAX_PAGES) (rising pages.0) e in
           let few : length pages.0 ≤ MAX_PAGES = leb-true _ _ (and_parts before (leb (length pages.0) MAX_PAGES) a.0).1 in
           absurd (omega (arith, few, size, many))
@@ -129,11 +123,11 @@ module _ (body : List ℕ) (steps input heap brk : ℕ) (end : End) (threads : L
 
   pub few_threads : (alive : ℕ) → holds alive ≡ true → length threads ≤ MAX_THREADS
   few_threads alive held =
-      let heap = is_heap heap brk in
-      let some = ltb 0 thread_count in
-      let few = leb thread_count MAX_THREADS in
+      let heap = is_heap head.heap head.brk in
+      let some = ltb 0 head.thread_count in
+      let few = leb head.thread_count MAX_THREADS in
       let living = leb alive MAX_LIVE_THREADS in
-      let traps = traps_within thread_count end in
+      let traps = traps_within head.thread_count head.end in
       let pages = leb page_count MAX_PAGES in
       let a = and_parts (heap && (some && few && living) && traps && pages) true held in
       let b = and_parts (heap && (some && few && living) && traps) pages a.0 in
@@ -141,5 +135,5 @@ module _ (body : List ℕ) (steps input heap brk : ℕ) (end : End) (threads : L
       let e = and_parts heap (some && few && living) d.0 in
       let f = and_parts (some && few) living e.1 in
       let g = and_parts some few f.0 in
-      let count : thread_count ≤ MAX_THREADS = leb-true _ _ g.1 in
+      let count : head.thread_count ≤ MAX_THREADS = leb-true _ _ g.1 in
       omega (arith, count, thread_size)

@@ -1,46 +1,41 @@
 // A state from its encoding.
-ghost use Rattle.std.specs.Prelude.{◌≡◌, ◌≤◌, IfOk, IfSome, length, option_map};
+ghost use Rattle.std.specs.Prelude.{◌≡◌, ◌≤◌, true, IfOk, IfSome, length, option_map};
 ghost use Rattle.dp_base.specs.declared.limits.TheConstants.{MAX_PAGES};
 ghost use Rattle.dp_base.specs.Encoding.{whole};
 ghost use Rattle.dp_base.specs.Journal.{many_at};
 ghost use Rattle.guest_state.specs.Checkpoint.{checkpoint_from, live, thread_from};
-ghost use Rattle.checkpoint.specs.Reading.{rising_pages_at};
+ghost use Rattle.checkpoint.specs.Reading.{rising_pages_at, with_head};
 ghost use Rattle.checkpoint.specs.State.{IsEncodable, checkpoint_of};
 
 use dp_base::OutOfMemory;
 use dp_base::field::{read_u16, read_u32, read_u64};
 use dp_base::limits::MAX_PAGES;
 use guest_kernel::{Pages, State, Threads};
-use guest_state::{Bounds, Thread, live_count, read_end, read_page, read_thread};
+use guest_state::{Bounds, End, Thread, live_count, read_end, read_page, read_thread};
 use std::alloc::Global;
+
+// What a checkpoint has before its threads, and how many of them follow.
+#[derive(Clone, Copy)]
+struct Head {
+    steps: u64,
+    input: u64,
+    heap: u32,
+    brk: u32,
+    end: End,
+    thread_count: u16,
+}
 
 /// Returns the state whose encoding these bytes are. Returns `None` exactly if they are no state's, also if bytes stand
 /// behind it.
-#[tactic(auto, unfolding(guest_state::specs::Checkpoint::checkpoint_from))]
 pub fn decode(alloc: Global, body: &[u8]) -> Result<Option<State>, OutOfMemory>
     ensures found { IfOk result (λ found. option_map checkpoint_of found ≡ whole checkpoint_from body.now) }
     ensures encodable { IfOk result (λ found. IfSome found IsEncodable) }
 {
     guest_state::laws::whole_checkpoints();
-    let Some((steps, rest)) = read_u64(body) else {
+    let Some((head, rest)) = read_head(body) else {
         return Ok(None);
     };
-    let Some((input, rest)) = read_u64(rest) else {
-        return Ok(None);
-    };
-    let Some((heap, rest)) = read_u32(rest) else {
-        return Ok(None);
-    };
-    let Some((brk, rest)) = read_u32(rest) else {
-        return Ok(None);
-    };
-    let Some((end, rest)) = read_end(rest) else {
-        return Ok(None);
-    };
-    let Some((thread_count, rest)) = read_u16(rest) else {
-        return Ok(None);
-    };
-    let Some((threads, rest)) = read_threads(alloc, thread_count, rest)? else {
+    let Some((threads, rest)) = read_threads(alloc, head.thread_count, rest)? else {
         return Ok(None);
     };
     let Some((page_count, rest)) = read_u16(rest) else {
@@ -52,15 +47,7 @@ pub fn decode(alloc: Global, body: &[u8]) -> Result<Option<State>, OutOfMemory>
     let Some((pages, rest)) = read_pages(alloc, page_count, rest)? else {
         return Ok(None);
     };
-    let bounds = Bounds {
-        heap,
-        brk,
-        end,
-        threads: thread_count,
-        live: live_count(&threads),
-        pages: page_count,
-        rising: true,
-    };
+    let bounds = bounds_of(head, live_count(&threads), page_count);
     if !bounds.hold() {
         return Ok(None);
     }
@@ -69,13 +56,58 @@ pub fn decode(alloc: Global, body: &[u8]) -> Result<Option<State>, OutOfMemory>
     }
     Ok(Some(State {
         pages,
+        heap: head.heap,
+        brk: head.brk,
+        threads: Threads::from_vec(threads),
+        input: head.input,
+        steps: head.steps,
+        end: head.end,
+    }))
+}
+
+// What stands before the threads, and the bytes behind it.
+#[tactic(auto, unfolding(guest_state::specs::Checkpoint::checkpoint_from))]
+fn read_head(bytes: &[u8]) -> Option<(Head, &[u8])>
+    ensures { checkpoint_from bytes.now ≡ with_head (option_map (λ x. (x.0, x.1.now)) result) }
+{
+    let (steps, rest) = read_u64(bytes)?;
+    let (input, rest) = read_u64(rest)?;
+    let (heap, rest) = read_u32(rest)?;
+    let (brk, rest) = read_u32(rest)?;
+    let (end, rest) = read_end(rest)?;
+    let (thread_count, rest) = read_u16(rest)?;
+    let head = Head {
+        steps,
+        input,
         heap,
         brk,
-        threads: Threads::from_vec(threads),
-        input,
-        steps,
         end,
-    }))
+        thread_count,
+    };
+    Some((head, rest))
+}
+
+// What the bounds are about, in a state with so many threads alive and so many pages, whose numbers rise.
+fn bounds_of(head: Head, live: usize, pages: u16) -> Bounds
+    ensures { result ≡ record {
+      heap = head.heap;
+      brk = head.brk;
+      end = head.end;
+      threads = head.thread_count;
+      live = live;
+      pages = pages;
+      rising = true;
+    } }
+{
+    Bounds {
+        heap: head.heap,
+        brk: head.brk,
+        end: head.end,
+        threads: head.thread_count,
+        live,
+        pages,
+        rising: true,
+    }
 }
 
 // So many threads, and the bytes behind them.
