@@ -16,7 +16,7 @@ use Rattle.epoch_runner.specs.declared.bounds.Bounds.{Bounds}
 use Rattle.epoch_runner.specs.Answering.{answers_for, can_step, ready_at}
 use Rattle.epoch_runner.specs.Schedule.{Course, IsScheduled, Next, closed, closed_by, course, ends, followed, next, progress, starting, step, turn_of, turned}
 use Rattle.epoch_runner.proofs.AnswerLists.{read_length}
-use Rattle.epoch_runner.proofs.Kernel.{ReservationLaw, RunLaws, TurnLaws}
+use Rattle.epoch_runner.specs.KernelLaws.{ReservationLaw, RunLaws, TurnLaws}
 use Rattle.epoch_runner.proofs.Nexts.{ends_next, last_next, rules, turn_next}
 use Rattle.epoch_runner.proofs.Readiness.{ready_rest}
 use Rattle.epoch_runner.proofs.Reservations.{closed_answers, closed_end, closed_output, closed_ready, closed_turns}

@@ -1,7 +1,6 @@
 -- An epoch so far, slice by slice.
 use Rattle.std.proofs.Common.{◌≡◌, ◌⊎◌, inl, inr, ◌+◌, ◌-◌, ◌*◌, ◌^◌, ◌<◌, ◌≤◌, ℕ, zero, suc, Bool, true, false, cond, not, List, [], ◌∷◌, ◌++◌, length, Option, Some, None, Result, Ok, Err, refl, sym, ap, subst, ◌∙◌, arith}
 use Rattle.std.specs.Prelude.{◌==◌, slice_get}
-use Rattle.std.specs.Option.{is_some}
 use Rattle.std.specs.List.{AllByRecursion, flat_map}
 use Rattle.std.proofs.lemmas.Bool.{and_from, not_from_false}
 use Rattle.std.proofs.lemmas.List.{length_push}
@@ -26,7 +25,7 @@ use Rattle.epoch_runner.specs.SliceRun.{IsSliceRun, Traced, inside, next_slice}
 use Rattle.epoch_runner.proofs.AnswerLists.{all_append, few_encoded}
 use Rattle.epoch_runner.proofs.CourseRuns.{closed_empty, course_holds, scheduled_little_read, scheduled_run}
 use Rattle.epoch_runner.proofs.Courses.{course-alike, course-from}
-use Rattle.epoch_runner.proofs.Kernel.{ReservationLaw, RunLaws, TurnLaws}
+use Rattle.epoch_runner.specs.KernelLaws.{ReservationLaw, RunLaws, TurnLaws}
 use Rattle.epoch_runner.proofs.Nexts.{at_start_next, ends_next, last_next, rules, same_next, turn_next}
 use Rattle.epoch_runner.proofs.Readiness.{ready_runs, ready_some}
 use Rattle.epoch_runner.proofs.Reservations.{closed_answers, closed_counts, closed_end, closed_input, closed_output, closed_ready}
@@ -112,13 +111,8 @@ nothing_done start w bounds tid is =
       could_step = could.1;
     }
 
-pub idle : (start : State) (w : Supplied) (bounds : Bounds) (first : Option Tid) → is_some first ≡ false → begins_with first ≡ next_slice start w 0 0 bounds.steps bounds.first → HasIdled start w bounds start
-idle start w bounds None none is = record { same = refl; why = nothing_first start w bounds is }
-idle start w bounds (Some tid) none is = absurd cc
-
-pub starts : (start : State) (w : Supplied) (bounds : Bounds) (first : Option Tid) → is_some first ≡ true → begins_with first ≡ next_slice start w 0 0 bounds.steps bounds.first → EpochSoFar start w bounds [] bounds.steps start untraced first
-starts start w bounds None none is = absurd cc
-starts start w bounds (Some tid) none is = nothing_done start w bounds tid is
+pub idle : (start : State) (w : Supplied) (bounds : Bounds) → begins_with None ≡ next_slice start w 0 0 bounds.steps bounds.first → HasIdled start w bounds start
+idle start w bounds is = record { same = refl; why = nothing_first start w bounds is }
 
 -- a thread that runs has a number
 some_number : (n : ℕ) (threads : List Thread) (o : Option Thread) → runs_by (cond (n == 0) None o) ≡ true → 0 < n

@@ -1,4 +1,3 @@
-mod Kernel
 mod AnswerLists
 mod Readiness
 mod Nexts

@@ -14,7 +14,7 @@ use Rattle.guest_kernel.specs.State.{has_ended}
 use Rattle.guest_kernel.specs.Threads.{is_running, runs_by, thread_at}
 use Rattle.guest_kernel.specs.Turn.{turn}
 use Rattle.epoch_runner.specs.Answering.{answer_to, answers_for, is_ready, is_unanswered, read_of, ready_at, ready_by}
-use Rattle.epoch_runner.proofs.Kernel.{TurnLaws}
+use Rattle.epoch_runner.specs.KernelLaws.{TurnLaws}
 use Rattle.supply.specs.Supplied.{Supplied, answer_at, end_of}
 use Rattle.turn_peek.specs.declared.peek.Peek.{Peek}
 use Rattle.turn_peek.specs.declared.peek.Peek.TheVariants as peeks

@@ -13,7 +13,7 @@ use Rattle.guest_kernel.specs.State.{dropping, unreserved}
 use Rattle.guest_kernel.specs.Threads.{is_running, thread_at}
 use Rattle.epoch_runner.specs.Answering.{is_ready, is_unanswered, ready_at, ready_by}
 use Rattle.epoch_runner.specs.Schedule.{Course, closed_by}
-use Rattle.epoch_runner.proofs.Kernel.{ReservationLaw}
+use Rattle.epoch_runner.specs.KernelLaws.{ReservationLaw}
 use Rattle.supply.specs.Supplied.{Supplied}
 use Rattle.turn_peek.specs.Peek.{thread_peeked}
 

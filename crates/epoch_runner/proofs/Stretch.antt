@@ -21,7 +21,7 @@ use Rattle.epoch_runner.specs.Schedule.{Course, course, followed, progress, step
 use Rattle.epoch_runner.specs.SliceRun.{IsMoved, Traced, inside}
 use Rattle.epoch_runner.proofs.AnswerLists.{all_append, read_length}
 use Rattle.epoch_runner.proofs.Courses.{course-step}
-use Rattle.epoch_runner.proofs.Kernel.{TurnLaws}
+use Rattle.epoch_runner.specs.KernelLaws.{TurnLaws}
 use Rattle.epoch_runner.proofs.Nexts.{same_next}
 use Rattle.epoch_runner.proofs.Readiness.{ready_some, ready_turn, silent_rest, silent_turn}
 use Rattle.supply.specs.Supplied.{Supplied}

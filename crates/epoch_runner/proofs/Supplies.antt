@@ -25,7 +25,7 @@ use Rattle.epoch_runner.specs.Answering.{answer_to, answers_for, is_unanswered, 
 use Rattle.epoch_runner.specs.Schedule.{Course, IsScheduled, Next, closed, course, ends, followed, next, progress, starting, step, turn_of, turned}
 use Rattle.epoch_runner.specs.Supplying.{IsSuppliedBy}
 use Rattle.epoch_runner.proofs.AnswerLists.{all_append, clocks_append, read_append}
-use Rattle.epoch_runner.proofs.Kernel.{ReadLaw, ReservationLaw, TurnLaws}
+use Rattle.epoch_runner.specs.KernelLaws.{ReadLaw, ReservationLaw, TurnLaws}
 use Rattle.epoch_runner.proofs.Nexts.{last_next, turn_next}
 use Rattle.epoch_runner.proofs.Readiness.{peeked_alive, ready_answered, ready_rest}
 use Rattle.epoch_runner.proofs.Reservations.{closed_answers, closed_end, closed_input, closed_ready}

@@ -9,7 +9,7 @@ use Rattle.guest_kernel.specs.declared.state.State.{State}
 use Rattle.guest_kernel.specs.State.{has_ended}
 use Rattle.guest_kernel.specs.Threads.{is_running}
 use Rattle.epoch_runner.specs.Answering.{can_step, input_due, is_ready, is_unanswered, waits_for_input}
-use Rattle.epoch_runner.proofs.Kernel.{ReadLaw}
+use Rattle.epoch_runner.specs.KernelLaws.{ReadLaw}
 use Rattle.supply.specs.Supplied.{Supplied, answer_at, end_of, refilled}
 use Rattle.turn_peek.specs.declared.peek.Peek.{Peek}
 use Rattle.turn_peek.specs.declared.peek.Peek.TheVariants as peeks

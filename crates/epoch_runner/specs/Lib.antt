@@ -1,3 +1,4 @@
+pub mod KernelLaws
 pub mod Answering
 pub mod Schedule
 pub mod Supplying

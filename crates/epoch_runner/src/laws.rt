@@ -17,6 +17,8 @@ ghost use Rattle.epoch_runner.specs.Schedule.{IsScheduled, Progress, next, turn_
 ghost use Rattle.epoch_runner.specs.Supplying.{IsSuppliedBy};
 ghost use Rattle.supply.specs.Supplied.{IsSupply, Supplied, end_of, refilled};
 
+use crate::kernel::{run_laws, turn_laws};
+
 /// A state, a supply and bounds determine the epoch: its slices, its answers, its output and its end.
 pub fn a_schedule_is_determined()
     ensures { (start : State) (w : Supplied) (bounds : Bounds) (e f : Epoch) (output other : List ℕ) (end otherwise : State) →
@@ -29,14 +31,8 @@ pub fn a_scheduled_run_is_a_run()
     ensures { (start : State) (w : Supplied) (bounds : Bounds) (e : Epoch) (output : List ℕ) (end : State) →
         IsScheduled start w bounds e output end → run e.slices (at start [] e.answers) ≡ Ok (at end output []) }
 {
-    guest_kernel::laws::a_turn_is_of_a_thread_that_runs();
-    guest_kernel::laws::a_turn_goes_by_its_peek();
-    guest_kernel::laws::a_turn_is_one_step();
-    guest_kernel::laws::the_place_grows_by_what_is_read();
-    guest_kernel::laws::a_turn_reads_and_writes_little();
-    guest_kernel::laws::a_longer_log_serves();
-    guest_kernel::laws::turns_count_on();
-    guest_kernel::laws::a_slice_more();
+    turn_laws();
+    run_laws();
     turn_peek::laws::a_reservation_asks_for_nothing();
 }
 
@@ -60,14 +56,8 @@ pub fn an_epoch_ends_by_a_rule()
     ensures reads { (start : State) (w : Supplied) (bounds : Bounds) (e : Epoch) (output : List ℕ) (end : State) →
         IsScheduled start w bounds e output end → length (bytes_read e.answers) < EPOCH_END_BYTES + MAX_CALL_BYTES }
 {
-    guest_kernel::laws::a_turn_is_of_a_thread_that_runs();
-    guest_kernel::laws::a_turn_goes_by_its_peek();
-    guest_kernel::laws::a_turn_is_one_step();
-    guest_kernel::laws::the_place_grows_by_what_is_read();
-    guest_kernel::laws::a_turn_reads_and_writes_little();
-    guest_kernel::laws::a_longer_log_serves();
-    guest_kernel::laws::turns_count_on();
-    guest_kernel::laws::a_slice_more();
+    turn_laws();
+    run_laws();
     turn_peek::laws::a_reservation_asks_for_nothing();
 }
 
@@ -78,10 +68,7 @@ pub fn an_epoch_is_supplied()
         IsScheduled start w bounds e output end → w.place ≤ start.input → start.input ≤ end_of w →
         IsSuppliedBy w start.input end.input e.answers }
 {
-    guest_kernel::laws::a_turn_is_of_a_thread_that_runs();
-    guest_kernel::laws::a_turn_goes_by_its_peek();
-    guest_kernel::laws::a_turn_is_one_step();
-    guest_kernel::laws::the_place_grows_by_what_is_read();
+    turn_laws();
     turn_peek::laws::a_reservation_asks_for_nothing();
     turn_peek::laws::a_read_starts_where_the_input_is();
 }

@@ -23,6 +23,7 @@ mod answer;
 mod bounds;
 mod choice;
 mod epoch_run;
+mod kernel;
 pub mod laws;
 mod run;
 mod slice;

@@ -1,15 +1,18 @@
 // An epoch, slice by slice.
-ghost use Rattle.std.specs.Prelude.{◌+◌, ◌<◌, ◌^◌, IfOk};
-ghost use Rattle.epoch_runner.specs.Running.{HasRun};
+ghost use Rattle.std.specs.Prelude.{◌≡◌, ◌+◌, ◌<◌, ◌^◌, Some, IfOk};
+ghost use Rattle.epoch_runner.specs.Running.{HasRun, HasRunEpoch};
+ghost use Rattle.epoch_runner.specs.Schedule.{begins_with};
+ghost use Rattle.epoch_runner.specs.SliceRun.{next_slice};
 
 use crate::bounds::Bounds;
 use crate::choice::next_thread;
 use crate::epoch_run::{EpochRun, Ran};
+use crate::kernel::{run_laws, turn_laws};
 use crate::slice::run_slice;
 use crate::trace::Trace;
-use dp_base::{Bytes, OutOfMemory, Slice};
+use dp_base::{Bytes, OutOfMemory, Slice, Tid};
 use epoch_record::Epoch;
-use guest_kernel::{State, laws};
+use guest_kernel::State;
 use slice_log::SliceLog;
 use std::alloc::Global;
 use supply::Supply;
@@ -26,21 +29,31 @@ pub fn run_epoch(
     requires little_input { start.input < 2 ^ 63 }
     ensures { IfOk result (HasRun start supply.now bounds) }
 {
-    laws::a_turn_is_of_a_thread_that_runs();
-    laws::a_turn_goes_by_its_peek();
-    laws::a_turn_is_one_step();
-    laws::a_turn_reads_and_writes_little();
-    laws::the_place_grows_by_what_is_read();
-    laws::a_longer_log_serves();
-    laws::turns_count_on();
-    laws::a_slice_more();
+    let Some(first) = next_thread(&start, supply, 0, 0, bounds.steps, bounds.first as usize) else {
+        return Ok(Ran::Idle(start));
+    };
+    Ok(Ran::Epoch(run_from(alloc, start, supply, bounds, first)?))
+}
+
+// Runs an epoch whose first slice is this thread's.
+fn run_from(
+    alloc: Global,
+    start: State,
+    supply: &Supply,
+    bounds: Bounds,
+    first: Tid,
+) -> Result<EpochRun, OutOfMemory>
+    requires first { begins_with (Some first) ≡ next_slice start supply.now 0 0 bounds.steps bounds.first }
+    requires countable { start.steps + bounds.steps < 2 ^ 64 }
+    requires little_input { start.input < 2 ^ 63 }
+    ensures { IfOk result (HasRunEpoch start supply.now bounds) }
+{
+    turn_laws();
+    run_laws();
     turn_peek::laws::a_reservation_asks_for_nothing();
     dp_base::laws::lengths();
     dp_base::laws::epochs_fit_records();
-    let mut next = next_thread(&start, supply, 0, 0, bounds.steps, bounds.first as usize);
-    if next.is_none() {
-        return Ok(Ran::Idle(start));
-    }
+    let mut next = Some(first);
     let mut state = start.share(alloc)?;
     let mut slices = SliceLog::new(alloc);
     let mut trace = Trace::new(alloc);
@@ -59,7 +72,7 @@ pub fn run_epoch(
         state.end_slice(tid);
         slices.put(Slice { tid, steps })?;
     }
-    Ok(Ran::Epoch(EpochRun {
+    Ok(EpochRun {
         start,
         epoch: Epoch {
             slices,
@@ -67,5 +80,5 @@ pub fn run_epoch(
         },
         out: Bytes::from_vec(trace.out),
         end: state,
-    }))
+    })
 }

@@ -10,9 +10,10 @@ ghost use Rattle.epoch_runner.specs.Trace.{traced};
 use crate::answer::{answer_for, is_ready_at};
 use crate::bounds::Bounds;
 use crate::choice::is_long;
+use crate::kernel::turn_laws;
 use crate::trace::Trace;
 use dp_base::{OutOfMemory, Tid};
-use guest_kernel::{State, Turn, laws};
+use guest_kernel::{State, Turn};
 use std::alloc::Global;
 use supply::Supply;
 
@@ -85,10 +86,7 @@ fn advance(
     ensures moved { IfOk result (λ a. IsMoved supply.now tid limit state.old (traced trace.old) a.steps a.yielded state.new (traced trace.new)) }
     ensures place { OnOk result (state.new.input + length (bytes_read trace.old.answers) ≡ state.old.input + length (bytes_read trace.new.answers)) }
 {
-    laws::a_turn_is_of_a_thread_that_runs();
-    laws::a_turn_goes_by_its_peek();
-    laws::a_turn_is_one_step();
-    laws::the_place_grows_by_what_is_read();
+    turn_laws();
     let steps = state.go_on(tid, limit);
     if steps > 0 {
         return Ok(Moved {

@@ -11,36 +11,17 @@ use Rattle.epoch_runner.specs.Answering.{answers_for, ready_at}
 use Rattle.epoch_runner.specs.SliceRun.{IsMoved, Traced}
 use Rattle.epoch_runner.specs.Trace.{traced}
 use Rattle.epoch_runner.proofs.AnswerLists.{at_most_one}
-use Rattle.epoch_runner.proofs.Kernel.{TurnLaws}
 use Rattle.epoch_runner.proofs.Stretch.{stayed, stretch_moved, stretch_place, turn_moved, turn_place, turn_taken}
 use Rattle.epoch_runner.proofs.slice.advance.Goals as goal
 
 pub returns-then-steps-gt0-clause-moved : goal.returns-then-steps-gt0-clause-moved
 returns-then-steps-gt0-clause-moved c =
-    let turn_laws : TurnLaws = record {
-      going = c.a_turn_is_of_a_thread_that_runs.ensures.going;
-      runs = c.a_turn_is_of_a_thread_that_runs.ensures.runs;
-      rest = c.a_turn_goes_by_its_peek.ensures.rest;
-      has_turn = c.a_turn_goes_by_its_peek.ensures.turn;
-      has_peek = c.a_turn_goes_by_its_peek.ensures.runs;
-      counts = c.a_turn_is_one_step.ensures.counts;
-      place = c.the_place_grows_by_what_is_read.ensures.turn;
-    } in
-    stretch_moved turn_laws c.args.supply.now c.args.tid c.args.limit c.go_on-steps.result c.args.state.now c.go_on-steps.new.self (traced c.args.trace.now) c.requires.little c.requires.little_read
+    stretch_moved c.turn_laws.ensures c.args.supply.now c.args.tid c.args.limit c.go_on-steps.result c.args.state.now c.go_on-steps.new.self (traced c.args.trace.now) c.requires.little c.requires.little_read
     c.if-steps-gt0.true c.go_on-steps.ensures.within c.go_on-steps.ensures.steps (c.go_on-steps.ensures.turns 0 [] []) c.go_on-steps.ensures.no_yield
 
 pub returns-then-steps-gt0-clause-place : goal.returns-then-steps-gt0-clause-place
 returns-then-steps-gt0-clause-place c =
-    let turn_laws : TurnLaws = record {
-      going = c.a_turn_is_of_a_thread_that_runs.ensures.going;
-      runs = c.a_turn_is_of_a_thread_that_runs.ensures.runs;
-      rest = c.a_turn_goes_by_its_peek.ensures.rest;
-      has_turn = c.a_turn_goes_by_its_peek.ensures.turn;
-      has_peek = c.a_turn_goes_by_its_peek.ensures.runs;
-      counts = c.a_turn_is_one_step.ensures.counts;
-      place = c.the_place_grows_by_what_is_read.ensures.turn;
-    } in
-    ap (λ n. n + length (bytes_read c.args.trace.now.answers)) (stretch_place turn_laws c.go_on-steps.result 0 c.args.tid c.args.state.now c.go_on-steps.new.self (c.go_on-steps.ensures.turns 0 [] []))
+    ap (λ n. n + length (bytes_read c.args.trace.now.answers)) (stretch_place c.turn_laws.ensures c.go_on-steps.result 0 c.args.tid c.args.state.now c.go_on-steps.new.self (c.go_on-steps.ensures.turns 0 [] []))
 
 pub turn-requires-clause-little_input : goal.turn-requires-clause-little_input
 turn-requires-clause-little_input c = λ reads.
@@ -50,15 +31,6 @@ turn-requires-clause-little_input c = λ reads.
 
 pub unreachable-requires : goal.unreachable-requires
 unreachable-requires c =
-    let turn_laws : TurnLaws = record {
-      going = c.a_turn_is_of_a_thread_that_runs.ensures.going;
-      runs = c.a_turn_is_of_a_thread_that_runs.ensures.runs;
-      rest = c.a_turn_goes_by_its_peek.ensures.rest;
-      has_turn = c.a_turn_goes_by_its_peek.ensures.turn;
-      has_peek = c.a_turn_goes_by_its_peek.ensures.runs;
-      counts = c.a_turn_is_one_step.ensures.counts;
-      place = c.the_place_grows_by_what_is_read.ensures.turn;
-    } in
     let w = c.args.supply.now in
     let here = c.go_on-steps.new.self in
     let same : c.args.state.now ≡ here = sym (stayed c.go_on-steps.result c.args.tid c.args.state.now here c.if-steps-gt0.false (c.go_on-steps.ensures.turns 0 [] [])) in
@@ -66,19 +38,10 @@ unreachable-requires c =
     let ready : ready_at here w c.args.tid ≡ true = subst (λ (t : State). ready_at t w c.args.tid ≡ true) same c.requires.ready in
     let log = log_of c.as_ref.result in
     let log_is : log ≡ answers_for here w c.args.tid = ap option_to_list c.as_ref.ensures.value ∙ c.in_ok-answer.ensures.is in
-    turn_taken turn_laws w c.args.tid here log c.in_ok-yielded.field-0 alive ready log_is c.in_ok-yielded.ensures.answer c.in_default.not-Stepped
+    turn_taken c.turn_laws.ensures w c.args.tid here log c.in_ok-yielded.field-0 alive ready log_is c.in_ok-yielded.ensures.answer c.in_default.not-Stepped
 
 pub returns-clause-moved : goal.returns-clause-moved
 returns-clause-moved c =
-    let turn_laws : TurnLaws = record {
-      going = c.a_turn_is_of_a_thread_that_runs.ensures.going;
-      runs = c.a_turn_is_of_a_thread_that_runs.ensures.runs;
-      rest = c.a_turn_goes_by_its_peek.ensures.rest;
-      has_turn = c.a_turn_goes_by_its_peek.ensures.turn;
-      has_peek = c.a_turn_goes_by_its_peek.ensures.runs;
-      counts = c.a_turn_is_one_step.ensures.counts;
-      place = c.the_place_grows_by_what_is_read.ensures.turn;
-    } in
     let w = c.args.supply.now in
     let here = c.go_on-steps.new.self in
     let same : c.args.state.now ≡ here = sym (stayed c.go_on-steps.result c.args.tid c.args.state.now here c.if-steps-gt0.false (c.go_on-steps.ensures.turns 0 [] [])) in
@@ -92,20 +55,11 @@ returns-clause-moved c =
     let taken : c.put.new.self.answers ≡ c.args.trace.now.answers ++ log =
     ap (λ (t : Traced). t.answers) c.in_ok-put.ensures ∙ ap (λ xs. c.args.trace.now.answers ++ xs) (sym (ap option_to_list c.as_ref.ensures.value)) in
     subst (λ (t : State). IsMoved w c.args.tid c.args.limit t (traced c.args.trace.now) 1 c.in-Stepped.yielded c.turn.new.self (traced c.put.new.self)) (sym same)
-    (turn_moved turn_laws w c.args.tid c.args.limit here c.turn.new.self (traced c.args.trace.now) (traced c.put.new.self) log c.in-Stepped.used c.in-Stepped.yielded c.requires.little c.requires.little_read c.requires.some
+    (turn_moved c.turn_laws.ensures w c.args.tid c.args.limit here c.turn.new.self (traced c.args.trace.now) (traced c.put.new.self) log c.in-Stepped.used c.in-Stepped.yielded c.requires.little c.requires.little_read c.requires.some
     alive ready log_is one_answer is_answer (sym c.in-Stepped.is ∙ c.in_ok-yielded.ensures.answer) c.in_ok-yielded.ensures.state output taken)
 
 pub returns-clause-place : goal.returns-clause-place
 returns-clause-place c =
-    let turn_laws : TurnLaws = record {
-      going = c.a_turn_is_of_a_thread_that_runs.ensures.going;
-      runs = c.a_turn_is_of_a_thread_that_runs.ensures.runs;
-      rest = c.a_turn_goes_by_its_peek.ensures.rest;
-      has_turn = c.a_turn_goes_by_its_peek.ensures.turn;
-      has_peek = c.a_turn_goes_by_its_peek.ensures.runs;
-      counts = c.a_turn_is_one_step.ensures.counts;
-      place = c.the_place_grows_by_what_is_read.ensures.turn;
-    } in
     let w = c.args.supply.now in
     let here = c.go_on-steps.new.self in
     let same : c.args.state.now ≡ here = sym (stayed c.go_on-steps.result c.args.tid c.args.state.now here c.if-steps-gt0.false (c.go_on-steps.ensures.turns 0 [] [])) in
@@ -115,5 +69,5 @@ returns-clause-place c =
     let log_is : log ≡ answers_for here w c.args.tid = ap option_to_list c.as_ref.ensures.value ∙ c.in_ok-answer.ensures.is in
     let taken : c.put.new.self.answers ≡ c.args.trace.now.answers ++ log =
     ap (λ (t : Traced). t.answers) c.in_ok-put.ensures ∙ ap (λ xs. c.args.trace.now.answers ++ xs) (sym (ap option_to_list c.as_ref.ensures.value)) in
-    turn_place turn_laws w c.args.tid here c.turn.new.self c.args.trace.now.answers c.put.new.self.answers log alive ready log_is c.in_ok-yielded.ensures.state taken
+    turn_place c.turn_laws.ensures w c.args.tid here c.turn.new.self c.args.trace.now.answers c.put.new.self.answers log alive ready log_is c.in_ok-yielded.ensures.state taken
     ∙ ap (λ (s : State). s.input + length (bytes_read c.put.new.self.answers)) (sym same)

@@ -1,6 +1,6 @@
 use Rattle.epoch_runner.specs.Trace.{traced}
 use Rattle.epoch_runner.proofs.Epochs.{EpochSoFar}
-use Rattle.epoch_runner.proofs.run.run_epoch.Given as goal
+use Rattle.epoch_runner.proofs.run.run_from.Given as goal
 
 abbrev pub invariant-slices : goal.invariant-slices
 invariant-slices l = EpochSoFar l.fn.start l.supply l.fn.bounds l.slices l.left l.state (traced l.trace) l.next
