@@ -1,5 +1,5 @@
 // How many pages guests start with, and files that are refused, each by hand.
-use crate::slice_tests::{EXIT_SEVEN, guest_of};
+use crate::guests::{EXIT_SEVEN, guest_of};
 use crate::start_tests::{file_of, patched};
 use guest_kernel::{ImageFault, start_from_file};
 use std::alloc::{AllocError, Global};

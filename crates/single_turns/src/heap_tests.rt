@@ -1,6 +1,6 @@
 // The break, each move worked out by hand.
+use crate::guests::started;
 use crate::mapping::map;
-use crate::slice_tests::started;
 use dp_base::{Access, Mem, Tid, Width};
 use guest_kernel::{End, Hart, Pages, State, Thread, Threads};
 use std::alloc::Global;

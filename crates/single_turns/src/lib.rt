@@ -12,6 +12,8 @@ mod fault_tests;
 #[cfg(test)]
 mod futex_tests;
 #[cfg(test)]
+mod guests;
+#[cfg(test)]
 mod heap_tests;
 #[cfg(test)]
 mod input_tests;

@@ -1,6 +1,7 @@
 // The states in which guests start, each by hand from its file.
+use crate::guests::{EXIT_SEVEN, guest, started};
 use crate::one_turn::one_turn;
-use crate::slice_tests::{EXIT_SEVEN, guest, hart_of, ran_from, slice, started, trap};
+use crate::slice_tests::{hart_of, ran_from, slice, trap};
 use guest_kernel::{End, Hart, Pages, SliceRun, Turn, start_from_file};
 use std::alloc::{AllocError, Global};
 use std::test::Fail;
