@@ -1,5 +1,5 @@
 // How many pages guests start with, and files that are refused, each by hand.
-use crate::guests::{EXIT_SEVEN, guest_of};
+use crate::guests::EXIT_SEVEN;
 use crate::start_tests::{file_of, patched};
 use guest_kernel::{ImageFault, start_from_file};
 use std::alloc::{AllocError, Global};
@@ -70,7 +70,7 @@ fn pages_with(
     offset: usize,
     bytes: &[u8],
 ) -> Result<Result<u32, ImageFault>, AllocError> {
-    let mut file = guest_of(alloc, 96, 96, &EXIT_SEVEN)?;
+    let mut file = guest_file::file_of(alloc, &EXIT_SEVEN)?;
     file.resize(length, 0)?;
     let file = patched(alloc, &file, offset, bytes)?;
     Ok(pages_of(alloc, &file))

@@ -1,5 +1,5 @@
 // The states in which guests start, each by hand from its file.
-use crate::guests::{EXIT_SEVEN, guest, started};
+use crate::guests::{EXIT_SEVEN, started};
 use crate::one_turn::one_turn;
 use crate::slice_tests::{hart_of, ran_from, slice, trap};
 use guest_kernel::{End, Hart, Pages, SliceRun, Turn, start_from_file};
@@ -37,7 +37,7 @@ pub(crate) fn patched(
 
 // The header of a file with this entry and so many segments.
 fn header(alloc: Global, entry: u32, count: u8) -> Result<Vec<u8>, AllocError> {
-    let mut file = guest(alloc, &[])?;
+    let mut file = guest_file::file_of(alloc, &[])?;
     file.truncate(52);
     let file = patched(alloc, &file, 24, &entry.to_le_bytes())?;
     patched(alloc, &file, 44, &[count])
@@ -275,7 +275,7 @@ fn start_pages(rt: HostRuntime) -> Result<(), Fail> {
 // Whether the page of a guest's file begins with it and has zeros behind it; and the flags of pages on which nothing is.
 fn page_of_seven(alloc: Global) -> Result<(bool, bool, [Option<u8>; 5]), Fail> {
     let state = started(alloc, &EXIT_SEVEN)?;
-    let file = guest(alloc, &EXIT_SEVEN)?;
+    let file = guest_file::file_of(alloc, &EXIT_SEVEN)?;
     let page = state.pages.page_bytes(0x10).ok_or("the file's page")?;
     let is_first = page.starts_with(&file);
     let are_zeros = page.iter().skip(96).all(|byte| *byte == 0);
