@@ -3,12 +3,12 @@
 // A recording attaches the disk (call 1), looks at its length (2), and begins the journal: the header's gate is written closed and
 // synced (3, 4), the header behind it (5, 6), and the gate is opened (7, 8). An epoch is written behind the closed gate and synced,
 // then its gate is opened: the first by the calls 9 to 12, each other one by the next four. Its output is sent behind that.
-use super::WRITES;
 use crate::stopped::{Faults, Left, NO_JOURNAL, Plays, what_is_left};
-use disk_mem::Fails;
 use dp_report::Status;
 use input_guests::FILTER;
 use std::test::Fail;
+use test_files::WRITES_WORDS;
+use test_worlds::Failing;
 use thread_guests::PRODUCER_AND_CONSUMER;
 
 // Of so many epochs: the calls up to the last.
@@ -70,8 +70,8 @@ fn left_of(number: u64, last: u64, output: &[usize]) -> Left {
 
 fn from(number: u64) -> Faults {
     Faults {
-        disk: Fails::From(number),
-        sink: Fails::Never,
+        disk: Failing::From(number),
+        sink: Failing::Never,
         piece: 4096,
     }
 }
@@ -83,7 +83,7 @@ fn each_disk_call_of_nine_epochs(rt: HostRuntime) -> Result<(), Fail> {
     let output = [0, 0, 0, 0, 0, 0, 3, 3, 3, 3];
     let mut failing = 0;
     for number in 1..=45 {
-        let came = what_is_left(&rt, &asked, &WRITES, &[], b"hi\n", from(number))?;
+        let came = what_is_left(&rt, &asked, &WRITES_WORDS, &[], b"hi\n", from(number))?;
         assert_eq!(rt; came, left_of(number, 44, &output), "call {number}");
         if came.status == Status::DiskFault {
             failing = number;

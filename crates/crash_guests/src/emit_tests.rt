@@ -2,11 +2,11 @@
 //
 // The sixth epoch's output has 3 bytes, and the report's line has 117. All of an epoch is on the disk for good before a byte of it
 // is sent, so each image is the same.
-use super::WRITES;
-use crate::stopped::{Faults, Plays, at, is_prefix, plays, recording};
-use disk_mem::Fails;
+use crate::stopped::{Faults, Plays, is_prefix, plays, recording};
 use dp_report::Status;
 use std::test::Fail;
+use test_files::WRITES_WORDS;
+use test_worlds::Failing;
 
 // What a recording came to, how many bytes it sent and left, and whether they are the first of the output and of the journal.
 #[derive(Clone, Copy, Debug, PartialEq, Eq)]
@@ -30,14 +30,14 @@ fn wanted(number: u64, piece: u64) -> Came {
 
 // A recording in epochs of one step, where these emits fail, of which one takes so many bytes at most. Its journal is looked at beside
 // a whole one.
-fn emits_failing(rt: &HostRuntime, sink: Fails, piece: u32, whole: &[u8]) -> Result<Came, Fail> {
+fn emits_failing(rt: &HostRuntime, sink: Failing, piece: u32, whole: &[u8]) -> Result<Came, Fail> {
     let faults = Faults {
-        disk: Fails::Never,
+        disk: Failing::Never,
         sink,
         piece,
     };
     let asked = ["dpcli", "record", "g", "j", "--epoch", "1"];
-    let seen = recording(rt, &asked, &WRITES, &[], faults)?;
+    let seen = recording(rt, &asked, &WRITES_WORDS, &[], faults)?;
     let len = seen.kept.len();
     let (records, _) = whole.split_at(len.saturating_sub(1).min(whole.len()));
     let mut journal = records.to_vec(rt.alloc())?;
@@ -56,12 +56,12 @@ fn emits_failing(rt: &HostRuntime, sink: Fails, piece: u32, whole: &[u8]) -> Res
 // The journal of nine epochs, from a recording that meets no fault.
 fn whole(rt: &HostRuntime) -> Result<Vec<u8>, Fail> {
     let faults = Faults {
-        disk: Fails::Never,
-        sink: Fails::Never,
+        disk: Failing::Never,
+        sink: Failing::Never,
         piece: 4096,
     };
     let asked = ["dpcli", "record", "g", "j", "--epoch", "1"];
-    let seen = recording(rt, &asked, &WRITES, &[], faults)?;
+    let seen = recording(rt, &asked, &WRITES_WORDS, &[], faults)?;
     if seen.status != Status::Ok || seen.sent.as_slice() != b"hi\n".as_slice() {
         return Err("a recording that meets no fault".into());
     }
@@ -85,7 +85,7 @@ fn journals_of_six_epochs_and_of_nine(rt: HostRuntime) -> Result<(), Fail> {
 fn each_emit_of_one_byte(rt: HostRuntime) -> Result<(), Fail> {
     let all = whole(&rt)?;
     for number in 1..=120 {
-        let once = emits_failing(&rt, at(rt.alloc(), number)?, 1, &all)?;
+        let once = emits_failing(&rt, Failing::At(number), 1, &all)?;
         assert_eq!(rt; once, wanted(number, 1), "emit {number}");
     }
     Ok(())
@@ -95,7 +95,7 @@ fn each_emit_of_one_byte(rt: HostRuntime) -> Result<(), Fail> {
 fn each_emit_of_one_byte_and_all_behind(rt: HostRuntime) -> Result<(), Fail> {
     let all = whole(&rt)?;
     for number in 1..=120 {
-        let ever = emits_failing(&rt, Fails::From(number), 1, &all)?;
+        let ever = emits_failing(&rt, Failing::From(number), 1, &all)?;
         assert_eq!(rt; ever, wanted(number, 1), "emits from {number}");
     }
     Ok(())
@@ -107,9 +107,9 @@ fn each_emit_of_more(rt: HostRuntime) -> Result<(), Fail> {
     // bytes of an emit at most, and how many emits there are: 2 of the output and 59 of the line, or one of each
     for (piece, last) in [(2, 61), (4096, 2)] {
         for number in 1..=last {
-            let once = emits_failing(&rt, at(rt.alloc(), number)?, piece, &all)?;
+            let once = emits_failing(&rt, Failing::At(number), piece, &all)?;
             assert_eq!(rt; once, wanted(number, u64::from(piece)), "emit {number}");
-            let ever = emits_failing(&rt, Fails::From(number), piece, &all)?;
+            let ever = emits_failing(&rt, Failing::From(number), piece, &all)?;
             assert_eq!(rt;
                 ever,
                 wanted(number, u64::from(piece)),
@@ -125,7 +125,7 @@ fn each_emit_of_more(rt: HostRuntime) -> Result<(), Fail> {
 fn emits_behind_the_last(rt: HostRuntime) -> Result<(), Fail> {
     let all = whole(&rt)?;
     for (piece, last) in [(1, 120), (2, 61), (4096, 2)] {
-        let seen = emits_failing(&rt, Fails::From(last + 1), piece, &all)?;
+        let seen = emits_failing(&rt, Failing::From(last + 1), piece, &all)?;
         let ok = Came {
             status: Status::Ok,
             sent: 3,

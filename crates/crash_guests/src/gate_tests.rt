@@ -2,12 +2,12 @@
 //
 // The guest's file has 124 bytes, so the journal's header has 133, and the first record's gate is at 133. The record of one epoch of one
 // slice has 20 bytes, and the closed gate stands behind it.
-use super::WRITES;
 use crate::stopped::{Faults, Plays, Stopped, plays, recording, replay};
-use disk_mem::Fails;
 use dp_report::Status;
 use std::alloc::Global;
 use std::test::Fail;
+use test_files::WRITES_WORDS;
+use test_worlds::Failing;
 
 const GATE: usize = 133;
 
@@ -22,11 +22,11 @@ const ONE_OF_WRITES: &[u8] =
 // A recording in epochs of 20,000 steps, where the disk fails from this call on.
 fn stops(rt: &HostRuntime, number: u64) -> Result<Stopped, Fail> {
     let faults = Faults {
-        disk: Fails::From(number),
-        sink: Fails::Never,
+        disk: Failing::From(number),
+        sink: Failing::Never,
         piece: 4096,
     };
-    recording(rt, &["dpcli", "record", "g", "j"], &WRITES, &[], faults)
+    recording(rt, &["dpcli", "record", "g", "j"], &WRITES_WORDS, &[], faults)
 }
 
 fn gate_of(image: &[u8]) -> (usize, u8) {

@@ -1,21 +1,21 @@
 // Each emit fails in turn, by itself and with all behind it, of a guest that reads its input and of one with two threads.
-use crate::stopped::{Faults, Left, at, what_is_left};
-use disk_mem::Fails;
+use crate::stopped::{Faults, Left, what_is_left};
 use dp_report::Status;
 use input_guests::FILTER;
 use std::test::Fail;
+use test_worlds::Failing;
 use thread_guests::PRODUCER_AND_CONSUMER;
 
-fn failing(sink: Fails, piece: u32) -> Faults {
+fn failing(sink: Failing, piece: u32) -> Faults {
     Faults {
-        disk: Fails::Never,
+        disk: Failing::Never,
         sink,
         piece,
     }
 }
 
 // What a recording of the filter comes to where these emits fail, of which one takes so many bytes at most.
-fn filtered(rt: &HostRuntime, sink: Fails, piece: u32) -> Result<Left, Fail> {
+fn filtered(rt: &HostRuntime, sink: Failing, piece: u32) -> Result<Left, Fail> {
     let mut words = FILTER.to_vec(rt.alloc())?;
     words.push(4)?;
     let asked = ["dpcli", "record", "g", "j"];
@@ -31,7 +31,7 @@ fn filtered(rt: &HostRuntime, sink: Fails, piece: u32) -> Result<Left, Fail> {
 }
 
 // The same of the guest with a producer and a consumer.
-fn produced(rt: &HostRuntime, sink: Fails, piece: u32) -> Result<Left, Fail> {
+fn produced(rt: &HostRuntime, sink: Failing, piece: u32) -> Result<Left, Fail> {
     let asked = ["dpcli", "record", "g", "j", "--epoch", "17", "--slice", "9"];
     what_is_left(
         rt,
@@ -72,9 +72,9 @@ fn each_emit_of_a_filter(rt: HostRuntime) -> Result<(), Fail> {
             sent,
             plays: [(Status::Ok, epochs, bytes); 3],
         };
-        let once = filtered(&rt, at(rt.alloc(), number)?, piece)?;
+        let once = filtered(&rt, Failing::At(number), piece)?;
         assert_eq!(rt; once, wanted, "emit {number} of {piece} bytes");
-        let ever = filtered(&rt, Fails::From(number), piece)?;
+        let ever = filtered(&rt, Failing::From(number), piece)?;
         assert_eq!(rt; ever, wanted, "emits from {number} of {piece} bytes");
     }
     Ok(())
@@ -84,7 +84,7 @@ fn each_emit_of_a_filter(rt: HostRuntime) -> Result<(), Fail> {
 // that were sent.
 #[test]
 fn each_emit_of_two_threads(rt: HostRuntime) -> Result<(), Fail> {
-    let first = produced(&rt, Fails::From(1), 4096)?.plays[0];
+    let first = produced(&rt, Failing::From(1), 4096)?.plays[0];
     assert_eq!(rt; (first.0, first.2), (Status::Ok, 4));
     assert!(rt; 0 < first.1 && first.1 <= 7);
     let cases: [(u32, u64, usize); 10] = [
@@ -106,9 +106,9 @@ fn each_emit_of_two_threads(rt: HostRuntime) -> Result<(), Fail> {
             sent,
             plays: [(Status::Ok, epochs, 4); 3],
         };
-        let once = produced(&rt, at(rt.alloc(), number)?, piece)?;
+        let once = produced(&rt, Failing::At(number), piece)?;
         assert_eq!(rt; once, wanted, "emit {number} of {piece} bytes");
-        let ever = produced(&rt, Fails::From(number), piece)?;
+        let ever = produced(&rt, Failing::From(number), piece)?;
         assert_eq!(rt; ever, wanted, "emits from {number} of {piece} bytes");
     }
     Ok(())

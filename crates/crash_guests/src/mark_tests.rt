@@ -2,17 +2,16 @@
 //
 // Of nine epochs of one step: the header's 133 bytes, nine records of 20, and a closed gate. A mark of this guest has a body of 69,880
 // bytes, and its record 5 more.
-use super::WRITES;
 use crate::stopped::{Faults, NO_JOURNAL, Plays, is_prefix, plays, recording, replay};
-use disk_mem::Fails;
 use dp_report::Status;
-use guest_file::file_of;
 use std::alloc::Global;
 use std::test::Fail;
+use test_files::{WRITES_WORDS, file_of};
+use test_worlds::Failing;
 
 // The guest behind its first step, by the format's tables: x10 is 1 and pc the second word's.
 fn mark_behind_one_step(alloc: Global) -> Result<Vec<u8>, Fail> {
-    let file = file_of(alloc, &WRITES)?;
+    let file = file_of(alloc, &WRITES_WORDS)?;
     let mut body = Vec::new(alloc);
     // the kind, the steps, the input's place, the heap's start and the break, and no end
     body.push(1)?;
@@ -48,12 +47,12 @@ fn mark_behind_one_step(alloc: Global) -> Result<Vec<u8>, Fail> {
 fn marked(rt: &HostRuntime, place: usize) -> Result<Vec<u8>, Fail> {
     let alloc = rt.alloc();
     let faults = Faults {
-        disk: Fails::Never,
-        sink: Fails::Never,
+        disk: Failing::Never,
+        sink: Failing::Never,
         piece: 4096,
     };
     let asked = ["dpcli", "record", "g", "j", "--epoch", "1"];
-    let seen = recording(rt, &asked, &WRITES, &[], faults)?;
+    let seen = recording(rt, &asked, &WRITES_WORDS, &[], faults)?;
     let body = mark_behind_one_step(alloc)?;
     if seen.kept.len() != 314 || body.len() != 69_880 {
         return Err("the journal has 314 bytes, and the mark 69,880".into());

@@ -1,24 +1,20 @@
 // Recordings that stop at a call, and replays of what a crash leaves of them.
 ghost use Rattle.std.specs.Prelude.{◌<◌};
 
-use disk_mem::{CallNumbers, Fails, MemFiles, MemInlet, MemWorld, NamedFile};
+use disk_mem::MemWorld;
 use disk_model::Stream;
 use dp_report::Status;
 use dp_top::run;
-use guest_file::file_of;
 use std::alloc::Global;
 use std::test::Fail;
-
-// The call with this number fails.
-pub(crate) fn at(alloc: Global, number: u64) -> Result<Fails, Fail> {
-    Ok(Fails::At(CallNumbers::from_vec([number].to_vec(alloc)?)))
-}
+use test_files::file_of;
+use test_worlds::{Failing, disk_of, file_named, inlet_of, texts_of, world_of};
 
 // Which calls of a recording fail, and how many bytes one emit takes at most.
 #[derive(Drop)]
 pub(crate) struct Faults {
-    pub disk: Fails,
-    pub sink: Fails,
+    pub disk: Failing,
+    pub sink: Failing,
     pub piece: u32,
 }
 
@@ -31,21 +27,9 @@ fn ran(
     world: MemWorld,
 ) -> Result<(MemWorld, Status), Fail> {
     let alloc = rt.alloc();
-    let mut texts = Vec::new(alloc);
-    for word in asked {
-        texts.push(String::from_str(alloc, word)?)?;
-    }
-    let mut named = Vec::new(alloc);
-    named.push(NamedFile {
-        name: String::from_str(alloc, "g")?,
-        bytes: file_of(alloc, words)?,
-    })?;
-    let mut owned = Vec::new(alloc);
-    for piece in pieces {
-        owned.push(piece.to_vec(alloc)?)?;
-    }
-    let mut files = MemFiles::new(named, Fails::Never);
-    let mut inlet = MemInlet::new(owned, Vec::new(alloc), Fails::Never);
+    let texts = texts_of(alloc, asked)?;
+    let mut files = file_named(alloc, "g", &file_of(alloc, words)?, Failing::Never)?;
+    let mut inlet = inlet_of(alloc, pieces, &[], Failing::Never)?;
     Ok(run(rt, alloc, &texts, &mut files, &mut inlet, world))
 }
 
@@ -79,7 +63,7 @@ pub(crate) fn recording(
     faults: Faults,
 ) -> Result<Stopped, Fail> {
     let alloc = rt.alloc();
-    let world = MemWorld::new(alloc, faults.disk, faults.sink, faults.piece.max(1))?;
+    let world = world_of(alloc, faults.disk, faults.sink, faults.piece.max(1))?;
     let (after, status) = ran(rt, asked, words, pieces, world)?;
     images_of(alloc, &after, status)
 }
@@ -103,7 +87,7 @@ fn look_at(alloc: Global, world: &MemWorld, status: Status) -> Result<Played, Fa
 // A replay of an image that meets no fault.
 pub(crate) fn replay(rt: &HostRuntime, image: &[u8]) -> Result<Played, Fail> {
     let alloc = rt.alloc();
-    let world = MemWorld::new(alloc, Fails::Never, Fails::Never, 65_536)?.of_disk(alloc, image)?;
+    let world = disk_of(alloc, image, Failing::Never)?;
     let (after, status) = ran(rt, &["dpcli", "replay", "j"], &[], &[], world)?;
     look_at(alloc, &after, status)
 }

@@ -1,10 +1,10 @@
 // Each take of an input fails in turn: by itself, and with all behind it. The recording stops there, and what it has committed plays.
 // The values come from the model that `read_tests` has.
 use super::*;
-use crate::recorded::{Came, at, came_to, input_of, ok};
-use disk_mem::Fails;
+use crate::recorded::{Came, came_to, ok};
 use dp_report::Status;
 use std::test::Fail;
+use test_worlds::{Failing, inlet_of};
 
 const LINE: &[u8] = b"dpcli: input failed\n";
 
@@ -19,8 +19,8 @@ fn failed(
     note: &[u8],
 ) -> Result<(Came, Came), Fail> {
     let alloc = rt.alloc();
-    let once = input_of(alloc, pieces, &[], at(alloc, take)?)?;
-    let ever = input_of(alloc, pieces, &[], Fails::From(take))?;
+    let once = inlet_of(alloc, pieces, &[], Failing::At(take))?;
+    let ever = inlet_of(alloc, pieces, &[], Failing::From(take))?;
     Ok((
         came_to(rt, words, once, steps, out, (LINE, note))?,
         came_to(rt, words, ever, steps, out, (LINE, note))?,
@@ -31,9 +31,7 @@ fn failed(
 fn fault(journal: usize, takes: u64) -> Came {
     Came {
         status: Status::InputFault,
-        replayed: Status::Ok,
-        journal,
-        takes,
+        ..ok(journal, takes)
     }
 }
 
@@ -80,11 +78,11 @@ fn two_reads(rt: HostRuntime) -> Result<(), Fail> {
     // behind the last take
     let note =
         b"epochs 3 squashes 0 steps 8 sent 0 end exit 0 state 44e085ae0ee54d6520e1458b2e88945eb49ddcda4841a97589c6f175eb5502b3\n";
-    let input = input_of(rt.alloc(), pieces, &[], Fails::From(3))?;
+    let inlet = inlet_of(rt.alloc(), pieces, &[], Failing::From(3))?;
     let came = came_to(
         &rt,
         &READS_TWICE,
-        input,
+        inlet,
         ("20000", "1000"),
         b"",
         (note, note),
@@ -136,11 +134,11 @@ fn a_filter(rt: HostRuntime) -> Result<(), Fail> {
     // behind the last take
     let note =
         b"epochs 5 squashes 0 steps 73 sent 13 end exit 0 state 6f725d84139e9a028e6f0f6e9f1e768c718a5f46199438ae67fa25343a1b5d3a\n";
-    let input = input_of(rt.alloc(), pieces, &[], Fails::From(5))?;
+    let inlet = inlet_of(rt.alloc(), pieces, &[], Failing::From(5))?;
     let came = came_to(
         &rt,
         &words,
-        input,
+        inlet,
         ("20000", "1000"),
         b"abcdefghijklm",
         (note, note),
@@ -190,11 +188,11 @@ fn two_readers(rt: HostRuntime) -> Result<(), Fail> {
     // behind the last take
     let note =
         b"epochs 5 squashes 0 steps 96 sent 13 end exit 2 state 1d19ffd48666c0dae372e74ccf7e2988d6041491d0ccb4011211af7b8322f7c8\n";
-    let input = input_of(rt.alloc(), pieces, &[], Fails::From(5))?;
+    let inlet = inlet_of(rt.alloc(), pieces, &[], Failing::From(5))?;
     let came = came_to(
         &rt,
         &TWO_READERS,
-        input,
+        inlet,
         ("20000", "5"),
         b"2ab1cd2e1f2gh",
         (note, note),
@@ -246,11 +244,11 @@ fn a_reader_and_a_counter(rt: HostRuntime) -> Result<(), Fail> {
     // behind the last take
     let note =
         b"epochs 5 squashes 0 steps 85 sent 3 end exit 2 state 154bc5033b99f5e951ec42bf2618a994376fdaf8946ca6005eff43aff40d4c33\n";
-    let input = input_of(rt.alloc(), pieces, &[], Fails::From(4))?;
+    let inlet = inlet_of(rt.alloc(), pieces, &[], Failing::From(4))?;
     let came = came_to(
         &rt,
         &READER_AND_COUNTER,
-        input,
+        inlet,
         ("20", "7"),
         b"abc",
         (note, note),

@@ -1,19 +1,11 @@
 // A filter of inputs of many lengths, in pieces of many sizes, recorded and replayed; and the windows that such inputs come in.
 use super::*;
-use crate::recorded::{Came, Input, STEPS, came_to, ok};
+use crate::recorded::{Came, STEPS, came_to, ok};
 use disk_mem::{Fails, MemInlet};
 use std::alloc::Global;
 use std::test::Fail;
 use supply::{InputFault, MAX_ROOM, Supply};
-
-// So many bytes, of which none equals those beside it.
-fn bytes_of(alloc: Global, count: u32) -> Result<Vec<u8>, Fail> {
-    let mut bytes = Vec::new(alloc);
-    for number in 0..count {
-        bytes.push((number % 251) as u8)?;
-    }
-    Ok(bytes)
-}
+use test_files::repeated;
 
 fn cut(alloc: Global, bytes: &[u8], size: usize) -> Result<Vec<Vec<u8>>, Fail> {
     let mut pieces = Vec::new(alloc);
@@ -32,15 +24,12 @@ fn filtered(
     note: &[u8],
 ) -> Result<Came, Fail> {
     let alloc = rt.alloc();
-    let bytes = bytes_of(alloc, count)?;
-    let input = Input {
-        pieces: cut(alloc, &bytes, piece)?,
-        clocks: Vec::new(alloc),
-        fails: Fails::Never,
-    };
+    let bytes = repeated(alloc, count)?;
+    let pieces = cut(alloc, &bytes, piece)?;
+    let inlet = MemInlet::new(pieces, Vec::new(alloc), Fails::Never);
     let mut words = FILTER.to_vec(alloc)?;
     words.push(many)?;
-    came_to(rt, &words, input, STEPS, &bytes, (note, note))
+    came_to(rt, &words, inlet, STEPS, &bytes, (note, note))
 }
 
 #[test]
@@ -256,7 +245,7 @@ fn windows_of_many_bytes(rt: HostRuntime) -> Result<(), Fail> {
         (200_000, 65_536, 5),
     ];
     for (count, piece, takes) in cases {
-        let bytes = bytes_of(alloc, count)?;
+        let bytes = repeated(alloc, count)?;
         let windows = windows_of(alloc, &bytes, piece)?;
         assert_eq!(rt; windows.takes, takes, "{count} in {piece}");
         assert_eq!(rt;

@@ -1,37 +1,20 @@
 // Journals byte by byte, and such as no recording writes.
 use super::*;
-use crate::recorded::{STEPS, input_of, record, replay};
-use disk_mem::Fails;
+use crate::recorded::{STEPS, record, replay};
 use dp_report::Status;
-use guest_file::file_of;
 use std::alloc::Global;
 use std::test::Fail;
-
-// How many bytes there are, as a journal has it.
-fn length_of(bytes: &[u8]) -> [u8; 4] {
-    let count = bytes.len().min(u32::MAX as usize) as u32;
-    u32::to_le_bytes(count)
-}
+use test_files::{EXITS_WORDS, file_of};
+use test_journals::{THREE_STEPS, journal_of};
+use test_worlds::{Failing, inlet_of};
 
 // The journal of a guest of these words whose records have these bodies.
-fn journal_of(alloc: Global, words: &[u32], bodies: &[&[u8]]) -> Result<Vec<u8>, Fail> {
-    let guest = file_of(alloc, words)?;
-    let mut journal = b"\x01DPJ1".to_vec(alloc)?;
-    journal.extend_from_slice(&length_of(&guest))?;
-    journal.extend_from_slice(&guest)?;
-    for body in bodies {
-        journal.push(1)?;
-        journal.extend_from_slice(&length_of(body))?;
-        journal.extend_from_slice(body)?;
-    }
-    journal.push(0)?;
-    Ok(journal)
+fn journal_of_words(alloc: Global, words: &[u32], bodies: &[&[u8]]) -> Result<Vec<u8>, Fail> {
+    Ok(journal_of(alloc, &file_of(alloc, words)?, bodies)?)
 }
 
 // The bodies of epochs of one slice of thread 1: three steps; two, of which one reads `abc`; three, of which the first sees the end; and
 // five, of which one takes a reading of 5.
-const BEFORE: &[u8] = b"\x00\x01\x00\x00\x00\x01\x00\x03\x00\x00\x00\x00\x00\x00\x00";
-
 const READS: &[u8] = b"\x00\x01\x00\x00\x00\x01\x00\x02\x00\x00\x00\x01\x00\x00\x00\x00\x03\x00abc";
 
 const SEES_END: &[u8] = b"\x00\x01\x00\x00\x00\x01\x00\x03\x00\x00\x00\x01\x00\x00\x00\x00\x00\x00";
@@ -47,28 +30,28 @@ fn is_written(
     clocks: &[u64],
     bodies: &[&[u8]],
 ) -> Result<bool, Fail> {
-    let input = input_of(rt.alloc(), pieces, clocks, Fails::Never)?;
-    let seen = record(rt, words, input, STEPS)?;
-    let journal = journal_of(rt.alloc(), words, bodies)?;
+    let inlet = inlet_of(rt.alloc(), pieces, clocks, Failing::Never)?;
+    let seen = record(rt, words, inlet, STEPS)?;
+    let journal = journal_of_words(rt.alloc(), words, bodies)?;
     Ok(seen.status == Status::Ok && seen.journal == journal)
 }
 
 #[test]
 fn journals_of_recordings(rt: HostRuntime) -> Result<(), Fail> {
-    let reads: &[&[u8]] = &[BEFORE, READS, SEES_END];
+    let reads: &[&[u8]] = &[&THREE_STEPS, READS, SEES_END];
     assert!(rt; is_written(&rt, &READS_TWICE, &[b"abc"], &[], reads)?);
     assert!(rt; is_written(&rt, &READS_TWICE, &[b"abc"], &[9, 8], reads)?);
     assert!(rt; is_written(&rt, &READS_CLOCK, &[], &[5], &[TAKES_READING])?);
     assert!(rt; is_written(&rt, &READS_CLOCK, &[b"abc"], &[5, 6], &[TAKES_READING])?);
-    let exits: &[&[u8]] = &[BEFORE];
-    assert!(rt; is_written(&rt, &EXITS, &[], &[], exits)?);
-    assert!(rt; is_written(&rt, &EXITS, &[b"abc", b"", b"d"], &[5, 6], exits)?);
+    let exits: &[&[u8]] = &[&THREE_STEPS];
+    assert!(rt; is_written(&rt, &EXITS_WORDS, &[], &[], exits)?);
+    assert!(rt; is_written(&rt, &EXITS_WORDS, &[b"abc", b"", b"d"], &[5, 6], exits)?);
     Ok(())
 }
 
 // The status of a replay of these bodies, where it sends this on Note and nothing on Out.
 fn plays(rt: &HostRuntime, words: &[u32], bodies: &[&[u8]], note: &[u8]) -> Result<Status, Fail> {
-    let journal = journal_of(rt.alloc(), words, bodies)?;
+    let journal = journal_of_words(rt.alloc(), words, bodies)?;
     let seen = replay(rt, &journal)?;
     if !seen.sent.is_empty() || seen.noted.as_slice() != note {
         return Err("the replay's output and its note".into());
@@ -82,7 +65,7 @@ fn journals_with_other_answers(rt: HostRuntime) -> Result<(), Fail> {
     let cases: [(&[u32], &[&[u8]], Status, &[u8]); 13] = [
         (
             &READS_TWICE,
-            &[BEFORE, READS, SEES_END],
+            &[&THREE_STEPS, READS, SEES_END],
             Status::Ok,
             b"epochs 3 squashes 0 steps 8 sent 0 end exit 0 state 44e085ae0ee54d6520e1458b2e88945eb49ddcda4841a97589c6f175eb5502b3\n",
         ),
@@ -90,7 +73,7 @@ fn journals_with_other_answers(rt: HostRuntime) -> Result<(), Fail> {
         (
             &READS_TWICE,
             &[
-                BEFORE,
+                &THREE_STEPS,
                 b"\x00\x01\x00\x00\x00\x01\x00\x02\x00\x00\x00\x01\x00\x00\x00\x00\n\x00abcdefghij",
                 SEES_END,
             ],
@@ -100,7 +83,7 @@ fn journals_with_other_answers(rt: HostRuntime) -> Result<(), Fail> {
         (
             &READS_TWICE,
             &[
-                BEFORE,
+                &THREE_STEPS,
                 b"\x00\x01\x00\x00\x00\x01\x00\x02\x00\x00\x00\x01\x00\x00\x00\x00\x0b\x00abcdefghijk",
                 SEES_END,
             ],
@@ -110,7 +93,7 @@ fn journals_with_other_answers(rt: HostRuntime) -> Result<(), Fail> {
         (
             &READS_TWICE,
             &[
-                BEFORE,
+                &THREE_STEPS,
                 b"\x00\x01\x00\x00\x00\x01\x00\x02\x00\x00\x00\x01\x00\x00\x00\x01\x05\x00\x00\x00\x00\x00\x00\x00",
                 SEES_END,
             ],
@@ -121,7 +104,7 @@ fn journals_with_other_answers(rt: HostRuntime) -> Result<(), Fail> {
         (
             &READS_TWICE,
             &[
-                BEFORE,
+                &THREE_STEPS,
                 b"\x00\x01\x00\x00\x00\x01\x00\x02\x00\x00\x00\x00\x00\x00\x00",
                 SEES_END,
             ],
@@ -131,7 +114,7 @@ fn journals_with_other_answers(rt: HostRuntime) -> Result<(), Fail> {
         (
             &READS_TWICE,
             &[
-                BEFORE,
+                &THREE_STEPS,
                 b"\x00\x01\x00\x00\x00\x01\x00\x02\x00\x00\x00\x02\x00\x00\x00\x00\x03\x00abc\x00\x00\x00",
                 SEES_END,
             ],
@@ -152,7 +135,7 @@ fn journals_with_other_answers(rt: HostRuntime) -> Result<(), Fail> {
         (
             &READS_TWICE,
             &[
-                BEFORE,
+                &THREE_STEPS,
                 READS,
                 b"\x00\x01\x00\x00\x00\x01\x00\x03\x00\x00\x00\x01\x00\x00\x00\x01\x05\x00\x00\x00\x00\x00\x00\x00",
             ],
@@ -162,7 +145,7 @@ fn journals_with_other_answers(rt: HostRuntime) -> Result<(), Fail> {
         (
             &READS_TWICE,
             &[
-                BEFORE,
+                &THREE_STEPS,
                 READS,
                 b"\x00\x01\x00\x00\x00\x01\x00\x03\x00\x00\x00\x01\x00\x00\x00\x00\x0b\x00abcdefghijk",
             ],

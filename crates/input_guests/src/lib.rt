@@ -25,9 +25,6 @@ pub const READS_CLOCK: [u32; 5] = [
     0x0000_0073,
 ];
 
-/// Exits with 7.
-pub const EXITS: [u32; 3] = [0x0070_0513, 0x0010_0893, 0x0000_0073];
-
 /// Reads so many bytes at a time as the word behind these says, and writes them, until the end of the input; then exits with 0.
 pub const FILTER: [u32; 19] = [
     0x0000_0297,

@@ -3,6 +3,7 @@
 use super::*;
 use crate::recorded::{Came, ok, recorded};
 use std::test::Fail;
+use test_files::EXITS_WORDS;
 
 #[test]
 fn two_reads(rt: HostRuntime) -> Result<(), Fail> {
@@ -110,7 +111,7 @@ fn no_input_is_asked_for(rt: HostRuntime) -> Result<(), Fail> {
         ),
     ];
     for (pieces, clocks, steps, wanted, out, note) in cases {
-        let came = recorded(&rt, &EXITS, pieces, clocks, steps, out, note)?;
+        let came = recorded(&rt, &EXITS_WORDS, pieces, clocks, steps, out, note)?;
         assert_eq!(rt; came, wanted);
     }
     Ok(())

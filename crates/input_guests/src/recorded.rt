@@ -1,42 +1,12 @@
 // A recording of a guest with an input and a clock in memory, and its replay.
-use disk_mem::{CallNumbers, Fails, MemFiles, MemInlet, MemWorld, NamedFile};
+use disk_mem::{MemInlet, MemWorld};
 use disk_model::Stream;
 use dp_report::Status;
 use dp_top::run;
-use guest_file::file_of;
 use std::alloc::Global;
 use std::test::Fail;
-
-// The take with this number fails.
-pub(crate) fn at(alloc: Global, number: u64) -> Result<Fails, Fail> {
-    Ok(Fails::At(CallNumbers::from_vec([number].to_vec(alloc)?)))
-}
-
-// What is around a recording.
-#[derive(Drop)]
-pub(crate) struct Input {
-    pub pieces: Vec<Vec<u8>>,
-    pub clocks: Vec<u64>,
-    pub fails: Fails,
-}
-
-// An input of these pieces, some of whose takes fail, and a clock with these readings.
-pub(crate) fn input_of(
-    alloc: Global,
-    pieces: &[&[u8]],
-    clocks: &[u64],
-    fails: Fails,
-) -> Result<Input, Fail> {
-    let mut owned = Vec::new(alloc);
-    for piece in pieces {
-        owned.push(piece.to_vec(alloc)?)?;
-    }
-    Ok(Input {
-        pieces: owned,
-        clocks: clocks.to_vec(alloc)?,
-        fails,
-    })
-}
+use test_files::file_of;
+use test_worlds::{Failing, disk_of, file_named, inlet_of, texts_of};
 
 // What a run came to, and what it left.
 #[derive(Drop)]
@@ -62,23 +32,15 @@ fn look_at(alloc: Global, world: &MemWorld, status: Status, takes: u64) -> Resul
 fn ran(
     rt: &HostRuntime,
     words: &[&str],
-    file: Vec<u8>,
-    input: Input,
+    file: &[u8],
+    inlet: MemInlet,
     disk: &[u8],
 ) -> Result<Seen, Fail> {
     let alloc = rt.alloc();
-    let mut texts = Vec::new(alloc);
-    for word in words {
-        texts.push(String::from_str(alloc, word)?)?;
-    }
-    let mut named = Vec::new(alloc);
-    named.push(NamedFile {
-        name: String::from_str(alloc, "g")?,
-        bytes: file,
-    })?;
-    let mut files = MemFiles::new(named, Fails::Never);
-    let mut inlet = MemInlet::new(input.pieces, input.clocks, input.fails);
-    let world = MemWorld::new(alloc, Fails::Never, Fails::Never, 65_536)?.of_disk(alloc, disk)?;
+    let texts = texts_of(alloc, words)?;
+    let mut files = file_named(alloc, "g", file, Failing::Never)?;
+    let mut inlet = inlet;
+    let world = disk_of(alloc, disk, Failing::Never)?;
     let (after, status) = run(rt, alloc, &texts, &mut files, &mut inlet, world);
     look_at(alloc, &after, status, inlet.takes())
 }
@@ -90,27 +52,21 @@ pub(crate) const STEPS: (&str, &str) = ("20000", "1000");
 pub(crate) fn record(
     rt: &HostRuntime,
     words: &[u32],
-    input: Input,
+    inlet: MemInlet,
     steps: (&str, &str),
 ) -> Result<Seen, Fail> {
     let file = file_of(rt.alloc(), words)?;
     let asked = [
         "dpcli", "record", "g", "j", "--epoch", steps.0, "--slice", steps.1,
     ];
-    ran(rt, &asked, file, input, &[])
+    ran(rt, &asked, &file, inlet, &[])
 }
 
 // A replay of a journal, with no input and no file.
 pub(crate) fn replay(rt: &HostRuntime, journal: &[u8]) -> Result<Seen, Fail> {
     let alloc = rt.alloc();
-    let none = input_of(alloc, &[], &[], Fails::Never)?;
-    ran(
-        rt,
-        &["dpcli", "replay", "j"],
-        Vec::new(alloc),
-        none,
-        journal,
-    )
+    let none = inlet_of(alloc, &[], &[], Failing::Never)?;
+    ran(rt, &["dpcli", "replay", "j"], &[], none, journal)
 }
 
 // What a recording came to and its replay: both statuses, the journal's bytes, and how often the input was asked.
@@ -126,12 +82,12 @@ pub(crate) struct Came {
 pub(crate) fn came_to(
     rt: &HostRuntime,
     words: &[u32],
-    input: Input,
+    inlet: MemInlet,
     steps: (&str, &str),
     out: &[u8],
     notes: (&[u8], &[u8]),
 ) -> Result<Came, Fail> {
-    let seen = record(rt, words, input, steps)?;
+    let seen = record(rt, words, inlet, steps)?;
     if seen.sent.as_slice() != out || seen.noted.as_slice() != notes.0 {
         return Err("the recording's output and its note".into());
     }
@@ -157,8 +113,8 @@ pub(crate) fn recorded(
     out: &[u8],
     note: &[u8],
 ) -> Result<Came, Fail> {
-    let input = input_of(rt.alloc(), pieces, clocks, Fails::Never)?;
-    came_to(rt, words, input, steps, out, (note, note))
+    let inlet = inlet_of(rt.alloc(), pieces, clocks, Failing::Never)?;
+    came_to(rt, words, inlet, steps, out, (note, note))
 }
 
 // A recording and its replay that both answer Ok.

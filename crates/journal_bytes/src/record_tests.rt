@@ -1,25 +1,6 @@
-use dp_base::OutOfMemory;
-use journal_text::{Frame, Head, Rec, header, next_record};
-use std::alloc::Global;
+use journal_text::{Head, header};
 use std::test::Fail;
-
-#[derive(Clone, Copy, Debug, PartialEq, Eq)]
-enum Kind {
-    Epoch,
-    Mark,
-    End,
-    Bad,
-}
-
-// What stands at the place, the place that the answer tells (0: none), and how many bytes the body has.
-fn seen(file: &[u8], at: u64) -> (Kind, u64, usize) {
-    match next_record(file, at) {
-        Rec::Epoch { body, next } => (Kind::Epoch, next, body.len()),
-        Rec::Mark { body, next } => (Kind::Mark, next, body.len()),
-        Rec::End { at } => (Kind::End, at, 0),
-        Rec::Bad => (Kind::Bad, 0, 0),
-    }
-}
+use test_journals::{Kind, frame_of_three_steps, seen};
 
 #[test]
 fn records(rt: HostRuntime) {
@@ -131,15 +112,6 @@ fn headers(rt: HostRuntime) {
     for (file, want) in cases {
         assert_eq!(rt; guest_len(file), want);
     }
-}
-
-// The frame of an epoch of three steps.
-#[tactic(auto, unfolding(journal_text::specs::Records::record_in, dp_base::specs::Journal::epoch_body_at, dp_base::specs::Journal::many_at, dp_base::specs::Journal::slice_at))]
-fn frame_of_three_steps(alloc: Global) -> Result<Frame, OutOfMemory> {
-    Frame::of(
-        alloc,
-        b"\x00\x01\x00\x00\x00\x01\x00\x03\x00\x00\x00\x00\x00\x00\x00",
-    )
 }
 
 #[test]

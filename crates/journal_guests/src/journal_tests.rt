@@ -1,27 +1,20 @@
 // Journals on memory forms: what doesn't fit or fails, and what is read back.
 ghost use Rattle.std.specs.Prelude.{◌≤◌};
 
-use crate::worlds::{Failing, disk_of};
 use disk_mem::MemWorld;
 use dp_base::OutOfMemory;
 use epoch_journal::{AppendFault, BeginFault, Journal, read_whole};
 use journal_text::Frame;
 use std::alloc::Global;
 use std::test::Fail;
+use test_files::repeated;
+use test_journals::frame_of_three_steps;
+use test_worlds::{Failing, disk_of};
 
 const ROOM: u64 = 1 << 30;
 
 // A journal of a guest of one byte: the header and the closed gate are 11 bytes, and each record's frame is 20.
 const GUEST: &[u8] = b"\xaa";
-
-// The frame of an epoch of three steps.
-#[tactic(auto, unfolding(journal_text::specs::Records::record_in, dp_base::specs::Journal::epoch_body_at, dp_base::specs::Journal::many_at, dp_base::specs::Journal::slice_at))]
-fn frame_of_three_steps(alloc: Global) -> Result<Frame, OutOfMemory> {
-    Frame::of(
-        alloc,
-        b"\x00\x01\x00\x00\x00\x01\x00\x03\x00\x00\x00\x00\x00\x00\x00",
-    )
-}
 
 // What a journal's beginning on a disk with these bytes comes to: the fault, how many calls there were, and whether the disk
 // has these bytes behind it.
@@ -166,20 +159,11 @@ fn reads_failing(alloc: Global, disk: &[u8], number: u64) -> Result<(bool, u64),
     Ok((is_read, world.disk_calls()))
 }
 
-// Bytes that repeat after 251.
-fn long_disk(alloc: Global) -> Result<Vec<u8>, Fail> {
-    let mut long = Vec::new(alloc);
-    for number in 0..70_000_u32 {
-        long.push((number % 251) as u8)?;
-    }
-    Ok(long)
-}
-
 // A disk is read whole, in as many reads as it needs; where one fails, nothing is answered but that.
 #[test]
 fn disks_read_whole(rt: HostRuntime) -> Result<(), Fail> {
     let alloc = rt.alloc();
-    let long = long_disk(alloc)?;
+    let long = repeated(alloc, 70_000)?;
     for disk in [b"".as_slice(), b"\x01", &long] {
         let (is_same, calls) = reads_whole(alloc, disk)?;
         assert!(rt; is_same);

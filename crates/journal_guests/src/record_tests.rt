@@ -1,64 +1,13 @@
 // Records of a journal, whole and damaged: each field at its least, at its greatest and one past.
-use super::EXITS;
-use crate::state_tests::started;
-use checkpoint::encode;
-use journal_text::{Rec, next_record};
+use super::mark_of_start;
 use std::alloc::Global;
 use std::test::Fail;
-
-#[derive(Clone, Copy, Debug, PartialEq, Eq)]
-enum Kind {
-    Epoch,
-    Mark,
-    End,
-    Bad,
-}
-
-// What stands at a gate, where the next gate is, and how long the body is.
-fn seen(file: &[u8], at: u64) -> (Kind, u64, usize) {
-    match next_record(file, at) {
-        Rec::Epoch { body, next } => (Kind::Epoch, next, body.len()),
-        Rec::Mark { body, next } => (Kind::Mark, next, body.len()),
-        Rec::End { at } => (Kind::End, at, 0),
-        Rec::Bad => (Kind::Bad, 0, 0),
-    }
-}
-
-// How many bytes there are, as a journal has it.
-fn length_of(bytes: &[u8]) -> [u8; 4] {
-    let count = bytes.len().min(u32::MAX as usize) as u32;
-    u32::to_le_bytes(count)
-}
-
-// The body behind its open gate, and the closed gate.
-fn recorded(alloc: Global, body: &[u8]) -> Result<Vec<u8>, Fail> {
-    let mut file = Vec::new(alloc);
-    file.push(1)?;
-    file.extend_from_slice(&length_of(body))?;
-    file.extend_from_slice(body)?;
-    file.push(0)?;
-    Ok(file)
-}
-
-// The bytes with so many of them, from a place on, replaced.
-fn replaced(
-    alloc: Global,
-    bytes: &[u8],
-    at: usize,
-    count: usize,
-    by: &[u8],
-) -> Result<Vec<u8>, Fail> {
-    let (before, rest) = bytes.split_at(at.min(bytes.len()));
-    let (_, behind) = rest.split_at(count.min(rest.len()));
-    let mut joined = before.to_vec(alloc)?;
-    joined.extend_from_slice(by)?;
-    joined.extend_from_slice(behind)?;
-    Ok(joined)
-}
+use test_files::{EXITS, replaced};
+use test_journals::{Kind, records_of, seen};
 
 // Whether a body is of this kind and the journal ends behind its record. It is a bad record's else.
 fn is_record(alloc: Global, body: &[u8], wanted: Kind) -> Result<bool, Fail> {
-    let file = recorded(alloc, body)?;
+    let file = records_of(alloc, &[body])?;
     let (kind, next, len) = seen(&file, 0);
     if kind == Kind::Bad {
         return Ok(false);
@@ -72,18 +21,6 @@ fn is_record(alloc: Global, body: &[u8], wanted: Kind) -> Result<bool, Fail> {
 // Whether a mark's body with some bytes replaced is a mark's.
 fn is_mark(alloc: Global, body: &[u8], at: usize, count: usize, by: &[u8]) -> Result<bool, Fail> {
     is_record(alloc, &replaced(alloc, body, at, count, by)?, Kind::Mark)
-}
-
-// The state in which a guest starts, as a mark's body of 69,880 bytes.
-fn body_of_a_start(alloc: Global, guest: &[u8]) -> Result<Vec<u8>, Fail> {
-    let state = started(alloc, guest)?;
-    let encoding = encode(alloc, &state)?;
-    let body = replaced(alloc, &encoding, 0, 0, b"\x01")?;
-    if body.len() == 69_880 {
-        Ok(body)
-    } else {
-        Err("a start state's encoding has 69,879 bytes".into())
-    }
 }
 
 // In each table a row is an offset in the body, how many bytes are replaced, by what, and whether it is a mark then.
@@ -106,7 +43,7 @@ const NUMBERS: [(usize, usize, &[u8], bool); 11] = [
 
 #[test]
 fn numbers_of_a_mark(rt: HostRuntime) -> Result<(), Fail> {
-    let body = body_of_a_start(rt.alloc(), &EXITS)?;
+    let body = mark_of_start(rt.alloc(), &EXITS)?;
     for (at, count, by, answer) in NUMBERS {
         assert_eq!(rt; is_mark(rt.alloc(), &body, at, count, by)?, answer);
     }
@@ -132,7 +69,7 @@ const END_AND_THREADS: [(usize, usize, &[u8], bool); 12] = [
 
 #[test]
 fn end_and_threads_of_a_mark(rt: HostRuntime) -> Result<(), Fail> {
-    let body = body_of_a_start(rt.alloc(), &EXITS)?;
+    let body = mark_of_start(rt.alloc(), &EXITS)?;
     for (at, count, by, answer) in END_AND_THREADS {
         assert_eq!(rt; is_mark(rt.alloc(), &body, at, count, by)?, answer);
     }
@@ -161,7 +98,7 @@ const PAGES: [(usize, usize, &[u8], bool); 12] = [
 
 #[test]
 fn pages_of_a_mark(rt: HostRuntime) -> Result<(), Fail> {
-    let body = body_of_a_start(rt.alloc(), &EXITS)?;
+    let body = mark_of_start(rt.alloc(), &EXITS)?;
     for (at, count, by, answer) in PAGES {
         assert_eq!(rt; is_mark(rt.alloc(), &body, at, count, by)?, answer);
     }

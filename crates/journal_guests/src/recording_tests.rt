@@ -1,15 +1,16 @@
 // Recordings on memory forms, epoch by epoch.
 ghost use Rattle.std.specs.Prelude.{◌<◌, ◌≤◌};
 
-use super::{EXITS, EXITS_ENDED, WRITES, WRITES_ENDED};
-use crate::worlds::{Failing, world_of};
-use disk_mem::{Call, Fails, MemInlet, MemWorld};
+use super::{EXITS_ENDED, WRITES_ENDED};
+use disk_mem::{Fails, MemInlet, MemWorld};
 use disk_model::Stream;
 use dp_report::Report;
 use guest_kernel::{End, start_from_file};
 use recorder::{Options, RecordFault, record_};
 use std::alloc::Global;
 use std::test::Fail;
+use test_files::{EXITS, WRITES};
+use test_worlds::{Failing, letters_of, world_of};
 
 // The steps of an epoch and of the recording, and the journal's room.
 fn options(epoch: u32, limit: u64, room: u64) -> Options
@@ -88,33 +89,12 @@ fn came_to(
     Ok(look_at(&after, answer, out, b""))
 }
 
-fn letter(call: &Call) -> u8 {
-    match call {
-        Call::Attach { .. } => b'a',
-        Call::Len { .. } => b'l',
-        Call::Read { .. } => b'r',
-        Call::Write { .. } => b'w',
-        Call::Cut { .. } => b'c',
-        Call::Sync { .. } => b's',
-        Call::Emit { .. } => b'e',
-    }
-}
-
-// Whether there is just a call for each letter, in order.
-fn are_letters(calls: &[Call], letters: &[u8]) -> bool {
-    for (call, wanted) in calls.iter().zip(letters) {
-        if letter(call) != *wanted {
-            return false;
-        }
-    }
-    calls.len() == letters.len()
-}
-
 // Whether a recording of `WRITES` in epochs of one step makes these calls.
 fn makes_calls(rt: &HostRuntime, letters: &[u8]) -> Result<bool, Fail> {
     let empty = world_of(rt.alloc(), Failing::Never, Failing::Never, 4096)?;
     let (after, _) = recorded(rt, &WRITES, options(1, LIMIT, ROOM), empty)?;
-    Ok(are_letters(after.calls(), letters))
+    let seen = letters_of(rt.alloc(), after.calls())?;
+    Ok(seen.as_slice() == letters)
 }
 
 #[test]
@@ -132,7 +112,7 @@ fn nine_epochs(rt: HostRuntime) -> Result<(), Fail> {
     assert_eq!(rt; (came.journal, came.is_sent), (314, true));
     // The length, the header's three writes, and four calls an epoch. The sixth sends its output behind them, and the
     // last call sends the note.
-    let letters = b"lwswswswswswswswswswswswswswswsewswswswswswse";
+    let letters = b"LWSWSWSWSWSWSWSWSWSWSWSWSWSWSWSEWSWSWSWSWSWSE";
     assert!(rt; makes_calls(&rt, letters)?);
     Ok(())
 }

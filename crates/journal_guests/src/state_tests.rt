@@ -2,7 +2,6 @@
 ghost use Rattle.std.specs.Prelude.{IfOk};
 ghost use Rattle.checkpoint.specs.State.{IsEncodable};
 
-use super::EXITS;
 use checkpoint::{decode, encode};
 use disk_mem::CallNumbers;
 use dp_base::Bytes;
@@ -10,6 +9,7 @@ use guest_kernel::{State, start_from_file};
 use state_compare::equal;
 use std::alloc::Global;
 use std::test::Fail;
+use test_files::EXITS;
 
 #[test]
 fn lists_given_back(rt: HostRuntime) -> Result<(), Fail> {
@@ -20,7 +20,7 @@ fn lists_given_back(rt: HostRuntime) -> Result<(), Fail> {
     Ok(())
 }
 
-pub(crate) fn started(alloc: Global, file: &[u8]) -> Result<State, Fail>
+fn started(alloc: Global, file: &[u8]) -> Result<State, Fail>
     ensures { IfOk result IsEncodable }
 {
     checkpoint::laws::a_start_state_is_encodable();

@@ -1,11 +1,10 @@
 // What a crash leaves after a few calls, by each pick. The values come from the model of a disk, by hand.
-use crate::failing::fails_at;
 use crate::step::{Step, take_step};
 use Step::{Cut, Nothing, Sync, Write};
-use disk_mem::{Fails, MemWorld};
 use dp_base::OutOfMemory;
 use std::alloc::Global;
 use std::test::Fail;
+use test_worlds::{Failing, disk_of};
 
 // The image of a pick behind three steps on a disk with these bytes, where the call with this number fails.
 fn image(
@@ -15,8 +14,7 @@ fn image(
     failing: u64,
     pick: u32,
 ) -> Result<Vec<u8>, OutOfMemory> {
-    let fails = fails_at(alloc, &[failing])?;
-    let mut world = MemWorld::new(alloc, fails, Fails::Never, 1)?.of_disk(alloc, first)?;
+    let mut world = disk_of(alloc, first, Failing::At(failing))?;
     for step in steps {
         let _ = take_step(&mut world, step);
     }

@@ -3,12 +3,12 @@ ghost use Rattle.std.specs.Prelude.{◌≤◌, IsErrOf, IfOk};
 ghost use Rattle.disk_model.specs.declared.files.TheConstants.{MAX_FETCH_BYTES};
 ghost use Rattle.disk_model.specs.Counts.{Rose};
 
-use crate::failing::{Failing, fails_of};
-use disk_mem::{Fails, MemFiles, MemInlet, NamedFile};
+use disk_mem::{Fails, MemFiles, NamedFile};
 use disk_model::{FetchFault, Files, Inlet, MAX_FETCH_BYTES};
 use dp_base::OutOfMemory;
 use std::alloc::Global;
 use std::test::Fail;
+use test_worlds::{Failing, fails_of, inlet_of};
 
 fn file_len<F: Files>(files: &mut F, alloc: Global, name: &str) -> Result<usize, FetchFault>
     ensures few { IfOk result (λ n. n ≤ MAX_FETCH_BYTES) }
@@ -93,7 +93,7 @@ fn fetches_by_name(rt: HostRuntime) -> Result<(), Fail> {
             2,
         ),
         (
-            Failing::At(&[3]),
+            Failing::At(3),
             [Ok(1), Ok(0), absent, absent, Ok(MAX_FETCH_BYTES), absent],
             3,
         ),
@@ -108,15 +108,6 @@ fn fetches_by_name(rt: HostRuntime) -> Result<(), Fail> {
     }
     assert!(rt; has_file(rt.alloc(), "one", b"1")?);
     Ok(())
-}
-
-fn inlet_of(alloc: Global, pieces: [&[u8]; 3], fails: Fails) -> Result<MemInlet, OutOfMemory> {
-    let mut all = Vec::new(alloc);
-    for piece in pieces {
-        all.push(piece.to_vec(alloc)?)?;
-    }
-    let clocks = [5, 7].to_vec(alloc)?;
-    Ok(MemInlet::new(all, clocks, fails))
 }
 
 // How many bytes a take gives, 9 where it fails. They are added to what was given.
@@ -153,7 +144,7 @@ fn takes_of(
     failing: Failing,
     wanted: &[u8],
 ) -> Result<(([u8; 5], bool), u64, u64), OutOfMemory> {
-    let mut inlet = inlet_of(alloc, pieces, fails_of(alloc, failing)?)?;
+    let mut inlet = inlet_of(alloc, &pieces, &[5, 7], failing)?;
     let taken = five_takes(alloc, &mut inlet, sizes, wanted)?;
     Ok((taken, inlet.takes(), inlet.input_fault_count()))
 }
@@ -182,7 +173,7 @@ const TAKES: [([&[u8]; 3], [usize; 5], Failing, [u8; 5], &[u8], u64); 4] = [
     (
         [b"ab", b"c", b"d"],
         [1, 4, 4, 4, 4],
-        Failing::At(&[2]),
+        Failing::At(2),
         [1, 9, 1, 1, 1],
         b"abcd",
         1,

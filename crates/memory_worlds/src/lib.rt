@@ -11,8 +11,6 @@ mod clock_tests;
 #[cfg(test)]
 mod crash_tests;
 #[cfg(test)]
-mod failing;
-#[cfg(test)]
 mod files_and_inlet_tests;
 #[cfg(test)]
 mod record_tests;

@@ -1,11 +1,10 @@
 // What a disk and two streams in memory record of each call, and what is kept of it with another disk.
-use crate::failing::fails_at;
-use crate::world_tests::has_letters;
-use disk_mem::{Call, Fails, MemWorld};
+use disk_mem::{Call, MemWorld};
 use disk_model::{Failed, Stream, World};
 use dp_base::OutOfMemory;
 use std::alloc::Global;
 use std::test::Fail;
+use test_worlds::{Failing, letters_of, world_of};
 
 // What five calls on the disk answer, in order, the third of which may fail, and an emit behind the first three.
 fn six_calls(world: &mut MemWorld) -> ([Result<(), Failed>; 5], Result<usize, Failed>) {
@@ -51,7 +50,7 @@ fn are_as_made(calls: &[Call]) -> bool {
 
 // An empty disk whose third call fails, and which takes two bytes at an emit.
 fn third_call_fails(alloc: Global) -> Result<MemWorld, OutOfMemory> {
-    MemWorld::new(alloc, fails_at(alloc, &[3])?, Fails::Never, 2)
+    world_of(alloc, Failing::At(3), Failing::Never, 2)
 }
 
 // The answers of the six calls there, and whether the record has these letters and the calls as they were made.
@@ -64,7 +63,7 @@ fn six_calls_as(
     Ok((
         answers,
         [
-            has_letters(world.calls(), letters),
+            letters_of(alloc, world.calls())?.as_slice() == letters,
             are_as_made(world.calls()),
         ],
     ))

@@ -3,13 +3,13 @@ ghost use Rattle.std.specs.Prelude.{◌≡◌, ◌≤◌, ◌++◌, List, ℕ, S
 ghost use Rattle.disk_model.specs.Counts.{Rose};
 ghost use Rattle.disk_model.specs.Known.{known_disk};
 
-use crate::failing::{Failing, fails_of};
 use crate::step::{Step, take_step};
-use disk_mem::{Call, Fails, MemWorld};
+use disk_mem::MemWorld;
 use disk_model::{Failed, Stream, World};
 use dp_base::OutOfMemory;
 use std::alloc::Global;
 use std::test::Fail;
+use test_worlds::{Failing, disk_of, letters_of, world_of};
 
 // Through the bound alone, as a crate above does.
 fn append<W: World>(world: &mut W, bytes: &[u8]) -> Result<(), Failed>
@@ -21,33 +21,6 @@ fn append<W: World>(world: &mut W, bytes: &[u8]) -> Result<(), Failed>
     let end = world.len()?;
     world.write_at(end, bytes)?;
     world.sync()
-}
-
-// A letter for each call: small if it failed.
-fn letter(call: &Call) -> u8 {
-    let (letter, ok) = match call {
-        Call::Attach { ok } => (b'A', *ok),
-        Call::Len { ok } => (b'L', *ok),
-        Call::Read { ok, .. } => (b'R', *ok),
-        Call::Write { ok, .. } => (b'W', *ok),
-        Call::Cut { ok, .. } => (b'C', *ok),
-        Call::Sync { ok } => (b'S', *ok),
-        Call::Emit { ok, .. } => (b'E', *ok),
-    };
-    if ok {
-        letter
-    } else {
-        letter.to_ascii_lowercase()
-    }
-}
-
-pub(crate) fn has_letters(calls: &[Call], wanted: &[u8]) -> bool {
-    for (call, wanted) in calls.iter().zip(wanted) {
-        if letter(call) != *wanted {
-            return false;
-        }
-    }
-    calls.len() == wanted.len()
 }
 
 // Whether a call fails just where its letter is small.
@@ -78,11 +51,11 @@ fn seven_calls_as(
     letters: &[u8],
     bytes: &[u8],
 ) -> Result<([bool; 3], [u64; 4], bool), OutOfMemory> {
-    let mut world = MemWorld::new(alloc, fails_of(alloc, disk)?, Fails::From(1), 4)?;
+    let mut world = world_of(alloc, disk, Failing::From(1), 4)?;
     Ok((
         [
             fail_as(&mut world, letters),
-            has_letters(world.calls(), letters),
+            letters_of(alloc, world.calls())?.as_slice() == letters,
             world.bytes() == bytes,
         ],
         [
@@ -98,10 +71,10 @@ fn seven_calls_as(
 // Which calls fail, a letter for each of seven, the bytes that they leave, and how many failed.
 const CALLS: [(Failing, &[u8], &[u8], u64); 7] = [
     (Failing::Never, b"AWLRCWS", b"abd", 0),
-    (Failing::At(&[2]), b"AwLRCWS", b"\0\0d", 1),
-    (Failing::At(&[5, 4]), b"AWLrcWS", b"abd", 2),
-    (Failing::At(&[7, 1]), b"aWLRCWs", b"abd", 2),
-    (Failing::At(&[0, 8]), b"AWLRCWS", b"abd", 0),
+    (Failing::At(2), b"AwLRCWS", b"\0\0d", 1),
+    (Failing::AtBoth(5, 4), b"AWLrcWS", b"abd", 2),
+    (Failing::AtBoth(7, 1), b"aWLRCWs", b"abd", 2),
+    (Failing::AtBoth(0, 8), b"AWLRCWS", b"abd", 0),
     (Failing::From(5), b"AWLRcws", b"abc", 3),
     (Failing::From(1), b"awlrcws", b"", 7),
 ];
@@ -144,8 +117,7 @@ fn four_emits_as(
     out: &[u8],
     note: &[u8],
 ) -> Result<([bool; 3], [u64; 3], bool), OutOfMemory> {
-    let sink = fails_of(alloc, sink)?;
-    let mut world = MemWorld::new(alloc, Fails::From(1), sink, piece.max(1))?;
+    let mut world = world_of(alloc, Failing::From(1), sink, piece.max(1))?;
     Ok((
         [
             take_as(&mut world, taken),
@@ -184,7 +156,7 @@ const EMITS: [(Failing, u32, [Result<usize, Failed>; 4], &[u8], &[u8], u64); 5] 
         0,
     ),
     (
-        Failing::At(&[1]),
+        Failing::At(1),
         2,
         [Err(Failed), Ok(2), Ok(1), Ok(0)],
         b"\n",
@@ -214,11 +186,6 @@ fn emits_in_pieces(rt: HostRuntime) -> Result<(), Fail> {
     Ok(())
 }
 
-// A disk with these bytes, no call of which fails.
-fn disk_of(alloc: Global, bytes: &[u8]) -> Result<MemWorld, OutOfMemory> {
-    MemWorld::new(alloc, Fails::Never, Fails::Never, 1)?.of_disk(alloc, bytes)
-}
-
 // What a write on a disk of five bytes answers, whether it leaves these, and the length behind it.
 fn written_as(
     alloc: Global,
@@ -226,7 +193,7 @@ fn written_as(
     bytes: &[u8],
     after: &[u8],
 ) -> Result<(Result<(), Failed>, bool, Result<u64, Failed>), OutOfMemory> {
-    let mut world = disk_of(alloc, b"abcde")?;
+    let mut world = disk_of(alloc, b"abcde", Failing::Never)?;
     let answer = world.write_at(at, bytes);
     let is_after = world.bytes() == after;
     Ok((answer, is_after, world.len()))
@@ -258,7 +225,7 @@ fn read_as(
     at: u64,
     after: &[u8],
 ) -> Result<(Result<usize, Failed>, bool), OutOfMemory> {
-    let mut world = disk_of(alloc, b"abcde")?;
+    let mut world = disk_of(alloc, b"abcde", Failing::Never)?;
     let mut buf = [b'.'; 4];
     let answer = world.read_at(at, &mut buf);
     Ok((answer, buf.as_slice() == after))
@@ -290,7 +257,7 @@ fn cut_as(
     len: u64,
     after: &[u8],
 ) -> Result<(Result<(), Failed>, bool), OutOfMemory> {
-    let mut world = disk_of(alloc, b"abcde")?;
+    let mut world = disk_of(alloc, b"abcde", Failing::Never)?;
     let answer = world.cut(len);
     Ok((answer, world.bytes() == after))
 }
@@ -320,7 +287,7 @@ fn past_all_memory(
     first: &[u8],
     second: &[u8],
 ) -> Result<([Result<(), Failed>; 2], [bool; 4], u64, usize), OutOfMemory> {
-    let mut world = disk_of(alloc, b"abc")?;
+    let mut world = disk_of(alloc, b"abc", Failing::Never)?;
     let far = world.write_at(at, b"xy");
     let is_first = world.bytes() == first;
     let (far_failed, faults) = (world.allocation_failed(), world.disk_fault_count());
@@ -351,8 +318,7 @@ fn appended_as(
     from: u64,
     after: &[u8],
 ) -> Result<([Result<(), Failed>; 2], bool), OutOfMemory> {
-    let empty = MemWorld::new(alloc, Fails::From(from), Fails::Never, 1)?;
-    let mut world = empty.of_disk(alloc, b"ab")?;
+    let mut world = disk_of(alloc, b"ab", Failing::From(from))?;
     let answers = [append(&mut world, b"cd"), append(&mut world, b"ef")];
     Ok((answers, world.bytes() == after))
 }

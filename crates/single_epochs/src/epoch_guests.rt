@@ -1,5 +1,4 @@
 // Guests of a few words of code for the tests, and what an epoch of one has done.
-use disk_mem::{Fails, MemInlet};
 use dp_base::limits::{MAX_EPOCH_STEPS, MAX_THREADS};
 use dp_base::{Slice, Tid};
 use epoch_runner::{Bounds, Ran, run_epoch};
@@ -7,6 +6,7 @@ use guest_kernel::{End, Hart, Pages, State, Thread, Threads};
 use std::alloc::{AllocError, Global};
 use std::test::Fail;
 use supply::{MAX_ROOM, Supply};
+use test_worlds::{Failing, inlet_of};
 
 // jal x0, 0: a jump to itself
 pub(crate) const JUMP: u32 = 0x0000_006f;
@@ -135,9 +135,7 @@ pub(crate) fn nothing_known(alloc: Global) -> Result<Supply, Fail> {
 
 // The window behind so many refills from an input of these bytes.
 pub(crate) fn supply_of(alloc: Global, bytes: &[u8], refills: u32) -> Result<Supply, Fail> {
-    let mut pieces = Vec::new(alloc);
-    pieces.push(bytes.to_vec(alloc)?)?;
-    let mut inlet = MemInlet::new(pieces, Vec::new(alloc), Fails::Never);
+    let mut inlet = inlet_of(alloc, &[bytes], &[], Failing::Never)?;
     let mut supply = Supply::new(alloc, MAX_ROOM)?;
     for _ in 0..refills {
         if !supply.has_ended() && supply.window_end() < 1 << 62 {

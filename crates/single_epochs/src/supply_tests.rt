@@ -1,17 +1,9 @@
-use disk_mem::{CallNumbers, Fails, MemInlet};
 use disk_model::Inlet;
 use dp_base::OutOfMemory;
 use std::alloc::Global;
 use std::test::Fail;
 use supply::{InputFault, MAX_ROOM, Supply};
-
-fn inlet_of(alloc: Global, pieces: [&[u8]; 3], fails: Fails) -> Result<MemInlet, OutOfMemory> {
-    let mut all = Vec::new(alloc);
-    for piece in pieces {
-        all.push(piece.to_vec(alloc)?)?;
-    }
-    Ok(MemInlet::new(all, Vec::new(alloc), fails))
-}
+use test_worlds::{Failing, inlet_of};
 
 // What four refills give, a line for each: `!` for one that fails, `.` where the end was seen before or is seen.
 fn four_refills<I: Inlet>(alloc: Global, inlet: &mut I, room: u32) -> Result<Vec<u8>, OutOfMemory> {
@@ -42,38 +34,37 @@ fn four_refills<I: Inlet>(alloc: Global, inlet: &mut I, room: u32) -> Result<Vec
 #[test]
 fn refills_of_pieces(rt: HostRuntime) -> Result<(), Fail> {
     let alloc = rt.alloc();
-    let second = CallNumbers::from_vec([2].to_vec(alloc)?);
     let cases = [
         // Pieces that are longer than the room.
         (
             [b"abcde".as_slice(), b"f".as_slice(), b"g".as_slice()],
             2,
-            Fails::Never,
+            Failing::Never,
             b"ab\ncd\ne\nf\n".as_slice(),
         ),
         // An empty piece is the end.
         (
             [b"abc".as_slice(), b"".as_slice(), b"d".as_slice()],
             8,
-            Fails::Never,
+            Failing::Never,
             b"abc\n...".as_slice(),
         ),
         // A take that fails loses nothing.
         (
             [b"abc".as_slice(), b"d".as_slice(), b"".as_slice()],
             2,
-            Fails::At(second),
+            Failing::At(2),
             b"ab\n!c\nd\n".as_slice(),
         ),
         (
             [b"abc".as_slice(), b"d".as_slice(), b"".as_slice()],
             MAX_ROOM,
-            Fails::From(1),
+            Failing::From(1),
             b"!!!!".as_slice(),
         ),
     ];
-    for (pieces, room, fails, lines) in cases {
-        let mut inlet = inlet_of(alloc, pieces, fails)?;
+    for (pieces, room, failing, lines) in cases {
+        let mut inlet = inlet_of(alloc, &pieces, &[], failing)?;
         assert_eq!(rt; four_refills(alloc, &mut inlet, room)?.as_slice(), lines);
     }
     Ok(())
@@ -82,14 +73,14 @@ fn refills_of_pieces(rt: HostRuntime) -> Result<(), Fail> {
 // The answers of a window "cde" at place 2, and of the end at place 5.
 fn windows_of(alloc: Global) -> Result<(Supply, Supply), OutOfMemory> {
     let pieces = [b"ab".as_slice(), b"cde".as_slice(), b"".as_slice()];
-    let mut inlet = inlet_of(alloc, pieces, Fails::Never)?;
+    let mut inlet = inlet_of(alloc, &pieces, &[], Failing::Never)?;
     let mut window = Supply::new(alloc, 3)?;
     let _ = window.refill(&mut inlet);
     if !window.has_ended() && window.window_end() < 1 << 62 {
         let _ = window.refill(&mut inlet);
     }
     let mut end = Supply::new(alloc, 3)?;
-    let mut inlet = inlet_of(alloc, [b"abc", b"de", b""], Fails::Never)?;
+    let mut inlet = inlet_of(alloc, &[b"abc", b"de", b""], &[], Failing::Never)?;
     for _ in 0..3 {
         if !end.has_ended() && end.window_end() < 1 << 62 {
             let _ = end.refill(&mut inlet);
@@ -127,7 +118,7 @@ fn a_stamp_stays(rt: HostRuntime) -> Result<(), Fail> {
     let mut supply = Supply::new(alloc, 1)?;
     assert_eq!(rt; supply.stamp(), 0);
     supply.set_stamp(u64::MAX);
-    let mut inlet = inlet_of(alloc, [b"a", b"b", b"c"], Fails::From(2))?;
+    let mut inlet = inlet_of(alloc, &[b"a", b"b", b"c"], &[], Failing::From(2))?;
     let _ = supply.refill(&mut inlet);
     assert_eq!(rt; supply.stamp(), u64::MAX);
     Ok(())

@@ -1,9 +1,9 @@
 // How many pages guests start with, and files that are refused, each by hand.
-use crate::guests::EXIT_SEVEN;
-use crate::start_tests::{file_of, patched};
+use crate::start_tests::file_of;
 use guest_kernel::{ImageFault, start_from_file};
 use std::alloc::{AllocError, Global};
 use std::test::Fail;
+use test_files::{EXITS_WORDS, replaced};
 
 // How many pages the guest of a file starts with.
 fn pages_of(alloc: Global, file: &[u8]) -> Result<u32, ImageFault> {
@@ -70,9 +70,9 @@ fn pages_with(
     offset: usize,
     bytes: &[u8],
 ) -> Result<Result<u32, ImageFault>, AllocError> {
-    let mut file = guest_file::file_of(alloc, &EXIT_SEVEN)?;
+    let mut file = test_files::file_of(alloc, &EXITS_WORDS)?;
     file.resize(length, 0)?;
-    let file = patched(alloc, &file, offset, bytes)?;
+    let file = replaced(alloc, &file, offset, bytes.len(), bytes)?;
     Ok(pages_of(alloc, &file))
 }
 

@@ -3,11 +3,12 @@ ghost use Rattle.std.specs.Prelude.{◌≡◌, ◌<◌, ◌^◌, length};
 ghost use Rattle.dp_base.specs.Journal.{steps_of};
 ghost use Rattle.guest_kernel.specs.Answers.{bytes_read};
 
-use crate::guests::{EXIT_SEVEN, started};
+use crate::guests::started;
 use dp_base::{Answer, OutOfMemory, Slice, Tid};
 use guest_kernel::{End, Hart, SliceRun, State, Thread, Threads, Turn};
 use std::alloc::Global;
 use std::test::Fail;
+use test_files::{EXITS_WORDS, WRITES_WORDS};
 
 const ADDI_TO_X0: u32 = 0x0000_0013;
 
@@ -97,7 +98,7 @@ fn ending(before: u16, end: End, pc: u32) -> Around {
 // The words, how many steps there are before the last one, the end, and where thread 1 stands behind it.
 fn ending_guests() -> [(&'static [u32], u16, End, u32); 5] {
     [
-        (&EXIT_SEVEN, 2, End::Exit(7), 0x10060),
+        (&EXITS_WORDS, 2, End::Exit(7), 0x10060),
         // addi x10, x0, -1
         (
             &[0x0010_0893, 0xfff0_0513, 0x73],
@@ -198,8 +199,8 @@ fn ran_seven(alloc: Global, slices: &[Slice], clock: Option<u64>) -> Result<(Sli
     requires few_steps { steps_of slices.now < 2 ^ 62 }
 {
     let (run, _, steps, _) = match clock {
-        Some(reading) => ran(alloc, &EXIT_SEVEN, slices, &[Answer::Clock(reading)])?,
-        None => ran(alloc, &EXIT_SEVEN, slices, &[])?,
+        Some(reading) => ran(alloc, &EXITS_WORDS, slices, &[Answer::Clock(reading)])?,
+        None => ran(alloc, &EXITS_WORDS, slices, &[])?,
     };
     Ok((run, steps))
 }
@@ -246,7 +247,7 @@ fn runs_that_stop(rt: HostRuntime) -> Result<(), Fail> {
 // Turns of these threads of the guest that exits with 7, a clock's answer beside each; the end, the step count, and how
 // many bytes are written.
 fn turns_of(alloc: Global, tids: [u16; 6]) -> Result<([Turn; 6], End, u64, usize), Fail> {
-    let mut state = started(alloc, &EXIT_SEVEN)?;
+    let mut state = started(alloc, &EXITS_WORDS)?;
     let mut out = Vec::new(alloc);
     let mut turns = [Turn::NotRunnable; 6];
     for (turn, tid) in turns.iter_mut().zip(tids) {
@@ -274,7 +275,7 @@ fn turns(rt: HostRuntime) -> Result<(), Fail> {
 
 // What thread 1 of the guest that exits with 7 holds behind a slice, where it held 4 before.
 fn held_after(alloc: Global, steps: u32) -> Result<Option<u32>, Fail> {
-    let mut state = started(alloc, &EXIT_SEVEN)?;
+    let mut state = started(alloc, &EXITS_WORDS)?;
     let mut hart = *hart_of(&state).ok_or("thread 1 runs")?;
     hart.held = Some(4);
     state.threads = Threads::one(alloc, Thread::Runs { hart, clear: 0 })?;
@@ -291,25 +292,10 @@ fn reservations(rt: HostRuntime) -> Result<(), Fail> {
     Ok(())
 }
 
-// addi x10, x0, 1; lui x11, 0x10; addi x11, x11, 120; addi x12, x0, 3; addi x17, x0, 2; ecall: write(1, 10078, 3).
-// Then exit_all(0), and the bytes `hi`, line feed, 0 at 10078 (hexadecimal).
-const WRITES_HI: [u32; 10] = [
-    0x0010_0513,
-    0x0001_05b7,
-    0x0785_8593,
-    0x0030_0613,
-    0x0020_0893,
-    0x0000_0073,
-    0x0000_0513,
-    0x0010_0893,
-    0x0000_0073,
-    0x000a_6968,
-];
-
 #[test]
 fn writes_hi(rt: HostRuntime) -> Result<(), Fail> {
     let alloc = rt.alloc();
-    let state = started(alloc, &WRITES_HI)?;
+    let state = started(alloc, &WRITES_WORDS)?;
     let ((run, end, steps, _), _, out) = ran_from(alloc, state, &[slice(1, 9)], &[])?;
     assert_eq!(rt; (run, end, steps), (SliceRun::Whole, End::Exit(0), 9));
     assert_eq!(rt; out.as_slice(), b"hi\n".as_slice());

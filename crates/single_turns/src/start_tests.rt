@@ -1,46 +1,21 @@
 // The states in which guests start, each by hand from its file.
-use crate::guests::{EXIT_SEVEN, started};
+use crate::guests::started;
 use crate::one_turn::one_turn;
 use crate::slice_tests::{hart_of, ran_from, slice, trap};
 use guest_kernel::{End, Hart, Pages, SliceRun, Turn, start_from_file};
 use std::alloc::{AllocError, Global};
 use std::test::Fail;
-
-// exit_all(7) behind the headers of an ELF file, with e_flags 1 and a second program header, of type 70000003.
-const WITH_ATTRIBUTES: [u8; 128] = [
-    0x7f, 0x45, 0x4c, 0x46, 0x01, 0x01, 0x01, 0x00, 0x00, 0x00, 0x00, 0x00, 0x00, 0x00, 0x00, 0x00,
-    0x02, 0x00, 0xf3, 0x00, 0x01, 0x00, 0x00, 0x00, 0x74, 0x00, 0x01, 0x00, 0x34, 0x00, 0x00, 0x00,
-    0x00, 0x00, 0x00, 0x00, 0x01, 0x00, 0x00, 0x00, 0x34, 0x00, 0x20, 0x00, 0x02, 0x00, 0x00, 0x00,
-    0x00, 0x00, 0x00, 0x00, 0x01, 0x00, 0x00, 0x00, 0x00, 0x00, 0x00, 0x00, 0x00, 0x00, 0x01, 0x00,
-    0x00, 0x00, 0x01, 0x00, 0x80, 0x00, 0x00, 0x00, 0x80, 0x00, 0x00, 0x00, 0x05, 0x00, 0x00, 0x00,
-    0x00, 0x10, 0x00, 0x00, 0x03, 0x00, 0x00, 0x70, 0x00, 0x00, 0x00, 0x00, 0x00, 0x00, 0x00, 0x00,
-    0x00, 0x00, 0x00, 0x00, 0x00, 0x00, 0x00, 0x00, 0x00, 0x00, 0x00, 0x00, 0x04, 0x00, 0x00, 0x00,
-    0x01, 0x00, 0x00, 0x00, 0x13, 0x05, 0x70, 0x00, 0x93, 0x08, 0x10, 0x00, 0x73, 0x00, 0x00, 0x00,
-];
+use test_files::{EXITS_WORDS, WITH_ATTRIBUTES, replaced};
 
 // What segments have of the file: it goes on with aa.
 const CONTENTS: [u8; 8] = [0x11, 0x12, 0x13, 0x14, 0x15, 0x16, 0x17, 0x18];
 
-// A file with these bytes at an offset in place of its own.
-pub(crate) fn patched(
-    alloc: Global,
-    file: &[u8],
-    offset: usize,
-    bytes: &[u8],
-) -> Result<Vec<u8>, AllocError> {
-    let mut patched = file.to_vec(alloc)?;
-    for (old, new) in patched.iter_mut().skip(offset).zip(bytes) {
-        *old = *new;
-    }
-    Ok(patched)
-}
-
 // The header of a file with this entry and so many segments.
 fn header(alloc: Global, entry: u32, count: u8) -> Result<Vec<u8>, AllocError> {
-    let mut file = guest_file::file_of(alloc, &[])?;
+    let mut file = test_files::file_of(alloc, &[])?;
     file.truncate(52);
-    let file = patched(alloc, &file, 24, &entry.to_le_bytes())?;
-    patched(alloc, &file, 44, &[count])
+    let file = replaced(alloc, &file, 24, 4, &entry.to_le_bytes())?;
+    replaced(alloc, &file, 44, 1, &[count])
 }
 
 // Adds the header of a segment: p_offset, p_vaddr, p_filesz, p_memsz, p_flags.
@@ -142,7 +117,7 @@ type Beside = ((u32, u32), (u64, u64), (usize, End));
 
 // Thread 1 of the guest that exits with 7 as it starts, and what stands beside it.
 fn start_of_seven(alloc: Global) -> Result<(Hart, Beside), Fail> {
-    let state = started(alloc, &EXIT_SEVEN)?;
+    let state = started(alloc, &EXITS_WORDS)?;
     let hart = *hart_of(&state).ok_or("thread 1 runs")?;
     let breaks = (state.heap, state.brk);
     let counts = (state.input, state.steps);
@@ -274,8 +249,8 @@ fn start_pages(rt: HostRuntime) -> Result<(), Fail> {
 
 // Whether the page of a guest's file begins with it and has zeros behind it; and the flags of pages on which nothing is.
 fn page_of_seven(alloc: Global) -> Result<(bool, bool, [Option<u8>; 5]), Fail> {
-    let state = started(alloc, &EXIT_SEVEN)?;
-    let file = guest_file::file_of(alloc, &EXIT_SEVEN)?;
+    let state = started(alloc, &EXITS_WORDS)?;
+    let file = test_files::file_of(alloc, &EXITS_WORDS)?;
     let page = state.pages.page_bytes(0x10).ok_or("the file's page")?;
     let is_first = page.starts_with(&file);
     let are_zeros = page.iter().skip(96).all(|byte| *byte == 0);

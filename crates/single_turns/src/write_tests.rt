@@ -2,6 +2,7 @@
 ghost use Rattle.std.specs.Prelude.{◌≡◌, ◌<◌, ◌^◌, IfOk};
 
 use crate::mapping::map;
+use crate::one_turn::turn_behind;
 use dp_base::{OutOfMemory, Tid};
 use guest_kernel::{End, Hart, Pages, State, Thread, Threads, Turn};
 use std::alloc::Global;
@@ -47,16 +48,6 @@ fn at_write(alloc: Global, arguments: [u32; 3]) -> Result<State, OutOfMemory>
 // The turn and the step count; how many bytes are written, and whether they start so; a0, the pc and the clear address.
 type Written = ((Turn, u64), (usize, bool), (u32, u32, u32));
 
-// A turn of thread 1, the guest behind it, and the output, which was `x` before.
-fn turned(alloc: Global, before: State) -> Result<(Turn, State, Vec<u8>), OutOfMemory>
-    requires { before.steps < 2 ^ 63 }
-{
-    let mut state = before;
-    let mut out = Vec::from_slice(alloc, b"x")?;
-    let turn = state.turn(alloc, Tid(1), None, &mut out)?;
-    Ok((turn, state, out))
-}
-
 // How many bytes stand behind an `x`, and whether they start so.
 fn behind_x(out: &[u8], first: &[u8]) -> Option<(usize, bool)> {
     match out {
@@ -74,7 +65,7 @@ fn thread_one(state: &State) -> Option<(u32, u32, u32)> {
 }
 
 fn write(alloc: Global, arguments: [u32; 3], first: &[u8]) -> Result<Written, Fail> {
-    let (turn, state, out) = turned(alloc, at_write(alloc, arguments)?)?;
+    let (turn, state, out) = turn_behind(alloc, at_write(alloc, arguments)?, 1, b"x")?;
     let written = behind_x(&out, first).ok_or("the bytes before stay")?;
     let thread = thread_one(&state).ok_or("thread 1 runs")?;
     Ok(((turn, state.steps), written, thread))

@@ -7,16 +7,7 @@ use dp_base::{Slice, Tid};
 use guest_kernel::{SliceRun, State, start_from_file};
 use std::alloc::Global;
 use std::test::Fail;
-
-// exit_all(7), behind the headers of an ELF file: 3 steps.
-const EXITS: [u8; 96] = [
-    0x7f, 0x45, 0x4c, 0x46, 0x01, 0x01, 0x01, 0x00, 0x00, 0x00, 0x00, 0x00, 0x00, 0x00, 0x00, 0x00,
-    0x02, 0x00, 0xf3, 0x00, 0x01, 0x00, 0x00, 0x00, 0x54, 0x00, 0x01, 0x00, 0x34, 0x00, 0x00, 0x00,
-    0x00, 0x00, 0x00, 0x00, 0x00, 0x00, 0x00, 0x00, 0x34, 0x00, 0x20, 0x00, 0x01, 0x00, 0x00, 0x00,
-    0x00, 0x00, 0x00, 0x00, 0x01, 0x00, 0x00, 0x00, 0x00, 0x00, 0x00, 0x00, 0x00, 0x00, 0x01, 0x00,
-    0x00, 0x00, 0x01, 0x00, 0x60, 0x00, 0x00, 0x00, 0x60, 0x00, 0x00, 0x00, 0x05, 0x00, 0x00, 0x00,
-    0x00, 0x10, 0x00, 0x00, 0x13, 0x05, 0x70, 0x00, 0x93, 0x08, 0x10, 0x00, 0x73, 0x00, 0x00, 0x00,
-];
+use test_files::{EXITS, replaced};
 
 // SHA-256 of the 69,883 bytes of the state in which it ends, which were written out from the format's tables.
 const DIGEST: [u8; 32] = [
@@ -57,15 +48,6 @@ fn encoded_again(alloc: Global, body: &[u8]) -> Result<Vec<u8>, Fail> {
     }
 }
 
-// These bytes with others in their place from an offset on.
-fn changed(alloc: Global, bytes: &[u8], offset: usize, new: &[u8]) -> Result<Vec<u8>, Fail> {
-    let mut body = bytes.to_vec(alloc)?;
-    for (old, byte) in body.iter_mut().skip(offset).zip(new) {
-        *old = *byte;
-    }
-    Ok(body)
-}
-
 #[test]
 fn encodings(rt: HostRuntime) -> Result<(), Fail> {
     let alloc = rt.alloc();
@@ -95,7 +77,7 @@ fn encodings(rt: HostRuntime) -> Result<(), Fail> {
         (65_778, &[0xff, 0xff, 0x0f, 0], false),
     ];
     for (offset, new, is) in cases {
-        let body = changed(alloc, &bytes, offset, new)?;
+        let body = replaced(alloc, &bytes, offset, new.len(), new)?;
         let again = encoded_again(alloc, &body)?;
         assert!(rt; body != bytes, "at {offset}");
         assert_eq!(rt; again == body, is, "at {offset}");

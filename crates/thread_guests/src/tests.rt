@@ -1,13 +1,14 @@
 // Guests of several threads, recorded in several epochs and slices, and replayed. The values come from a model apart from ours, which
 // runs the words by the ISA's text and the schedule's rules.
 use super::*;
-use disk_mem::{Fails, MemFiles, MemInlet, MemWorld, NamedFile};
+use disk_mem::MemWorld;
 use disk_model::Stream;
 use dp_report::Status;
 use dp_top::run;
-use guest_file::file_of;
 use std::alloc::Global;
 use std::test::Fail;
+use test_files::file_of;
+use test_worlds::{Failing, disk_of, file_named, inlet_of, texts_of};
 
 // A run with these words, where `g` is this file.
 pub(crate) fn ran(
@@ -17,17 +18,9 @@ pub(crate) fn ran(
     world: MemWorld,
 ) -> Result<(MemWorld, Status), Fail> {
     let alloc = rt.alloc();
-    let mut texts = Vec::new(alloc);
-    for word in words {
-        texts.push(String::from_str(alloc, word)?)?;
-    }
-    let mut named = Vec::new(alloc);
-    named.push(NamedFile {
-        name: String::from_str(alloc, "g")?,
-        bytes: file.to_vec(alloc)?,
-    })?;
-    let mut files = MemFiles::new(named, Fails::Never);
-    let mut inlet = MemInlet::new(Vec::new(alloc), Vec::new(alloc), Fails::Never);
+    let texts = texts_of(alloc, words)?;
+    let mut files = file_named(alloc, "g", file, Failing::Never)?;
+    let mut inlet = inlet_of(alloc, &[], &[], Failing::Never)?;
     Ok(run(rt, alloc, &texts, &mut files, &mut inlet, world))
 }
 
@@ -46,14 +39,13 @@ pub(crate) fn recorded(
     let asked = [
         "dpcli", "record", "g", "j", "--epoch", epoch, "--slice", slice,
     ];
-    let empty = MemWorld::new(alloc, Fails::Never, Fails::Never, 4096)?;
+    let empty = disk_of(alloc, b"", Failing::Never)?;
     let (after, status) = ran(rt, &asked, &file, empty)?;
     if after.sent(Stream::Out) != out || after.sent(Stream::Note) != note {
         return Err("the recording's output and its note".into());
     }
     let len = after.bytes().len();
-    let fresh = MemWorld::new(alloc, Fails::Never, Fails::Never, 4096)?;
-    let disk = fresh.of_disk(alloc, after.bytes())?;
+    let disk = disk_of(alloc, after.bytes(), Failing::Never)?;
     let (replayed, answer) = ran(rt, &["dpcli", "replay", "j"], &[], disk)?;
     if replayed.sent(Stream::Out) != out || replayed.sent(Stream::Note) != note {
         return Err("the replay's output and its note".into());

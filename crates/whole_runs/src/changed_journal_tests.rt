@@ -1,11 +1,13 @@
 // Replays of journals that are cut short or changed: their guest, epochs and marks.
-use crate::changed_bytes::{all_replaced, body_of_a_start, replaced};
-use crate::replay_tests::{NINE_STEPS, ONE_OF_WRITES, REPLAY, journal_of, plays_as, recorded};
+use crate::changed_bytes::all_replaced;
+use crate::replay_tests::{NINE_STEPS, ONE_OF_WRITES, REPLAY, plays_as, recorded};
 use crate::run_tests::{NOTE_OF_EXITS, journal_of_exits};
 use dp_report::Status;
-use journal_guests::{EXITS, WRITES};
+use journal_guests::mark_of_start;
 use std::alloc::Global;
 use std::test::Fail;
+use test_files::{EXITS, WRITES, replaced};
+use test_journals::{THREE_STEPS, journal_of};
 
 // Of nine epochs of one step.
 const NINE_OF_WRITES: &[u8] =
@@ -14,9 +16,6 @@ const NINE_OF_WRITES: &[u8] =
 // The state in which `EXITS` starts was written out from the format's tables.
 const NONE_OF_EXITS: &[u8] =
     b"epochs 0 squashes 0 steps 0 sent 0 end none state 24deeb4ea2cdc0e5de046938dbdc71e3804051b85a62a8a7e1f54761d7041690\n";
-
-// The body of an epoch of thread 1, of three steps.
-const THREE_STEPS: &[u8] = b"\x00\x01\0\0\0\x01\0\x03\0\0\0\0\0\0\0";
 
 // The journal of 126 bytes, cut to each length. Its header has 105.
 #[test]
@@ -44,7 +43,7 @@ fn with_thread(rt: &HostRuntime, gate: usize, thread: &[u8]) -> Result<Vec<u8>, 
     if after.bytes().len() != 314 {
         return Err("the journal of nine epochs has 314 bytes".into());
     }
-    replaced(rt.alloc(), after.bytes(), gate.min(314) + 10, 2, thread)
+    Ok(replaced(rt.alloc(), after.bytes(), gate.min(314) + 10, 2, thread)?)
 }
 
 // What that journal plays to.
@@ -216,7 +215,7 @@ use Body::{End, Nine, Other, Start, Three};
 // The state in which `EXITS` ends, as a mark: by the format's tables its x17, x10, pc, end and steps are not those of the
 // start.
 fn mark_of_the_end(alloc: Global) -> Result<Vec<u8>, Fail> {
-    let start = body_of_a_start(alloc, &EXITS)?;
+    let start = mark_of_start(alloc, &EXITS)?;
     all_replaced(
         alloc,
         &start,
@@ -234,11 +233,11 @@ fn bytes_of(alloc: Global, body: Body) -> Result<Vec<u8>, Fail> {
     match body {
         Body::Three => Ok(THREE_STEPS.to_vec(alloc)?),
         Body::Nine => Ok(NINE_STEPS.to_vec(alloc)?),
-        Body::Start => body_of_a_start(alloc, &EXITS),
+        Body::Start => Ok(mark_of_start(alloc, &EXITS)?),
         Body::End => mark_of_the_end(alloc),
         Body::Other => {
-            let start = body_of_a_start(alloc, &EXITS)?;
-            replaced(alloc, &start, 69_879, 1, b"\x01")
+            let start = mark_of_start(alloc, &EXITS)?;
+            Ok(replaced(alloc, &start, 69_879, 1, b"\x01")?)
         }
     }
 }
@@ -291,7 +290,7 @@ fn marks_judged(rt: HostRuntime) -> Result<(), Fail> {
 // What was sent stays sent.
 #[test]
 fn a_wrong_mark_behind_output(rt: HostRuntime) -> Result<(), Fail> {
-    let start = body_of_a_start(rt.alloc(), &WRITES)?;
+    let start = mark_of_start(rt.alloc(), &WRITES)?;
     let wrong: &[u8] = b"dpcli: record 2 is a wrong mark\n";
     let came = two_play_as(&rt, &WRITES, NINE_STEPS, &start, b"hi\n", wrong)?;
     assert_eq!(rt; came, (Status::BadMark(2), 15));

@@ -1,13 +1,15 @@
 // Files of guests, refused and accepted, recorded and replayed.
-use crate::changed_bytes::{all_replaced, replaced};
-use crate::replay_tests::{REPLAY, journal_of, plays_as, recorded};
-use crate::run_tests::{Failing, RECORD, ran, world};
-use disk_mem::{Fails, MemWorld};
+use crate::changed_bytes::all_replaced;
+use crate::replay_tests::{REPLAY, plays_as, recorded};
+use crate::run_tests::{RECORD, ran};
+use disk_mem::MemWorld;
 use disk_model::Stream;
 use dp_report::Status;
-use journal_guests::EXITS;
 use std::alloc::{AllocError, Global};
 use std::test::Fail;
+use test_files::{EXITS, repeated, replaced};
+use test_journals::journal_of;
+use test_worlds::{Failing, disk_of};
 
 // Writes `hi` and a newline out of a second segment of 4,097 bytes, of which the file has three, and exit_all(0): 8 steps.
 const TWO_SEGMENTS: [u8; 151] = [
@@ -25,8 +27,8 @@ const TWO_SEGMENTS: [u8; 151] = [
 
 // The status of a recording of a file on a disk whose first call would fail, where it makes none, and sends this alone.
 fn recording_refused(rt: &HostRuntime, file: &[u8], line: &[u8]) -> Result<Status, Fail> {
-    let failing = world(rt.alloc(), Failing::From(1), Failing::Never)?;
-    let (after, status) = ran(rt, &RECORD, file, Fails::Never, failing)?;
+    let failing = disk_of(rt.alloc(), b"", Failing::From(1))?;
+    let (after, status) = ran(rt, &RECORD, file, Failing::Never, failing)?;
     let silent = after.disk_calls() == 0 && after.sent(Stream::Out).is_empty();
     if !silent || after.sent(Stream::Note) != line {
         return Err("the line of the fault alone".into());
@@ -52,10 +54,6 @@ fn changed_refused(
 ) -> Result<(Status, Status), Fail> {
     let file = replaced(rt.alloc(), &EXITS, offset, by.len(), by)?;
     refused(rt, &file, line)
-}
-
-fn zeros(alloc: Global, count: usize) -> Result<Vec<u8>, AllocError> {
-    vec![in alloc; 0; count]
 }
 
 #[test]
@@ -97,7 +95,7 @@ fn images_of_no_byte_and_of_too_many(rt: HostRuntime) -> Result<(), Fail> {
     let fault = Status::BadImage(2);
     let line: &[u8] = b"dpcli: guest refused: 2 NotElf\n";
     assert_eq!(rt; refused(&rt, &[], line)?, (fault, fault));
-    let long = zeros(rt.alloc(), 1_048_577)?;
+    let long = repeated(rt.alloc(), 1_048_577)?;
     let fault = Status::BadImage(1);
     let line: &[u8] = b"dpcli: guest refused: 1 TooLong\n";
     assert_eq!(rt; refused(&rt, &long, line)?, (fault, fault));

@@ -1,14 +1,15 @@
 // Replays on memory forms: of recordings, and where calls fail.
 ghost use Rattle.std.specs.Prelude.{◌<◌};
 
-use crate::changed_bytes::length_of;
-use crate::run_tests::{Failing, fails_of, ran};
-use disk_mem::{Call, Fails, MemWorld};
+use crate::run_tests::ran;
+use disk_mem::{Call, MemWorld};
 use disk_model::Stream;
 use dp_report::Status;
-use journal_guests::{EXITS, WRITES};
 use std::alloc::Global;
 use std::test::Fail;
+use test_files::{EXITS, WRITES};
+use test_journals::journal_of;
+use test_worlds::{Failing, world_of};
 
 pub(crate) const REPLAY: &[&str] = &["dpcli", "replay", "j"];
 
@@ -41,9 +42,7 @@ fn world_with(
 ) -> Result<MemWorld, Fail>
     requires { 0 < piece }
 {
-    let disk = fails_of(alloc, disk)?;
-    let sink = fails_of(alloc, sink)?;
-    Ok(MemWorld::new(alloc, disk, sink, piece)?.of_disk(alloc, journal)?)
+    Ok(world_of(alloc, disk, sink, piece)?.of_disk(alloc, journal)?)
 }
 
 // Whether a replay sent these bytes on Out and on Note, and did no more than read the disk, which has this journal.
@@ -70,7 +69,7 @@ fn replays_as(
     sent: &[u8],
     noted: &[u8],
 ) -> Result<(Status, u8), Fail> {
-    let (after, status) = ran(rt, words, &[], Fails::Never, world)?;
+    let (after, status) = ran(rt, words, &[], Failing::Never, world)?;
     is_right(&after, journal, sent, noted)?;
     Ok((status, status.number()))
 }
@@ -94,21 +93,7 @@ pub(crate) fn recorded(
     guest: &[u8],
 ) -> Result<(MemWorld, Status), Fail> {
     let empty = world_with(rt.alloc(), b"", Failing::Never, Failing::Never, 4096)?;
-    ran(rt, words, guest, Fails::Never, empty)
-}
-
-// A journal of a guest whose records have these bodies.
-pub(crate) fn journal_of(alloc: Global, guest: &[u8], bodies: &[&[u8]]) -> Result<Vec<u8>, Fail> {
-    let mut journal = b"\x01DPJ1".to_vec(alloc)?;
-    journal.extend_from_slice(&length_of(guest))?;
-    journal.extend_from_slice(guest)?;
-    for body in bodies {
-        journal.push(1)?;
-        journal.extend_from_slice(&length_of(body))?;
-        journal.extend_from_slice(body)?;
-    }
-    journal.push(0)?;
-    Ok(journal)
+    ran(rt, words, guest, Failing::Never, empty)
 }
 
 // Of a journal, where some calls fail, and an emit takes so many bytes at most.
@@ -172,7 +157,7 @@ fn emit_fails(
 fn calls_of_writes(rt: &HostRuntime) -> Result<(usize, u64), Fail> {
     let journal = journal_of(rt.alloc(), &WRITES, &[NINE_STEPS])?;
     let world = world_with(rt.alloc(), &journal, Failing::Never, Failing::Never, 4096)?;
-    let (after, _) = ran(rt, REPLAY, &[], Fails::Never, world)?;
+    let (after, _) = ran(rt, REPLAY, &[], Failing::Never, world)?;
     Ok((journal.len(), after.disk_calls()))
 }
 
@@ -292,7 +277,7 @@ fn replay_of(rt: &HostRuntime, first: &MemWorld) -> Result<(Status, bool, bool),
         Failing::Never,
         4096,
     )?;
-    let (second, status) = ran(rt, REPLAY, &[], Fails::Never, world)?;
+    let (second, status) = ran(rt, REPLAY, &[], Failing::Never, world)?;
     let (same_sent, same_noted) = sent_again(first, &second)?;
     Ok((status, same_sent, same_noted))
 }

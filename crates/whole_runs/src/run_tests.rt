@@ -1,10 +1,11 @@
 // The top call on memory forms.
-use disk_mem::{CallNumbers, Fails, MemFiles, MemInlet, MemWorld, NamedFile};
+use disk_mem::MemWorld;
 use disk_model::Stream;
 use dp_top::{Status, run};
-use journal_guests::{EXITS, WRITES};
 use std::alloc::Global;
 use std::test::Fail;
+use test_files::{EXITS, WRITES};
+use test_worlds::{Failing, disk_of, file_named, inlet_of, texts_of, world_of};
 
 // The header before the guest, and what stands behind it: one epoch of one slice, thread 1 for 3 steps, and the closed
 // gate.
@@ -24,51 +25,18 @@ pub const NOTE_OF_EXITS: &[u8] =
 const USAGE: &[u8] =
     b"usage: dpcli record GUEST JOURNAL [options], replay JOURNAL [--workers N], inspect JOURNAL, selftest N\n";
 
-// Which calls of one kind fail, as a table has it.
-#[derive(Clone, Copy)]
-pub(crate) enum Failing {
-    Never,
-    At(u64),
-    From(u64),
-}
-
-pub(crate) fn fails_of(alloc: Global, failing: Failing) -> Result<Fails, Fail> {
-    match failing {
-        Failing::Never => Ok(Fails::Never),
-        Failing::At(number) => Ok(Fails::At(CallNumbers::from_vec([number].to_vec(alloc)?))),
-        Failing::From(number) => Ok(Fails::From(number)),
-    }
-}
-
-fn texts_of(alloc: Global, words: &[&str]) -> Result<Vec<String>, Fail> {
-    let mut texts = Vec::new(alloc);
-    for word in words {
-        texts.push(String::from_str(alloc, word)?)?;
-    }
-    Ok(texts)
-}
-
-// The file `g` has these bytes.
-fn files_of(alloc: Global, bytes: &[u8], fetch: Fails) -> Result<MemFiles, Fail> {
-    let name = String::from_str(alloc, "g")?;
-    let bytes = bytes.to_vec(alloc)?;
-    let mut named = Vec::new(alloc);
-    named.push(NamedFile { name, bytes })?;
-    Ok(MemFiles::new(named, fetch))
-}
-
 /// What a run with these words comes to, where `g` is this guest and the world has this disk.
 pub(crate) fn ran(
     rt: &HostRuntime,
     words: &[&str],
     guest: &[u8],
-    fetch: Fails,
+    fetch: Failing,
     world: MemWorld,
 ) -> Result<(MemWorld, Status), Fail> {
     let alloc = rt.alloc();
-    let mut files = files_of(alloc, guest, fetch)?;
     let texts = texts_of(alloc, words)?;
-    let mut inlet = MemInlet::new(Vec::new(alloc), Vec::new(alloc), Fails::Never);
+    let mut files = file_named(alloc, "g", guest, fetch)?;
+    let mut inlet = inlet_of(alloc, &[], &[], Failing::Never)?;
     Ok(run(rt, alloc, &texts, &mut files, &mut inlet, world))
 }
 
@@ -78,12 +46,6 @@ pub(crate) fn journal_of_exits(alloc: Global) -> Result<Vec<u8>, Fail> {
     journal.extend_from_slice(&EXITS)?;
     journal.extend_from_slice(&BEHIND_GUEST)?;
     Ok(journal)
-}
-
-pub(crate) fn world(alloc: Global, disk: Failing, sink: Failing) -> Result<MemWorld, Fail> {
-    let disk = fails_of(alloc, disk)?;
-    let sink = fails_of(alloc, sink)?;
-    Ok(MemWorld::new(alloc, disk, sink, 4096)?)
 }
 
 // What a run came to: whether it sent what was wanted on Out and on Note, how long the disk is, how many calls it had, and how many
@@ -121,17 +83,20 @@ fn came_to(
     out: &[u8],
     note: &[u8],
 ) -> Result<Came, Fail> {
-    let empty = world(rt.alloc(), disk, sink)?;
-    let (after, status) = ran(rt, words, guest, Fails::Never, empty)?;
+    let empty = world_of(rt.alloc(), disk, sink, 4096)?;
+    let (after, status) = ran(rt, words, guest, Failing::Never, empty)?;
     Ok(look_at(&after, status, out, note))
+}
+
+// A recording of a guest on a disk that has these bytes.
+fn recorded_on(rt: &HostRuntime, guest: &[u8], disk: &[u8]) -> Result<(MemWorld, Status), Fail> {
+    let used = disk_of(rt.alloc(), disk, Failing::Never)?;
+    ran(rt, &RECORD, guest, Failing::Never, used)
 }
 
 // Whether a recording leaves these bytes on a disk that had these first.
 fn leaves(rt: &HostRuntime, guest: &[u8], first: &[u8], wanted: &[u8]) -> Result<bool, Fail> {
-    let alloc = rt.alloc();
-    let empty = world(alloc, Failing::Never, Failing::Never)?;
-    let used = empty.of_disk(alloc, first)?;
-    let (after, _) = ran(rt, &RECORD, guest, Fails::Never, used)?;
+    let (after, _) = recorded_on(rt, guest, first)?;
     Ok(after.bytes() == wanted)
 }
 
@@ -200,8 +165,8 @@ fn refused_as(
     sink: Failing,
     note: &[u8],
 ) -> Result<((Status, u8), u64, bool), Fail> {
-    let failing = world(rt.alloc(), Failing::From(1), sink)?;
-    let (after, status) = ran(rt, words, &[], Fails::From(fetch), failing)?;
+    let failing = world_of(rt.alloc(), Failing::From(1), sink, 4096)?;
+    let (after, status) = ran(rt, words, &[], Failing::From(fetch), failing)?;
     let came = look_at(&after, status, b"", note);
     Ok((came.status, came.disk_calls, came.is_note))
 }
@@ -247,10 +212,7 @@ fn refusals_before_the_disk(rt: HostRuntime) -> Result<(), Fail> {
 
 // A recording of `WRITES` on a disk that has these bytes.
 fn came_to_on(rt: &HostRuntime, disk: &[u8], out: &[u8], note: &[u8]) -> Result<Came, Fail> {
-    let alloc = rt.alloc();
-    let empty = world(alloc, Failing::Never, Failing::Never)?;
-    let used = empty.of_disk(alloc, disk)?;
-    let (after, status) = ran(rt, &RECORD, &WRITES, Fails::Never, used)?;
+    let (after, status) = recorded_on(rt, &WRITES, disk)?;
     Ok(look_at(&after, status, out, note))
 }
 

@@ -1,0 +1,34 @@
+// What is seen at a gate.
+ghost use Rattle.std.specs.Prelude.{◌≡◌};
+ghost use Rattle.journal_text.specs.declared.next.Rec.{Rec};
+ghost use Rattle.journal_text.specs.Reading.{first_bytes};
+ghost use Rattle.journal_text.specs.View.{IsNext};
+ghost use Rattle.test_journals.specs.Gate.{seen_as};
+
+use journal_text::{Rec, next_record};
+
+/// What stands at a gate.
+#[derive(Clone, Copy, Debug, PartialEq, Eq)]
+pub enum Kind {
+    /// An epoch's record.
+    Epoch,
+    /// A mark's record.
+    Mark,
+    /// The journal's end.
+    End,
+    /// A body that is no record's.
+    Bad,
+}
+
+/// What stands at the place `at`, where a record's gate is; the place of the next gate or of the end, 0 where the body is bad; and how
+/// many bytes the body has, 0 where there is none.
+pub fn seen(file: &[u8], at: u64) -> (Kind, u64, usize)
+    ensures { (found : Rec) × IsNext (first_bytes file.now) at found × (result ≡ seen_as found) }
+{
+    match next_record(file, at) {
+        Rec::Epoch { body, next } => (Kind::Epoch, next, body.len()),
+        Rec::Mark { body, next } => (Kind::Mark, next, body.len()),
+        Rec::End { at } => (Kind::End, at, 0),
+        Rec::Bad => (Kind::Bad, 0, 0),
+    }
+}

@@ -1,0 +1,13 @@
+//! Journals by hand, for tests of the crates above: of bodies that no recording need write, and what stands at a gate.
+#![tactic(auto)]
+
+mod epoch;
+mod journal;
+mod gate;
+
+pub use epoch::{THREE_STEPS, frame_of_three_steps};
+pub use journal::{journal_of, records_of};
+pub use gate::{Kind, seen};
+
+#[cfg(test)]
+mod tests;
