@@ -65,5 +65,5 @@ fn small_number(matches: &ArgMatches<'_>, name: &str) -> u32
     requires { HasNumber (2 ^ 32) name.now (rows_of (found_of matches.now)) }
     ensures { result ≡ number_of name.now (rows_of (found_of matches.now)) }
 {
-    matches.get_str(name).unwrap().parse::<u32>().unwrap()
+    number(matches, name) as u32
 }
