@@ -172,7 +172,7 @@ many_found {X} item encode Is laws (x ∷ xs) rest fits =
 
 -- ---- epoch bodies
 
-abbrev epoch_end : ℕ × List ℕ → ℕ × List ℕ → List Slice × List ℕ → List Answer × List ℕ → Option (Epoch × List ℕ)
+abbrev pub epoch_end : ℕ × List ℕ → ℕ × List ℕ → List Slice × List ℕ → List Answer × List ℕ → Option (Epoch × List ℕ)
 epoch_end kind slice_count slices answers = cond (eqb kind.0 0 && ltb 0 slice_count.0 && leb (steps_of slices.0) MAX_EPOCH_STEPS) (Some (record { slices = slices.0; answers = answers.0 }, answers.1)) None
 
 abbrev epoch_answers : ℕ × List ℕ → ℕ × List ℕ → List Slice × List ℕ → ℕ × List ℕ → Option (Epoch × List ℕ)
@@ -184,7 +184,7 @@ epoch_count kind slice_count slices = number_at 4 slices.1 >>= epoch_answers kin
 abbrev epoch_slices : ℕ × List ℕ → ℕ × List ℕ → Option (Epoch × List ℕ)
 epoch_slices kind slice_count = many_at slice_at slice_count.0 slice_count.1 >>= epoch_count kind slice_count
 
-abbrev epoch_kind : ℕ × List ℕ → Option (Epoch × List ℕ)
+abbrev pub epoch_kind : ℕ × List ℕ → Option (Epoch × List ℕ)
 epoch_kind kind = number_at 4 kind.1 >>= epoch_slices kind
 
 -- the parts of an epoch body, one after another

@@ -15,7 +15,7 @@ use Rattle.dp_base.proofs.Sizes.{length-header}
 use Rattle.journal_text.specs.Reading.{IsMadeOf, IsTail, Reading, Tail, end, ending, first_bytes, journal_of, reading_of, reads, reads_in, tail_at}
 use Rattle.journal_text.specs.Records.{IsRecord, Next, Record, bad, body_of, ended, fitting_at, found, list_from, next_at, next_of, record_bytes}
 use Rattle.journal_text.proofs.Records.{fitting_found, fitting_taken, next_behind_closed, next_none, next_of_body, next_some, none_next}
-use Rattle.journal_text.proofs.Lists.{Stops, list_ended, list_found, list_of, list_taken}
+use Rattle.journal_text.proofs.Lists.{Stops, list_found, list_of, list_stops, list_taken}
 
 -- ---- the parts of a file
 
@@ -179,7 +179,7 @@ record Cut (records : List Record) (part : List ℕ) : Type 0 where
   ends : next_at left ≡ ended
 
 cut_here : (records : List Record) (part : List ℕ) → fitting_at part ≡ None → Cut records part
-cut_here records part none = record { count = 0; left = part; list = list_ended part (next_none part none); ends = next_none part none }
+cut_here records part none = record { count = 0; left = part; list = list_stops part ended tt (next_none part none); ends = next_none part none }
 
 -- what fits also does with more behind it
 grown : (part more : List ℕ) (x : List ℕ × List ℕ) → AreBytes part → fitting_at part ≡ Some x → fitting_at (part ++ more) ≡ Some (x.0, x.1 ++ more)

@@ -34,36 +34,30 @@ list_is bytes =
     ∙ listed_alike (records_at (length bytes)) list_from bytes (next_at bytes) (λ r rest is.
     let fewer = next_fewer bytes r rest is in records_alike (length bytes) (length rest) rest (omega (arith, fewer)) (omega arith))
 
-pub list_ended : (bytes : List ℕ) → next_at bytes ≡ ended → list_from bytes ≡ ([], bytes)
-list_ended bytes is = list_is bytes ∙ ap (listed list_from bytes) is
-
-pub list_bad : (bytes : List ℕ) → next_at bytes ≡ bad → list_from bytes ≡ ([], bytes)
-list_bad bytes is = list_is bytes ∙ ap (listed list_from bytes) is
-
-pub list_found : (bytes rest : List ℕ) (r : Record) → next_at bytes ≡ found r rest → list_from bytes ≡ (r ∷ (list_from rest).0, (list_from rest).1)
-list_found bytes rest r is = list_is bytes ∙ ap (listed list_from bytes) is
-
--- ---- what a list is made of
-
 -- no record stands there
 abbrev pub Stops : Next → Type 0
 Stops ended = Unit {0}
 Stops bad = Unit {0}
 Stops (found r rest) = ⊥
 
+pub list_stops : (bytes : List ℕ) (next : Next) → Stops next → next_at bytes ≡ next → list_from bytes ≡ ([], bytes)
+list_stops bytes ended stops is = list_is bytes ∙ ap (listed list_from bytes) is
+list_stops bytes bad stops is = list_is bytes ∙ ap (listed list_from bytes) is
+list_stops bytes (found r rest) stops is = absurd stops
+
+pub list_found : (bytes rest : List ℕ) (r : Record) → next_at bytes ≡ found r rest → list_from bytes ≡ (r ∷ (list_from rest).0, (list_from rest).1)
+list_found bytes rest r is = list_is bytes ∙ ap (listed list_from bytes) is
+
+-- ---- what a list is made of
+
 pub record Listed (bytes : List ℕ) (list : List Record × List ℕ) : Type 0 where
   pub joined : bytes ≡ flat_map record_bytes list.0 ++ list.1
   pub records : AllByRecursion IsRecord list.0
   pub stops : Stops (next_at list.1)
 
-list_stops_as : (bytes : List ℕ) (next : Next) → next_at bytes ≡ next → Stops next → list_from bytes ≡ ([], bytes)
-list_stops_as bytes ended is stops = list_ended bytes is
-list_stops_as bytes bad is stops = list_bad bytes is
-list_stops_as bytes (found r rest) is stops = absurd stops
-
 list_taken_as : (bytes : List ℕ) (next : Next) → next_at bytes ≡ next → AreBytes bytes → ((rest : List ℕ) → length rest < length bytes → AreBytes rest → Listed rest (list_from rest)) → Listed bytes (list_from bytes)
-list_taken_as bytes ended is fits others = rw (list_ended bytes is) (record { joined = refl; records = tt; stops = subst Stops (sym is) tt })
-list_taken_as bytes bad is fits others = rw (list_bad bytes is) (record { joined = refl; records = tt; stops = subst Stops (sym is) tt })
+list_taken_as bytes ended is fits others = rw (list_stops bytes ended tt is) (record { joined = refl; records = tt; stops = subst Stops (sym is) tt })
+list_taken_as bytes bad is fits others = rw (list_stops bytes bad tt is) (record { joined = refl; records = tt; stops = subst Stops (sym is) tt })
 list_taken_as bytes (found r rest) is fits others =
     let t = next_taken bytes r rest fits is in
     let o = others rest (next_fewer bytes r rest is) t.0.left in
@@ -79,7 +73,7 @@ pub list_taken : (bytes : List ℕ) → AreBytes bytes → Listed bytes (list_fr
 list_taken bytes fits = list_taken_within (length bytes) bytes (omega arith) fits
 
 pub list_of : (records : List Record) (rest : List ℕ) → AllByRecursion IsRecord records → Stops (next_at rest) → list_from (flat_map record_bytes records ++ rest) ≡ (records, rest)
-list_of [] rest are stops = list_stops_as rest (next_at rest) refl stops
+list_of [] rest are stops = list_stops rest (next_at rest) stops refl
 list_of (r ∷ records) rest are stops =
     let behind = flat_map record_bytes records ++ rest in
     let parts : flat_map record_bytes (r ∷ records) ++ rest ≡ record_bytes r ++ behind = append_assoc (record_bytes r) (flat_map record_bytes records) rest in

@@ -1,18 +1,15 @@
 -- A record is found where its bytes stand, and in no other way.
-use Rattle.std.proofs.Common.{◌≡◌, ℕ, ◌^◌, ◌<◌, ◌≤◌, Bool, true, false, cond, eqb, ltb, leb, ◌&&◌, List, [], ◌∷◌, ◌++◌, length, take, drop, Option, Some, None, refl, ap, subst, ◌∙◌, arith}
+use Rattle.std.proofs.Common.{◌≡◌, ℕ, ◌^◌, ◌<◌, ◌≤◌, Bool, true, false, cond, eqb, ltb, leb, List, [], ◌∷◌, ◌++◌, length, take, drop, Option, Some, None, refl, ap, subst, ◌∙◌, arith}
 use Rattle.std.specs.Prelude.{is_some, option_map}
 use Rattle.std.proofs.lemmas.Bool.{eqb-true, leb-true, le-leb}
 use Rattle.std.proofs.lemmas.List.{length-drop}
 use Rattle.std.proofs.lemmas.Option.{cond_some, same_Some}
 use Rattle.dp_base.specs.declared.limits.TheConstants.{MAX_BODY_BYTES}
-use Rattle.dp_base.specs.declared.slice.Slice.{Slice}
-use Rattle.dp_base.specs.declared.answer.Answer.{Answer}
 use Rattle.dp_base.specs.Encoding.{whole}
 use Rattle.dp_base.specs.Field.{AreBytes, ◌>>=◌, bytes_at, number_at}
-use Rattle.dp_base.specs.Journal.{Epoch, answer_at, epoch_body, epoch_body_at, length_prefixed, many_at, open_gate, record_of, slice_at, steps_of}
-use Rattle.dp_base.specs.declared.limits.TheConstants.{MAX_EPOCH_STEPS}
+use Rattle.dp_base.specs.Journal.{Epoch, answer_at, epoch_body, epoch_body_at, length_prefixed, many_at, open_gate, record_of, slice_at}
 use Rattle.dp_base.proofs.Fields.{Splits, Splits-then, bind_some, bind_at, none_after, byte_taken, bytes_found, enough, length_prefixed_found, length_prefixed_taken, number_found, number_left}
-use Rattle.dp_base.proofs.Epochs.{epoch_code, only_if}
+use Rattle.dp_base.proofs.Epochs.{epoch_code, epoch_end, epoch_kind, only_if}
 use Rattle.dp_base.proofs.Sizes.{length-epoch_body}
 use Rattle.dp_base.proofs.Whole.{whole_code}
 use Rattle.guest_state.specs.Checkpoint.{Checkpoint, IsCheckpoint, checkpoint_bytes, checkpoint_from}
@@ -84,20 +81,14 @@ fitting_behind_closed rest =
 -- ---- the record of a body
 
 -- a mark's body is no epoch's
-abbrev epoch_last : ℕ × List ℕ → ℕ × List ℕ → List Slice × List ℕ → List Answer × List ℕ → Option (Epoch × List ℕ)
-epoch_last kind slice_count slices answers = cond (eqb kind.0 0 && ltb 0 slice_count.0 && leb (steps_of slices.0) MAX_EPOCH_STEPS) (Some (record { slices = slices.0; answers = answers.0 }, answers.1)) None
-
-abbrev epoch_behind : ℕ × List ℕ → Option (Epoch × List ℕ)
-epoch_behind kind = number_at 4 kind.1 >>= λ slice_count. many_at slice_at slice_count.0 slice_count.1 >>= λ slices. number_at 4 slices.1 >>= λ answer_count. many_at answer_at answer_count.0 answer_count.1 >>= epoch_last kind slice_count slices
-
-no_epoch_of_another_kind : (kind : ℕ × List ℕ) → eqb kind.0 0 ≡ false → epoch_behind kind ≡ None
+no_epoch_of_another_kind : (kind : ℕ × List ℕ) → eqb kind.0 0 ≡ false → epoch_kind kind ≡ None
 no_epoch_of_another_kind kind other =
     none_after (number_at 4 kind.1) _ (λ slice_count. none_after (many_at slice_at slice_count.0 slice_count.1) _ (λ slices. none_after (number_at 4 slices.1) _ (λ answer_count.
-    none_after (many_at answer_at answer_count.0 answer_count.1) (epoch_last kind slice_count slices) (λ answers. rw other refl))))
+    none_after (many_at answer_at answer_count.0 answer_count.1) (epoch_end kind slice_count slices) (λ answers. rw other refl))))
 
 epoch_of_a_mark : (state : List ℕ) → epoch_body_at (mark_kind ∷ state) ≡ None
 unfolding epoch_body_at
-epoch_of_a_mark state = bind_at (number_at 1 (mark_kind ∷ state)) epoch_behind (1, state) None (number_found 1 1 state (omega arith)) (no_epoch_of_another_kind (1, state) refl)
+epoch_of_a_mark state = bind_at (number_at 1 (mark_kind ∷ state)) epoch_kind (1, state) None (number_found 1 1 state (omega arith)) (no_epoch_of_another_kind (1, state) refl)
 
 whole_epoch_of_a_mark : (state : List ℕ) → whole epoch_body_at (mark_kind ∷ state) ≡ None
 whole_epoch_of_a_mark state = rw (epoch_of_a_mark state) refl
