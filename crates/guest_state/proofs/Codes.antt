@@ -16,7 +16,7 @@ use Rattle.guest_state.specs.declared.hart.Hart.{Hart}
 use Rattle.guest_state.specs.declared.thread.Thread.{Thread}
 use Rattle.guest_state.specs.declared.thread.Thread.TheVariants.{Runs, Waits, Gone}
 use Rattle.guest_state.specs.Checkpoint.{IsWord, IsEnd, IsFreeHart, IsThread, IsPageContent, word, end_bytes, end_from, exit_from, trap_from, page_bytes, page_from, hart_bytes, hart_from, thread_bytes, thread_from, runs_from, waits_from, gone_from}
-use Rattle.guest_state.proofs.Steps.{take_step, find_step, find_first, grouped, many_code, bytes_code, Behind, of_kind}
+use Rattle.guest_state.proofs.Steps.{take_step, find_step, find_first, grouped, made_of, many_code, bytes_code, Behind, of_kind}
 use Rattle.dp_base.proofs.Epochs.{chosen, only_if}
 
 -- ---- pages
@@ -48,12 +48,14 @@ page_code = code_from page_from page_bytes IsPageContent page_found page_taken
 
 -- ---- ends
 
+pub word_code : IsPrefixCode (number_at 4) word IsWord
+word_code = code_from (number_at 4) word IsWord
+    (λ n rest is. (number_code 4).decoded n rest (omega (arith, is)))
+    (λ bytes x fits e. let t = (number_code 4).encoded bytes x.0 x.1 fits e in (record { joined = t.0; left = t.2 }, omega (arith, t.1)))
+
 exit_taken : (bytes : List ℕ) (x : End × List ℕ) → AreBytes bytes → exit_from bytes ≡ Some x → Behind end_bytes IsEnd 1 bytes x
 unfolding exit_from
-exit_taken bytes x fits e =
-    let code = take_step (number_code 4) _ bytes x fits e in
-    let small : IsWord code.value = omega (arith, code.is) in
-    subst (Behind end_bytes IsEnd 1 bytes) (same_Some _ _ code.goes_on) (record { body = word code.value; encoded = refl; joined = code.joined; left = code.left; is = small })
+exit_taken bytes x fits e = made_of word_code ends.Exit 1 (λ code. refl) (λ code is. is) bytes x fits e
 
 trap_taken : (bytes : List ℕ) (x : End × List ℕ) → AreBytes bytes → trap_from bytes ≡ Some x → Behind end_bytes IsEnd 2 bytes x
 unfolding trap_from
@@ -92,7 +94,7 @@ end_taken bytes x fits e =
 
 exit_found : (code : ℕ) (rest : List ℕ) → IsWord code → exit_from (word code ++ rest) ≡ Some (ends.Exit code, rest)
 unfolding exit_from
-exit_found code rest is = find_step (number_code 4) _ code rest (Some (ends.Exit code, rest)) (omega arith) refl
+exit_found code rest is = find_step word_code _ code rest (Some (ends.Exit code, rest)) is refl
 
 trap_found : (tid : Tid) (cause value : ℕ) (rest : List ℕ) → IsEnd (ends.Trap tid cause value) → trap_from ((little_bytes 2 tid.0 ++ (little_bytes 1 cause ++ word value)) ++ rest) ≡ Some (ends.Trap tid cause value, rest)
 unfolding trap_from
@@ -125,11 +127,6 @@ clearing_bytes c = hart_bytes c.0 c.1
 abbrev IsClearing : Clearing → Type 0
 IsClearing c = IsFreeHart c.0 × IsWord c.1
 
-pub word_code : IsPrefixCode (number_at 4) word IsWord
-word_code = code_from (number_at 4) word IsWord
-    (λ n rest is. (number_code 4).decoded n rest (omega (arith, is)))
-    (λ bytes x fits e. let t = (number_code 4).encoded bytes x.0 x.1 fits e in (record { joined = t.0; left = t.2 }, omega (arith, t.1)))
-
 hart_taken : (bytes : List ℕ) (x : Clearing × List ℕ) → AreBytes bytes → hart_from bytes ≡ Some x → Splits bytes (clearing_bytes x.0) x.1 × IsClearing x.0
 unfolding hart_from
 hart_taken bytes x fits e =
@@ -160,9 +157,7 @@ hart_code = code_from hart_from clearing_bytes IsClearing hart_found hart_taken
 
 runs_taken : (bytes : List ℕ) (x : Thread × List ℕ) → AreBytes bytes → runs_from bytes ≡ Some x → Behind thread_bytes IsThread 0 bytes x
 unfolding runs_from
-runs_taken bytes x fits e =
-    let hart = take_step hart_code _ bytes x fits e in
-    subst (Behind thread_bytes IsThread 0 bytes) (same_Some _ _ hart.goes_on) (record { body = clearing_bytes hart.value; encoded = refl; joined = hart.joined; left = hart.left; is = hart.is })
+runs_taken bytes x fits e = made_of hart_code (λ (c : Clearing). Runs c.0 c.1) 0 (λ c. refl) (λ c is. is) bytes x fits e
 
 waits_taken : (bytes : List ℕ) (x : Thread × List ℕ) → AreBytes bytes → waits_from bytes ≡ Some x → Behind thread_bytes IsThread 1 bytes x
 unfolding waits_from
@@ -174,9 +169,7 @@ waits_taken bytes x fits e =
 
 gone_taken : (bytes : List ℕ) (x : Thread × List ℕ) → AreBytes bytes → gone_from bytes ≡ Some x → Behind thread_bytes IsThread 2 bytes x
 unfolding gone_from
-gone_taken bytes x fits e =
-    let code = take_step word_code _ bytes x fits e in
-    subst (Behind thread_bytes IsThread 2 bytes) (same_Some _ _ code.goes_on) (record { body = word code.value; encoded = refl; joined = code.joined; left = code.left; is = code.is })
+gone_taken bytes x fits e = made_of word_code Gone 2 (λ code. refl) (λ code is. is) bytes x fits e
 
 thread_taken : (bytes : List ℕ) (x : Thread × List ℕ) → AreBytes bytes → thread_from bytes ≡ Some x → Splits bytes (thread_bytes x.0) x.1 × IsThread x.0
 unfolding thread_from

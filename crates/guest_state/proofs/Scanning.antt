@@ -4,6 +4,7 @@ use Rattle.std.specs.Prelude.{slice_set}
 use Rattle.std.specs.Option.{option_map}
 use Rattle.std.proofs.lemmas.List.{take_more_set, append-nil, take_all}
 use Rattle.std.proofs.lemmas.List.Sums.{sum_by-cons}
+use Rattle.std.proofs.Math.Bool.{and-true, and_assoc}
 use Rattle.dp_base.specs.declared.page.Page.{Page}
 use Rattle.dp_base.specs.Field.{number_at}
 use Rattle.dp_base.specs.Journal.{many_at}
@@ -73,15 +74,12 @@ registers_all x place bytes all size =
 abbrev pub threads_so_far : (n alive : ℕ) → List Thread × List ℕ → Skipped ℕ
 threads_so_far n alive p = counting (n + length p.0) (alive + live p.0) p.1
 
-abbrev one_if : Bool → ℕ
-one_if b = cond b 1 0
-
-pub thread_more : (m n alive : ℕ) (bytes : List ℕ) (t : Thread) (rest : List ℕ) (now : ℕ) → n < m → thread_from bytes ≡ Some (t, rest) → now ≡ alive + one_if (is_alive t)
+pub thread_more : (m n alive : ℕ) (bytes : List ℕ) (t : Thread) (rest : List ℕ) (now : ℕ) → n < m → thread_from bytes ≡ Some (t, rest) → now ≡ alive + cond (is_alive t) 1 0
     → option_map (threads_so_far n alive) (many_at thread_from (m - n) bytes) ≡ option_map (threads_so_far (n + 1) now) (many_at thread_from (m - (n + 1)) rest)
 thread_more m n alive bytes t rest now more is counted =
     left_read thread_from (threads_so_far n alive) (threads_so_far (n + 1) now) m n bytes t rest more is
     (λ p. let size : n + length (t ∷ p.0) ≡ n + 1 + length p.0 = omega arith in
-    let one : live (t ∷ p.0) ≡ one_if (is_alive t) + live p.0 = sum_by-cons (λ x. one_if (is_alive x)) t p.0 in
+    let one : live (t ∷ p.0) ≡ cond (is_alive t) 1 0 + live p.0 = sum_by-cons (λ x. cond (is_alive x) 1 0) t p.0 in
     let number : alive + live (t ∷ p.0) ≡ now + live p.0 = omega (arith, counted, one) in
     ap (λ (k : ℕ). counting k (alive + live (t ∷ p.0)) p.1) size ∙ ap (λ (k : ℕ). counting (n + 1 + length p.0) k p.1) number)
 
@@ -97,20 +95,12 @@ threads_all m n alive bytes all =
 abbrev pub pages_so_far : (n : ℕ) → Bool → (least : ℕ) → List Page × List ℕ → Skipped Bool
 pages_so_far n rise least p = testing (n + length p.0) (rise && rising_from least p.0) p.1
 
-and_assoc : (a b c : Bool) → a && (b && c) ≡ (a && b) && c
-and_assoc true b c = refl
-and_assoc false b c = refl
-
-and_true : (a : Bool) → a && true ≡ a
-and_true true = refl
-and_true false = refl
-
 pub page_more : (m n : ℕ) (rise : Bool) (least : ℕ) (bytes : List ℕ) (p : Page) (rest : List ℕ) (now : Bool) → n < m → page_from bytes ≡ Some (p, rest) → now ≡ (rise && leb least p.number)
     → option_map (pages_so_far n rise least) (many_at page_from (m - n) bytes) ≡ option_map (pages_so_far (n + 1) now (p.number + 1)) (many_at page_from (m - (n + 1)) rest)
 page_more m n rise least bytes p rest now more is counted =
     left_read page_from (pages_so_far n rise least) (pages_so_far (n + 1) now (p.number + 1)) m n bytes p rest more is
     (λ q. let size : n + length (p ∷ q.0) ≡ n + 1 + length q.0 = omega arith in
-    let all : (rise && (leb least p.number && rising_from (p.number + 1) q.0)) ≡ (now && rising_from (p.number + 1) q.0) = and_assoc rise (leb least p.number) (rising_from (p.number + 1) q.0) ∙ ap (λ (b : Bool). b && rising_from (p.number + 1) q.0) (sym counted) in
+    let all : (rise && (leb least p.number && rising_from (p.number + 1) q.0)) ≡ (now && rising_from (p.number + 1) q.0) = sym (and_assoc rise (leb least p.number) (rising_from (p.number + 1) q.0)) ∙ ap (λ (b : Bool). b && rising_from (p.number + 1) q.0) (sym counted) in
     ap (λ (k : ℕ). testing k (rise && rising_from least (p ∷ q.0)) q.1) size ∙ ap (λ (b : Bool). testing (n + 1 + length q.0) b q.1) all)
 
 pub page_none : (m n : ℕ) (rise : Bool) (least : ℕ) (bytes : List ℕ) → n < m → page_from bytes ≡ None → option_map (pages_so_far n rise least) (many_at page_from (m - n) bytes) ≡ None
@@ -118,7 +108,7 @@ page_none m n rise least bytes more is = left_none page_from (pages_so_far n ris
 
 pub pages_all : (m n : ℕ) (rise : Bool) (least : ℕ) (bytes : List ℕ) → n ≡ m → option_map (pages_so_far n rise least) (many_at page_from (m - n) bytes) ≡ Some (testing m rise bytes)
 pages_all m n rise least bytes all =
-    left_all page_from (pages_so_far n rise least) m n bytes (omega (arith, all)) ∙ ap (λ (k : ℕ). Some (testing k (rise && true) bytes)) (omega (arith, all)) ∙ ap (λ (b : Bool). Some (testing m b bytes)) (and_true rise)
+    left_all page_from (pages_so_far n rise least) m n bytes (omega (arith, all)) ∙ ap (λ (k : ℕ). Some (testing k (rise && true) bytes)) (omega (arith, all)) ∙ ap (λ (b : Bool). Some (testing m b bytes)) (and-true rise)
 
 -- a bool as a number
 pub at_most_one : (b : Bool) → cond b 1 0 ≤ 1

@@ -1,6 +1,7 @@
 -- One step of a reader that goes on over a code: what was taken, and what is found.
-use Rattle.std.proofs.Common.{◌≡◌, ℕ, ◌<◌, ◌^◌, List, ◌++◌, length, Option, Some, sym, ap, ◌∙◌, append_assoc}
+use Rattle.std.proofs.Common.{◌≡◌, ℕ, ◌<◌, ◌^◌, List, ◌++◌, length, Option, Some, sym, ap, subst, ◌∙◌, append_assoc}
 use Rattle.std.specs.List.{flat_map, AllByRecursion}
+use Rattle.std.proofs.lemmas.Option.{same_Some}
 use Rattle.dp_base.specs.Encoding.{IsPrefixCode}
 use Rattle.dp_base.specs.Field.{AreBytes, ◌>>=◌, bytes_at}
 use Rattle.dp_base.specs.Journal.{many_at}
@@ -63,6 +64,13 @@ pub record Behind {X : Type 0} (encode : X → List ℕ) (Is : X → Type 0) (ki
   pub joined : bytes ≡ body ++ x.1
   pub left : AreBytes x.1
   pub is : Is x.0
+
+-- a value that is made of one part
+pub made_of : {X Y : Type 0} {item : List ℕ → Option (X × List ℕ)} {part : X → List ℕ} {IsPart : X → Type 0} {encode : Y → List ℕ} {Is : Y → Type 0} → IsPrefixCode item part IsPart → (make : X → Y) (kind : ℕ)
+    → ((x : X) → encode (make x) ≡ little_bytes 1 kind ++ part x) → ((x : X) → IsPart x → Is (make x)) → (bytes : List ℕ) (y : Y × List ℕ) → AreBytes bytes → (item bytes >>= λ x. Some (make x.0, x.1)) ≡ Some y → Behind encode Is kind bytes y
+made_of {part = part} {encode = encode} {Is = Is} code make kind encoded is bytes y fits e =
+    let x = take_step code _ bytes y fits e in
+    subst (Behind encode Is kind bytes) (same_Some _ _ x.goes_on) (record { body = part x.value; encoded = encoded x.value; joined = x.joined; left = x.left; is = is x.value x.is })
 
 abbrev IsByte : ℕ → Type 0
 IsByte n = n < 256 ^ 1
