@@ -16,14 +16,20 @@ use Rattle.dp_base.specs.Memory.{ArePages, IsPage, Memory, bytes_with, change_pa
 use Rattle.dp_base.specs.declared.access.Width.TheVariants.{Four}
 use Rattle.dp_base.specs.declared.page.Page.{Page}
 
-pub ArePages-set : (memory : Memory) (i : ℕ) (p q : Page) → ArePages memory → slice_get memory i ≡ Some p → q.number ≡ p.number → q.flags ≡ p.flags → length q.bytes ≡ length p.bytes → ArePages (slice_set memory i q)
-ArePages-set memory i p q are at number flags bytes =
+-- a page with other bytes, as many
+pub record Rewritten (p q : Page) : Type 0 where
+  pub number : q.number ≡ p.number
+  pub flags : q.flags ≡ p.flags
+  pub count : length q.bytes ≡ length p.bytes
+
+ArePages-set : (memory : Memory) (i : ℕ) (p q : Page) → ArePages memory → slice_get memory i ≡ Some p → Rewritten p q → ArePages (slice_set memory i q)
+ArePages-set memory i p q are at same =
     let within = slice_get_within memory i p at in
     let here = get_or_from_slice_get memory i p p at in
     let page : IsPage p = subst IsPage here (All-get_or IsPage memory i p within are.each) in
     record {
-      each = All-set IsPage memory i q (record { number = omega (arith, number, page.number); flags = omega (arith, flags, page.flags); bytes = bytes ∙ page.bytes }) are.each;
-      rising = subst IsStrictlyIncreasing (sym (map-set_same (λ (x : Page). x.number) memory i q p (number ∙ ap (λ (x : Page). x.number) (sym here)))) are.rising;
+      each = All-set IsPage memory i q (record { number = omega (arith, same.number, page.number); flags = omega (arith, same.flags, page.flags); bytes = same.count ∙ page.bytes }) are.each;
+      rising = subst IsStrictlyIncreasing (sym (map-set_same (λ (x : Page). x.number) memory i q p (same.number ∙ ap (λ (x : Page). x.number) (sym here)))) are.rising;
       few = omega (arith, length-set memory i q, are.few);
     }
 
@@ -136,34 +142,25 @@ put_some a v memory i place = put_at a v memory i (slice_get memory i) refl (sym
 pub put_none : (a v : ℕ) (memory : Memory) → None ≡ place_of memory (a / 4096) → put_byte a v memory ≡ memory
 put_none a v memory place = change_none (a / 4096) (with_byte (a % 4096) v) memory (page_none memory (a / 4096) place)
 
-kept_by : (memory : Memory) (i : ℕ) (f : Page → Page) (x : Option Page) → slice_get memory i ≡ x → ArePages memory → ((p : Page) → (f p).number ≡ p.number) → ((p : Page) → (f p).flags ≡ p.flags) → ((p : Page) → length (f p).bytes ≡ length p.bytes) → ArePages (changed_at memory i f x)
-kept_by memory i f None at are number flags bytes = are
-kept_by memory i f (Some p) at are number flags bytes = ArePages-set memory i p (f p) are at (number p) (flags p) (bytes p)
+kept_by : (memory : Memory) (i : ℕ) (f : Page → Page) (x : Option Page) → slice_get memory i ≡ x → ArePages memory → ((p : Page) → Rewritten p (f p)) → ArePages (changed_at memory i f x)
+kept_by memory i f None at are same = are
+kept_by memory i f (Some p) at are same = ArePages-set memory i p (f p) are at (same p)
 
-pub ArePages-changed : (memory : Memory) (i : ℕ) (f : Page → Page) → ArePages memory → ((p : Page) → (f p).number ≡ p.number) → ((p : Page) → (f p).flags ≡ p.flags) → ((p : Page) → length (f p).bytes ≡ length p.bytes) → ArePages (changed_at memory i f (slice_get memory i))
+pub ArePages-changed : (memory : Memory) (i : ℕ) (f : Page → Page) → ArePages memory → ((p : Page) → Rewritten p (f p)) → ArePages (changed_at memory i f (slice_get memory i))
 ArePages-changed memory i f = kept_by memory i f (slice_get memory i) refl
 
 -- what written bytes keep of a page
-with_bytes_number : (o : ℕ) (bytes : List ℕ) (p : Page) → (with_bytes o bytes p).number ≡ p.number
-with_bytes_number o [] p = refl
-with_bytes_number o (b ∷ bs) p = with_bytes_number (o + 1) bs (with_byte o b p)
+pub with_byte_rewritten : (o byte : ℕ) (p : Page) → Rewritten p (with_byte o byte p)
+with_byte_rewritten o byte p = record { number = refl; flags = refl; count = length-set p.bytes o byte }
 
-with_bytes_flags : (o : ℕ) (bytes : List ℕ) (p : Page) → (with_bytes o bytes p).flags ≡ p.flags
-with_bytes_flags o [] p = refl
-with_bytes_flags o (b ∷ bs) p = with_bytes_flags (o + 1) bs (with_byte o b p)
+with_bytes_rewritten : (o : ℕ) (bytes : List ℕ) (p : Page) → Rewritten p (with_bytes o bytes p)
+with_bytes_rewritten o [] p = record { number = refl; flags = refl; count = refl }
+with_bytes_rewritten o (b ∷ bs) p =
+    let others = with_bytes_rewritten (o + 1) bs (with_byte o b p) in
+    record { number = others.number; flags = others.flags; count = others.count ∙ length-set p.bytes o b }
 
-with_bytes_length : (o : ℕ) (bytes : List ℕ) (p : Page) → length (with_bytes o bytes p).bytes ≡ length p.bytes
-with_bytes_length o [] p = refl
-with_bytes_length o (b ∷ bs) p = with_bytes_length (o + 1) bs (with_byte o b p) ∙ length-set p.bytes o b
-
-pub written_number : (o : ℕ) (bytes : List ℕ) (p : Page) → (written o bytes p).number ≡ p.number
-written_number o bytes p = elim (has_flag 2 p) as (λ (b : Bool). (if b then with_bytes o bytes p else p).number ≡ p.number) [ true ↦ with_bytes_number o bytes p | false ↦ refl ]
-
-pub written_flags : (o : ℕ) (bytes : List ℕ) (p : Page) → (written o bytes p).flags ≡ p.flags
-written_flags o bytes p = elim (has_flag 2 p) as (λ (b : Bool). (if b then with_bytes o bytes p else p).flags ≡ p.flags) [ true ↦ with_bytes_flags o bytes p | false ↦ refl ]
-
-pub written_length : (o : ℕ) (bytes : List ℕ) (p : Page) → length (written o bytes p).bytes ≡ length p.bytes
-written_length o bytes p = elim (has_flag 2 p) as (λ (b : Bool). length (if b then with_bytes o bytes p else p).bytes ≡ length p.bytes) [ true ↦ with_bytes_length o bytes p | false ↦ refl ]
+pub written_rewritten : (o : ℕ) (bytes : List ℕ) (p : Page) → Rewritten p (written o bytes p)
+written_rewritten o bytes p = elim (has_flag 2 p) as (λ (b : Bool). Rewritten p (if b then with_bytes o bytes p else p)) [ true ↦ with_bytes_rewritten o bytes p | false ↦ with_bytes_rewritten o [] p ]
 
 -- a table stays one whichever way a call went
 pub ArePages-either : {X E : Type 0} (r : Result X E) (table mapped memory : Memory) → OnOk r (table ≡ mapped) → OnErr r (table ≡ memory) → ArePages mapped → ArePages memory → ArePages table
