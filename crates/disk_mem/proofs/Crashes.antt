@@ -11,14 +11,14 @@ use Rattle.disk_model.proofs.Images.{length-overwritten, overwritten-outside}
 use Rattle.disk_model.specs.History.{Range, Pending, History, IsOutside, IsImage, nothing_pending, write_pending}
 use Rattle.disk_model.specs.Known.{overwritten}
 use Rattle.disk_model.specs.Steps.{cut_pending}
-use Rattle.disk_model.specs.declared.world.Stream.TheVariants.{Out, Note}
 use Rattle.disk_mem.specs.declared.call.Call.{Call}
-use Rattle.disk_mem.specs.declared.call.Call.TheVariants.{Attach, Len, Read, Write, Cut, Sync, Emit}
+use Rattle.disk_mem.specs.declared.call.Call.TheVariants.{Write, Cut, Sync}
 use Rattle.disk_mem.specs.Replay.{start, after_call, replay}
 use Rattle.disk_mem.specs.Recording.{Recording, recording}
 use Rattle.disk_mem.specs.Crashing.{without_pending, is_within, byte_or_one, with_ones}
+use Rattle.disk_mem.proofs.Filled.{length-padded}
 use Rattle.disk_mem.proofs.Keeps.{replay-push}
-use Rattle.disk_mem.proofs.Spans.{spans-replay, spans-synced}
+use Rattle.disk_mem.proofs.Spans.{Spans, spans-replay, spans-synced}
 
 -- ---- one byte
 
@@ -96,9 +96,6 @@ one-of p i below = get_or-map-range_with_len (byte_or_one p) 0 p.greatest i i 0 
 abbrev pub longer : ℕ → List ℕ → List ℕ
 longer n l = l ++ replicate (n - length l) 1
 
-length-longer : (n : ℕ) (l : List ℕ) → length (longer n l) ≡ max (length l) n
-length-longer n l = omega (arith, length-append l (replicate (n - length l) 1), length-replicate {A = ℕ} (n - length l) 1)
-
 one-of-longer : (n : ℕ) (p : Pending) (i : ℕ) → p.least ≤ p.greatest → i < max p.greatest n → get_or (longer n (with_ones p)) i 0 ≡ byte_or_one p i
 one-of-longer n p i ordered below =
     let size = length-ones p in
@@ -124,7 +121,7 @@ ones-write at count p ordered =
     let long = longer (at + count) (with_ones p) in
     let put : List ℕ = replicate count 1 in
     let ones : length put ≡ count = length-replicate {A = ℕ} count 1 in
-    let size : length long ≡ max p.greatest (at + count) = omega (arith, length-longer (at + count) (with_ones p), length-ones p) in
+    let size : length long ≡ max p.greatest (at + count) = omega (arith, length-padded (at + count) 1 (with_ones p), length-ones p) in
     let within : at ≤ length long = omega (arith, size) in
     ext_get_or 0 (with_ones q) (overwritten at put long)
     (omega (arith, length-ones q, length-overwritten at put long within, size, ones))
@@ -152,7 +149,7 @@ ones-cut size p ordered =
     let long = longer size (with_ones p) in
     let ones : List ℕ = replicate (length (with_ones p) - size) 1 in
     let all = length-ones p in
-    let whole : length long ≡ max p.greatest size = omega (arith, length-longer size (with_ones p), all) in
+    let whole : length long ≡ max p.greatest size = omega (arith, length-padded size 1 (with_ones p), all) in
     let part : length (take size long) ≡ size = omega (arith, length-take size long, whole) in
     let rest : length ones ≡ p.greatest - size = omega (arith, length-replicate {A = ℕ} (length (with_ones p) - size) 1, all) in
     ext_get_or 0 (with_ones q) (take size long ++ ones)
@@ -198,23 +195,19 @@ marked-cut call size old new false h is e same ordered =
     e ∙ ap (λ (l : List ℕ). take size (longer size l) ++ replicate (length l - size) 1) same ∙ sym (ones-cut size h.pending ordered)
     ∙ ap (λ (c : Call). with_ones (after_call c h).pending) (sym is)
 
-pub marked-sync : (call : Call) (disk old new : List ℕ) (ok : Bool) (h : History) → call ≡ Sync ok → new ≡ (if ok then disk else old) → disk ≡ h.disk → old ≡ with_ones h.pending → new ≡ with_ones (after_call call h).pending
-marked-sync call disk old new true h is e same ones = e ∙ same ∙ sym (ones-synced h.disk) ∙ ap (λ (c : Call). with_ones (after_call c h).pending) (sym is)
-marked-sync call disk old new false h is e same ones = e ∙ ones ∙ ap (λ (c : Call). with_ones (after_call c h).pending) (sym is)
+-- ---- an image that is what a read gives, where nothing is pending
 
-pub kept-sync : (call : Call) (disk old new : List ℕ) (ok : Bool) (h : History) → call ≡ Sync ok → new ≡ (if ok then disk else old) → disk ≡ h.disk → old ≡ without_pending h.pending → new ≡ without_pending (after_call call h).pending
-kept-sync call disk old new true h is e same kept =
-    e ∙ same ∙ sym (take_all (length h.disk) h.disk (omega arith)) ∙ ap (λ (c : Call). without_pending (after_call c h).pending) (sym is)
-kept-sync call disk old new false h is e same kept = e ∙ kept ∙ ap (λ (c : Call). without_pending (after_call c h).pending) (sym is)
+pub kept-synced : (disk : List ℕ) → without_pending (nothing_pending disk) ≡ disk
+kept-synced disk = take_all (length disk) disk (omega arith)
+
+pub image-sync : (image : Pending → List ℕ) → ((disk : List ℕ) → image (nothing_pending disk) ≡ disk) → (call : Call) (disk old new : List ℕ) (ok : Bool) (h : History) → call ≡ Sync ok → new ≡ (if ok then disk else old) → disk ≡ h.disk → old ≡ image h.pending → new ≡ image (after_call call h).pending
+image-sync image synced call disk old new true h is e same old-is = e ∙ same ∙ sym (synced h.disk) ∙ ap (λ (c : Call). image (after_call c h).pending) (sym is)
+image-sync image synced call disk old new false h is e same old-is = e ∙ old-is ∙ ap (λ (c : Call). image (after_call c h).pending) (sym is)
 
 -- before the first call
-pub kept-first : (first disk kept : List ℕ) → disk ≡ first → kept ≡ first → (disk ≡ (replay (start first) []).disk) × (kept ≡ without_pending (replay (start first) []).pending)
+pub image-first : (image : Pending → List ℕ) → ((disk : List ℕ) → image (nothing_pending disk) ≡ disk) → (first disk bytes : List ℕ) → disk ≡ first → bytes ≡ first → (disk ≡ (replay (start first) []).disk) × (bytes ≡ image (replay (start first) []).pending)
 unfolding replay
-kept-first first disk kept same e = (same, e ∙ sym (take_all (length first) first (omega arith)))
-
-pub marked-first : (first disk ones : List ℕ) → disk ≡ first → ones ≡ first → (disk ≡ (replay (start first) []).disk) × (ones ≡ with_ones (replay (start first) []).pending)
-unfolding replay
-marked-first first disk ones same e = (same, e ∙ sym (ones-synced first))
+image-first image synced first disk bytes same e = (same, e ∙ sym (synced first))
 
 -- the first calls, and one more
 pub replay-next : (h : History) (calls : List Call) (i : ℕ) (call : Call) → i < length calls → call ≡ get_or calls i call → replay h (take (i + 1) calls) ≡ after_call call (replay h (take i calls))
@@ -224,31 +217,13 @@ replay-next h calls i call below is =
     ∙ ap (replay h) (take-suc calls i call below ∙ ap (λ (c : Call). take i calls ++ c ∷ []) (sym is))
     ∙ replay-push h (take i calls) call
 
+spans : (first : List ℕ) (calls : List Call) → Spans (replay (start first) calls).pending (replay (start first) calls).disk
+spans first calls = spans-replay calls (start first) (spans-synced first)
+
 pub ordered : (first : List ℕ) (calls : List Call) → (replay (start first) calls).pending.least ≤ (replay (start first) calls).pending.greatest
-ordered first calls =
-    let spans = spans-replay calls (start first) (spans-synced first) in
-    omega (arith, spans.no_shorter, spans.no_longer)
+ordered first calls = omega (arith, (spans first calls).no_shorter, (spans first calls).no_longer)
 
 -- ---- images
-
--- the last sync left no fewer bytes than the least length
-fits-call : (call : Call) (h : History) → h.pending.least ≤ length h.pending.synced → (after_call call h).pending.least ≤ length (after_call call h).pending.synced
-fits-call (Attach ok) h is = is
-fits-call (Len ok) h is = is
-fits-call (Read at count ok) h is = is
-fits-call (Write at bytes true) h is = is
-fits-call (Write at bytes false) h is = is
-fits-call (Cut size true) h is = omega (arith, is)
-fits-call (Cut size false) h is = omega (arith, is)
-fits-call (Sync true) h is = omega arith
-fits-call (Sync false) h is = is
-fits-call (Emit Out piece count ok) h is = is
-fits-call (Emit Note piece count ok) h is = is
-
-fits-replay : (calls : List Call) (h : History) → h.pending.least ≤ length h.pending.synced → (replay h calls).pending.least ≤ length (replay h calls).pending.synced
-unfolding replay
-fits-replay [] h is = is
-fits-replay (call ∷ calls) h is = fits-replay calls (after_call call h) (fits-call call h is)
 
 without-is-image : (p : Pending) (image : List ℕ) → image ≡ without_pending p → p.least ≤ length p.synced → p.least ≤ p.greatest → AreBytes image → IsImage p image
 without-is-image p image is fits ordered bytes =
@@ -273,7 +248,7 @@ ones-are-image p image is ordered bytes =
 pub kept-is-image : (first : List ℕ) (calls : List Call) (now : Recording) (image : List ℕ) → recording first calls ≡ now → image ≡ without_pending (replay (start first) calls).pending → AreBytes image → IsImage now.history.pending image
 kept-is-image first calls now image same is bytes =
     subst (λ (r : Recording). IsImage r.history.pending image) same
-    (without-is-image (replay (start first) calls).pending image is (fits-replay calls (start first) (omega arith)) (ordered first calls) bytes)
+    (without-is-image (replay (start first) calls).pending image is (spans first calls).synced (ordered first calls) bytes)
 
 pub marked-is-image : (first : List ℕ) (calls : List Call) (now : Recording) (image : List ℕ) → recording first calls ≡ now → image ≡ with_ones (replay (start first) calls).pending → AreBytes image → IsImage now.history.pending image
 marked-is-image first calls now image same is bytes =

@@ -240,12 +240,8 @@ fn overwrite(
     ensures no_byte { OnErr result (disk.new.items ≡ disk.old.items) }
 {
     let start = at as usize;
-    // No memory holds more bytes than a `usize` counts.
-    let Some(end) = start.checked_add(bytes.len()) else {
-        return Err(OutOfMemory);
-    };
     let len = disk.len();
-    fill_up(disk, end)?;
+    fill_up(disk, start, bytes.len())?;
     match push_call(calls, call) {
         Ok(()) => {
             write_within(disk, start, bytes);
@@ -281,13 +277,17 @@ fn send(
     }
 }
 
-// Makes them at least this many, with zero bytes at the end.
-pub(crate) fn fill_up(content: &mut Vec<u8>, count: usize) -> Result<(), OutOfMemory>
-    ensures ok { OnOk result (content.new.items ≡ filled count content.old.items) }
+// Makes room for so many bytes at an offset, with zero bytes at the end.
+pub(crate) fn fill_up(content: &mut Vec<u8>, start: usize, count: usize) -> Result<(), OutOfMemory>
+    ensures ok { OnOk result (content.new.items ≡ filled (start + count) content.old.items) }
     ensures err { OnErr result (content.new.items ≡ content.old.items) }
 {
-    if content.len() < count {
-        content.resize(count, 0)?;
+    // No memory holds more bytes than a `usize` counts.
+    let Some(end) = start.checked_add(count) else {
+        return Err(OutOfMemory);
+    };
+    if content.len() < end {
+        content.resize(end, 0)?;
     }
     Ok(())
 }

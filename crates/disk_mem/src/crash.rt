@@ -62,10 +62,7 @@ fn write_filled(disk: &mut Vec<u8>, at: u64, bytes: &[u8]) -> Result<(), OutOfMe
     ensures { OnOk result (disk.new.items ≡ overwritten at bytes.now (filled at disk.old.items)) }
 {
     let start = at as usize;
-    let Some(end) = start.checked_add(bytes.len()) else {
-        return Err(OutOfMemory);
-    };
-    fill_up(disk, end)?;
+    fill_up(disk, start, bytes.len())?;
     write_within(disk, start, bytes);
     Ok(())
 }

@@ -2,14 +2,14 @@ use Rattle.std.proofs.Common.{◌≡◌, ◌∙◌, ap, sym, take, rules}
 use Rattle.disk_model.specs.History.{History}
 use Rattle.disk_mem.specs.Replay.{start, replay}
 use Rattle.disk_mem.specs.Crashing.{with_ones}
-use Rattle.disk_mem.proofs.Crashes.{marked-first, ordered, replay-next}
+use Rattle.disk_mem.proofs.Crashes.{image-first, ones-synced, ordered, replay-next}
 use Rattle.disk_mem.proofs.crash.bytes_with_ones.Goals as goal
 
 pub loop-call-init : goal.loop-call-init
 loop-call-init c =
     let disk : c.in_ok-disk.disk.items ≡ c.args.first.now = search rules in
     let ones : c.in_ok-ones.ones.items ≡ c.args.first.now = search rules in
-    let both = marked-first c.args.first.now c.in_ok-disk.disk.items c.in_ok-ones.ones.items disk ones in
+    let both = image-first with_ones ones-synced c.args.first.now c.in_ok-disk.disk.items c.in_ok-ones.ones.items disk ones in
     record { disk = both.0; ones = both.1 }
 
 pub loop-call-preserved : goal.loop-call-preserved

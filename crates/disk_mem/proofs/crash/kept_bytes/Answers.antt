@@ -2,14 +2,14 @@ use Rattle.std.proofs.Common.{◌≡◌, ◌∙◌, ap, sym, take, rules}
 use Rattle.disk_model.specs.History.{History}
 use Rattle.disk_mem.specs.Replay.{start, replay}
 use Rattle.disk_mem.specs.Crashing.{without_pending}
-use Rattle.disk_mem.proofs.Crashes.{kept-first, replay-next}
+use Rattle.disk_mem.proofs.Crashes.{image-first, kept-synced, replay-next}
 use Rattle.disk_mem.proofs.crash.kept_bytes.Goals as goal
 
 pub loop-call-init : goal.loop-call-init
 loop-call-init c =
     let disk : c.in_ok-disk.disk.items ≡ c.args.first.now = search rules in
     let kept : c.in_ok-kept.kept.items ≡ c.args.first.now = search rules in
-    let both = kept-first c.args.first.now c.in_ok-disk.disk.items c.in_ok-kept.kept.items disk kept in
+    let both = image-first without_pending kept-synced c.args.first.now c.in_ok-disk.disk.items c.in_ok-kept.kept.items disk kept in
     record { disk = both.0; kept = both.1 }
 
 pub loop-call-preserved : goal.loop-call-preserved

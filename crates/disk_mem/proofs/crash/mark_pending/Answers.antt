@@ -1,5 +1,6 @@
 use Rattle.std.proofs.Common.{ap, length}
-use Rattle.disk_mem.proofs.Crashes.{marked-write, marked-cut, marked-sync}
+use Rattle.disk_mem.specs.Crashing.{with_ones}
+use Rattle.disk_mem.proofs.Crashes.{image-sync, marked-write, marked-cut, ones-synced}
 use Rattle.disk_mem.proofs.crash.mark_pending.Goals as goal
 
 pub returns-in_ok-put_ones-in-Write : goal.returns-in_ok-put_ones-in-Write
@@ -12,4 +13,4 @@ returns-in_ok-put_ones_behind-in-Cut c h disk ones ordered =
 
 pub returns-in_ok-take_synced-in-Sync : goal.returns-in_ok-take_synced-in-Sync
 returns-in_ok-take_synced-in-Sync c h disk ones ordered =
-    marked-sync c.args.call.now c.args.disk.now _ _ c.in-Sync.ok h c.in-Sync.is c.in_ok-take_synced-in-Sync.ensures disk ones
+    image-sync with_ones ones-synced c.args.call.now c.args.disk.now _ _ c.in-Sync.ok h c.in-Sync.is c.in_ok-take_synced-in-Sync.ensures disk ones
