@@ -1,57 +1,44 @@
 -- What a word is decoded to can be encoded: each row of the tables takes its operands from the word's fields, and these fit.
-use Rattle.std.proofs.Common.{◌≡◌, ◌+◌, ◌-◌, ◌*◌, ◌%◌, ◌^◌, ◌<◌, ℕ, Bool, true, false, cond, ltb, Option, Some, None, IfSome, refl, subst, arith, rules, inl, inr}
+use Rattle.std.proofs.Common.{◌≡◌, ◌+◌, ◌-◌, ◌*◌, ◌%◌, ◌^◌, ◌<◌, ◌≤◌, ◌⊎◌, ℕ, Bool, true, false, cond, ltb, Option, Some, None, IfSome, refl, subst, arith, rules, inl, inr}
 use Rattle.std.proofs.lemmas.Bool.{ltb-true, ltb-false}
 use Rattle.rv_step.specs.declared.instr.Instr.{Instr}
 use Rattle.rv_step.specs.Decoding.{amo, branch, decoded, jump_register, load, misc_mem, op, op_imm, store, system}
 use Rattle.rv_step.specs.Encoding.{IsEven, IsInstruction, IsSigned, IsUpper}
-use Rattle.rv_step.specs.Field.{bits, immediate_b, immediate_i, immediate_j, immediate_s, immediate_u, rd, rs1, rs2}
+use Rattle.rv_step.specs.Field.{bits, immediate_b, immediate_i, immediate_j, immediate_s, immediate_u}
 
 -- ---- fields
 
-rd_fits : (word : ℕ) → rd word < 32
-rd_fits word = omega arith
-
-rs1_fits : (word : ℕ) → rs1 word < 32
-rs1_fits word = omega arith
-
-rs2_fits : (word : ℕ) → rs2 word < 32
-rs2_fits word = omega arith
+field_fits : (n : ℕ) → n % 32 < 32
+field_fits n = omega arith
 
 -- ---- immediates
 
-extended_12 : (n : ℕ) (below : Bool) → n < 2 ^ 12 → ltb n (2 ^ 11) ≡ below → IsSigned 12 (cond below n (n + (2 ^ 32 - 2 ^ 12)))
-extended_12 n true fits e = inl (ltb-true _ _ e)
-extended_12 n false fits e = let large = ltb-false n (2 ^ 11) e in inr (omega arith, omega arith)
-
-extended_13 : (n : ℕ) (below : Bool) → n < 2 ^ 13 → ltb n (2 ^ 12) ≡ below → IsSigned 13 (cond below n (n + (2 ^ 32 - 2 ^ 13)))
-extended_13 n true fits e = inl (ltb-true _ _ e)
-extended_13 n false fits e = let large = ltb-false n (2 ^ 12) e in inr (omega arith, omega arith)
-
-extended_21 : (n : ℕ) (below : Bool) → n < 2 ^ 21 → ltb n (2 ^ 20) ≡ below → IsSigned 21 (cond below n (n + (2 ^ 32 - 2 ^ 21)))
-extended_21 n true fits e = inl (ltb-true _ _ e)
-extended_21 n false fits e = let large = ltb-false n (2 ^ 20) e in inr (omega arith, omega arith)
+extended : (half n : ℕ) (below : Bool) → half ≤ 2 ^ 31 → n < half + half → ltb n half ≡ below
+    → let e = cond below n (n + (2 ^ 32 - (half + half))) in (e < half) ⊎ ((2 ^ 32 - half ≤ e) × (e < 2 ^ 32))
+extended half n true small fits e = inl (ltb-true _ _ e)
+extended half n false small fits e = let large = ltb-false n half e in inr (omega arith, omega arith)
 
 extended_even : (n : ℕ) (below : Bool) (more : ℕ) → n % 2 ≡ 0 → more % 2 ≡ 0 → IsEven (cond below n (n + more))
 extended_even n true more even even_more = even
 extended_even n false more even even_more = omega arith
 
 immediate_i_fits : (word : ℕ) → IsSigned 12 (immediate_i word)
-immediate_i_fits word = extended_12 (bits 31 20 word) _ (omega arith) refl
+immediate_i_fits word = extended (2 ^ 11) (bits 31 20 word) _ (omega arith) (omega arith) refl
 
 immediate_s_fits : (word : ℕ) → IsSigned 12 (immediate_s word)
-immediate_s_fits word = extended_12 (2 ^ 5 * bits 31 25 word + bits 11 7 word) _ (omega arith) refl
+immediate_s_fits word = extended (2 ^ 11) (2 ^ 5 * bits 31 25 word + bits 11 7 word) _ (omega arith) (omega arith) refl
 
 abbrev offset_b : ℕ → ℕ
 offset_b word = 2 ^ 12 * bits 31 31 word + 2 ^ 11 * bits 7 7 word + 2 ^ 5 * bits 30 25 word + 2 * bits 11 8 word
 
 immediate_b_fits : (word : ℕ) → IsEven (immediate_b word) × IsSigned 13 (immediate_b word)
-immediate_b_fits word = (extended_even (offset_b word) _ _ (omega arith) refl, extended_13 (offset_b word) _ (omega arith) refl)
+immediate_b_fits word = (extended_even (offset_b word) _ _ (omega arith) refl, extended (2 ^ 12) (offset_b word) _ (omega arith) (omega arith) refl)
 
 abbrev offset_j : ℕ → ℕ
 offset_j word = 2 ^ 20 * bits 31 31 word + 2 ^ 12 * bits 19 12 word + 2 ^ 11 * bits 20 20 word + 2 * bits 30 21 word
 
 immediate_j_fits : (word : ℕ) → IsEven (immediate_j word) × IsSigned 21 (immediate_j word)
-immediate_j_fits word = (extended_even (offset_j word) _ _ (omega arith) refl, extended_21 (offset_j word) _ (omega arith) refl)
+immediate_j_fits word = (extended_even (offset_j word) _ _ (omega arith) refl, extended (2 ^ 20) (offset_j word) _ (omega arith) (omega arith) refl)
 
 immediate_u_fits : (word : ℕ) → IsUpper (immediate_u word)
 immediate_u_fits word = (omega arith, omega arith)
@@ -73,22 +60,22 @@ none : IsTable None
 none = record { each = tt }
 
 jump_register_fits : (word : ℕ) → IsTable (jump_register word)
-jump_register_fits word = search (rules, either, row, none, rd_fits, rs1_fits, immediate_i_fits)
+jump_register_fits word = search (rules, either, row, none, field_fits, immediate_i_fits)
 
 branch_fits : (word : ℕ) → IsTable (branch word)
-branch_fits word = let even = immediate_b_fits word in search (rules, either, row, none, rs1_fits, rs2_fits, even.0, even.1)
+branch_fits word = let even = immediate_b_fits word in search (rules, either, row, none, field_fits, even.0, even.1)
 
 load_fits : (word : ℕ) → IsTable (load word)
-load_fits word = search (rules, either, row, none, rd_fits, rs1_fits, immediate_i_fits)
+load_fits word = search (rules, either, row, none, field_fits, immediate_i_fits)
 
 store_fits : (word : ℕ) → IsTable (store word)
-store_fits word = search (rules, either, row, none, rs1_fits, rs2_fits, immediate_s_fits)
+store_fits word = search (rules, either, row, none, field_fits, immediate_s_fits)
 
 op_imm_fits : (word : ℕ) → IsTable (op_imm word)
-op_imm_fits word = search (rules, either, row, none, rd_fits, rs1_fits, rs2_fits, immediate_i_fits) depth 20
+op_imm_fits word = search (rules, either, row, none, field_fits, immediate_i_fits) depth 20
 
 op_fits : (word : ℕ) → IsTable (op word)
-op_fits word = search (rules, either, row, none, rd_fits, rs1_fits, rs2_fits) depth 20
+op_fits word = search (rules, either, row, none, field_fits) depth 20
 
 misc_mem_fits : (word : ℕ) → IsTable (misc_mem word)
 misc_mem_fits word = search (rules, either, row, none)
@@ -97,12 +84,12 @@ system_fits : (word : ℕ) → IsTable (system word)
 system_fits word = search (rules, either, row, none)
 
 amo_fits : (word : ℕ) → IsTable (amo word)
-amo_fits word = search (rules, either, row, none, rd_fits, rs1_fits, rs2_fits) depth 20
+amo_fits word = search (rules, either, row, none, field_fits) depth 20
 
 decoded_fits : (word : ℕ) → IsTable (decoded word)
 decoded_fits word =
     let even = immediate_j_fits word in
-    search (rules, either, row, none, rd_fits, immediate_u_fits, even.0, even.1, jump_register_fits, branch_fits, load_fits, store_fits, op_imm_fits, op_fits, misc_mem_fits, system_fits, amo_fits) depth 20
+    search (rules, either, row, none, field_fits, immediate_u_fits, even.0, even.1, jump_register_fits, branch_fits, load_fits, store_fits, op_imm_fits, op_fits, misc_mem_fits, system_fits, amo_fits) depth 20
 
 pub decoding_is_encodable : (word : ℕ) (i : Instr) → word < 2 ^ 32 → decoded word ≡ Some i → IsInstruction i
 decoding_is_encodable word i fits e = subst (λ (found : Option Instr). IfSome found IsInstruction) e (decoded_fits word).each

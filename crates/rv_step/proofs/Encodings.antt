@@ -7,7 +7,7 @@ use Rattle.rv_step.specs.declared.instr.Instr.TheVariants as instrs
 use Rattle.rv_step.specs.Decoding.{decoded, with_b, with_i, with_r, with_s}
 use Rattle.rv_step.specs.Encoding.{IsEven, IsInstruction, IsSigned, IsUpper, encoded, form_b, form_i, form_j, form_r, form_s, form_u}
 use Rattle.rv_step.specs.Field.{funct3, funct7, immediate_b, immediate_i, immediate_j, immediate_s, immediate_u, opcode, rd, rs1, rs2}
-use Rattle.rv_step.proofs.Forms.{funct3_b, funct3_i, funct3_r, funct3_s, funct5_of_funct7, funct7_r, immediate_b_b, immediate_i_i, immediate_j_j, immediate_s_s, immediate_u_u, opcode_b, opcode_i, opcode_j, opcode_r, opcode_s, opcode_u, rd_i, rd_j, rd_r, rd_u, rs1_b, rs1_i, rs1_r, rs1_s, rs2_b, rs2_r, rs2_s}
+use Rattle.rv_step.proofs.Forms.{fields_b, fields_i, fields_j, fields_r, fields_s, fields_u, funct5_of_funct7, immediate_b_is, immediate_i_is, immediate_j_is, immediate_s_is, immediate_u_is}
 
 -- ---- by form: where the words with these fields are decoded to a row, the packed word is decoded to its instruction
 
@@ -17,58 +17,50 @@ same_row form a b c x y z p q r = cc
 decoded_r : (op f3 f7 d s t : ℕ) (form : ℕ → ℕ → ℕ → Instr) → ltb op 128 ≡ true → ltb f3 8 ≡ true → ltb f7 128 ≡ true
     → ((word : ℕ) → opcode word ≡ op → funct3 word ≡ f3 → funct7 word ≡ f7 → rs2 word ≡ t → decoded word ≡ with_r form word)
     → d < 32 → s < 32 → t < 32 → decoded (form_r op f3 f7 d s t) ≡ Some (form d s t)
-decoded_r op f3 f7 d s t form op_fits f3_fits f7_fits row b e f =
-    let a = ltb-true op 128 op_fits in
-    let c = ltb-true f3 8 f3_fits in
+decoded_r op f3 f7 d s t form op_fits f3_fits f7_fits row a b c =
     let word = form_r op f3 f7 d s t in
-    row word (opcode_r op f3 f7 d s t a) (funct3_r op f3 f7 d s t a b c) (funct7_r op f3 f7 d s t a b c e f (ltb-true f7 128 f7_fits)) (rs2_r op f3 f7 d s t a b c e f)
-    ∙ same_row form (rd word) (rs1 word) (rs2 word) d s t (rd_r op f3 f7 d s t a b) (rs1_r op f3 f7 d s t a b c e) (rs2_r op f3 f7 d s t a b c e f)
+    let w = fields_r op f3 f7 d s t word refl (ltb-true op 128 op_fits) (ltb-true f3 8 f3_fits) (ltb-true f7 128 f7_fits) a b c in
+    row word w.opcode_is w.funct3_is w.funct7_is w.rs2_is ∙ same_row form (rd word) (rs1 word) (rs2 word) d s t w.rd_is w.rs1_is w.rs2_is
 
 decoded_i : (op f3 d s imm : ℕ) (form : ℕ → ℕ → ℕ → Instr) → ltb op 128 ≡ true → ltb f3 8 ≡ true
     → ((word : ℕ) → opcode word ≡ op → funct3 word ≡ f3 → decoded word ≡ with_i form word)
     → d < 32 → s < 32 → IsSigned 12 imm → decoded (form_i op f3 d s imm) ≡ Some (form d s imm)
-decoded_i op f3 d s imm form op_fits f3_fits row b e fits =
-    let a = ltb-true op 128 op_fits in
-    let c = ltb-true f3 8 f3_fits in
+decoded_i op f3 d s imm form op_fits f3_fits row a b fits =
     let word = form_i op f3 d s imm in
-    row word (opcode_i op f3 d s imm a) (funct3_i op f3 d s imm a b c)
-    ∙ same_row form (rd word) (rs1 word) (immediate_i word) d s imm (rd_i op f3 d s imm a b) (rs1_i op f3 d s imm a b c e) (immediate_i_i op f3 d s imm a b c e fits)
+    let w = fields_i op f3 d s imm (ltb-true op 128 op_fits) (ltb-true f3 8 f3_fits) a b in
+    row word w.opcode_is w.funct3_is ∙ same_row form (rd word) (rs1 word) (immediate_i word) d s imm w.rd_is w.rs1_is (immediate_i_is imm word w.rs2_is w.funct7_is fits)
 
 decoded_s : (op f3 s t imm : ℕ) (form : ℕ → ℕ → ℕ → Instr) → ltb op 128 ≡ true → ltb f3 8 ≡ true
     → ((word : ℕ) → opcode word ≡ op → funct3 word ≡ f3 → decoded word ≡ with_s form word)
     → s < 32 → t < 32 → IsSigned 12 imm → decoded (form_s op f3 s t imm) ≡ Some (form s t imm)
-decoded_s op f3 s t imm form op_fits f3_fits row e f fits =
-    let a = ltb-true op 128 op_fits in
-    let c = ltb-true f3 8 f3_fits in
+decoded_s op f3 s t imm form op_fits f3_fits row a b fits =
     let word = form_s op f3 s t imm in
-    row word (opcode_s op f3 s t imm a) (funct3_s op f3 s t imm a c)
-    ∙ same_row form (rs1 word) (rs2 word) (immediate_s word) s t imm (rs1_s op f3 s t imm a c e) (rs2_s op f3 s t imm a c e f) (immediate_s_s op f3 s t imm a c e f fits)
+    let w = fields_s op f3 s t imm (ltb-true op 128 op_fits) (ltb-true f3 8 f3_fits) a b in
+    row word w.opcode_is w.funct3_is ∙ same_row form (rs1 word) (rs2 word) (immediate_s word) s t imm w.rs1_is w.rs2_is (immediate_s_is imm word w.rd_is w.funct7_is fits)
 
 decoded_b : (op f3 s t imm : ℕ) (form : ℕ → ℕ → ℕ → Instr) → ltb op 128 ≡ true → ltb f3 8 ≡ true
     → ((word : ℕ) → opcode word ≡ op → funct3 word ≡ f3 → decoded word ≡ with_b form word)
     → s < 32 → t < 32 → IsEven imm → IsSigned 13 imm → decoded (form_b op f3 s t imm) ≡ Some (form s t imm)
-decoded_b op f3 s t imm form op_fits f3_fits row e f even fits =
-    let a = ltb-true op 128 op_fits in
-    let c = ltb-true f3 8 f3_fits in
+decoded_b op f3 s t imm form op_fits f3_fits row a b even fits =
     let word = form_b op f3 s t imm in
-    row word (opcode_b op f3 s t imm a) (funct3_b op f3 s t imm a c)
-    ∙ same_row form (rs1 word) (rs2 word) (immediate_b word) s t imm (rs1_b op f3 s t imm a c e) (rs2_b op f3 s t imm a c e f) (immediate_b_b op f3 s t imm a c e f even fits)
+    let w = fields_b op f3 s t imm (ltb-true op 128 op_fits) (ltb-true f3 8 f3_fits) a b in
+    row word w.opcode_is w.funct3_is ∙ same_row form (rs1 word) (rs2 word) (immediate_b word) s t imm w.rs1_is w.rs2_is (immediate_b_is imm word w.rd_is w.funct7_is even fits)
 
 decoded_u : (op d imm : ℕ) (form : ℕ → ℕ → Instr) → ltb op 128 ≡ true
     → ((word : ℕ) → opcode word ≡ op → decoded word ≡ Some (form (rd word) (immediate_u word)))
     → d < 32 → IsUpper imm → decoded (form_u op d imm) ≡ Some (form d imm)
-decoded_u op d imm form op_fits row b fits =
-    let a = ltb-true op 128 op_fits in
+decoded_u op d imm form op_fits row a fits =
     let word = form_u op d imm in
-    row word (opcode_u op d imm a) ∙ same_row (λ x y z. form x z) (rd word) 0 (immediate_u word) d 0 imm (rd_u op d imm a b) refl (immediate_u_u op d imm a b fits)
+    let w = fields_u op d imm (ltb-true op 128 op_fits) a in
+    row word w.opcode_is ∙ same_row (λ x y z. form x z) (rd word) 0 (immediate_u word) d 0 imm w.rd_is refl (immediate_u_is imm word w.funct3_is w.rs1_is w.rs2_is w.funct7_is fits)
 
 decoded_j : (op d imm : ℕ) (form : ℕ → ℕ → Instr) → ltb op 128 ≡ true
     → ((word : ℕ) → opcode word ≡ op → decoded word ≡ Some (form (rd word) (immediate_j word)))
     → d < 32 → IsEven imm → IsSigned 21 imm → decoded (form_j op d imm) ≡ Some (form d imm)
-decoded_j op d imm form op_fits row b even fits =
-    let a = ltb-true op 128 op_fits in
+decoded_j op d imm form op_fits row a even fits =
     let word = form_j op d imm in
-    row word (opcode_j op d imm a) ∙ same_row (λ x y z. form x z) (rd word) 0 (immediate_j word) d 0 imm (rd_j op d imm a b) refl (immediate_j_j op d imm a b even fits)
+    let w = fields_j op d imm (ltb-true op 128 op_fits) a in
+    row word w.opcode_is ∙ same_row (λ x y z. form x z) (rd word) 0 (immediate_j word) d 0 imm w.rd_is refl (immediate_j_is imm word w.funct3_is w.rs1_is w.rs2_is w.funct7_is even fits)
 
 -- ---- the table
 

@@ -1,6 +1,6 @@
 -- What a step leaves, by the parts of its effect: registers and pc are words, and a trap's cause is known.
-use Rattle.std.proofs.Common.{◌≡◌, ℕ, zero, suc, ◌+◌, ◌-◌, ◌*◌, ◌/◌, ◌%◌, ◌^◌, ◌<◌, Bool, true, false, not, cond, ltb, nat_lt, bit_and, bit_or, bit_xor, List, [], ◌∷◌, Option, Some, None, refl, subst, ◌∙◌, arith, inl, inr}
-use Rattle.std.specs.Prelude.{◌==◌, slice_index, slice_set}
+use Rattle.std.proofs.Common.{◌≡◌, ℕ, zero, suc, ◌+◌, ◌-◌, ◌*◌, ◌/◌, ◌%◌, ◌^◌, ◌<◌, ◌≤◌, Bool, true, false, not, cond, ltb, nat_lt, bit_and, bit_or, bit_xor, List, [], ◌∷◌, Option, Some, None, refl, subst, ◌∙◌, arith, inl, inr}
+use Rattle.std.specs.Prelude.{◌==◌, if◌then◌else◌, slice_index, slice_set}
 use Rattle.std.specs.Int.Bits.{and_lt}
 use Rattle.std.specs.List.{AllByRecursion}
 use Rattle.std.proofs.Math.Nat.{div-le_self}
@@ -88,11 +88,8 @@ int_shr_is n count false e fits = rw e (omega arith)
 shifted_right_arithmetic_is : (n count : ℕ) → IsWord n → IsWord (shifted_right_arithmetic n count)
 shifted_right_arithmetic_is n count = int_shr_is n count (ltb n (2 ^ 31)) refl
 
-sign_extended_byte_is : (n : ℕ) → IsWord (sign_extended_byte n)
-sign_extended_byte_is n = cond_both (nat_lt (n % 2 ^ 8) (2 ^ 7)) _ _ IsWord (λ _. omega arith) (λ _. omega arith)
-
-sign_extended_half_is : (n : ℕ) → IsWord (sign_extended_half n)
-sign_extended_half_is n = cond_both (nat_lt (n % 2 ^ 16) (2 ^ 15)) _ _ IsWord (λ _. omega arith) (λ _. omega arith)
+sign_extended_is : (half n : ℕ) → half ≤ 2 ^ 31 → n < half + half → IsWord (if nat_lt n half then n else n + (2 ^ 32 - (half + half)))
+sign_extended_is half n small fits = cond_both (nat_lt n half) _ _ IsWord (λ _. omega arith) (λ _. omega arith)
 
 -- ---- parts
 
@@ -203,8 +200,8 @@ executed_is (instrs.Blt rs1 rs2 imm) h m = branches_is _ (is_below_signed (regis
 executed_is (instrs.Bge rs1 rs2 imm) h m = branches_is _ (not (is_below_signed (register h rs1) (register h rs2))) imm h m (λ k. k.hart)
 executed_is (instrs.Bltu rs1 rs2 imm) h m = branches_is _ (nat_lt (register h rs1) (register h rs2)) imm h m (λ k. k.hart)
 executed_is (instrs.Bgeu rs1 rs2 imm) h m = branches_is _ (not (nat_lt (register h rs1) (register h rs2))) imm h m (λ k. k.hart)
-executed_is (instrs.Lb rd rs1 imm) h m = load_row _ h m (λ k. k.hart) (λ k. k.memory) One sign_extended_byte rd rs1 imm (λ v f. sign_extended_byte_is v)
-executed_is (instrs.Lh rd rs1 imm) h m = load_row _ h m (λ k. k.hart) (λ k. k.memory) Two sign_extended_half rd rs1 imm (λ v f. sign_extended_half_is v)
+executed_is (instrs.Lb rd rs1 imm) h m = load_row _ h m (λ k. k.hart) (λ k. k.memory) One sign_extended_byte rd rs1 imm (λ v f. sign_extended_is (2 ^ 7) (v % 2 ^ 8) (omega arith) (omega arith))
+executed_is (instrs.Lh rd rs1 imm) h m = load_row _ h m (λ k. k.hart) (λ k. k.memory) Two sign_extended_half rd rs1 imm (λ v f. sign_extended_is (2 ^ 15) (v % 2 ^ 16) (omega arith) (omega arith))
 executed_is (instrs.Lw rd rs1 imm) h m = load_row _ h m (λ k. k.hart) (λ k. k.memory) Four zero_extended rd rs1 imm (λ v f. f)
 executed_is (instrs.Lbu rd rs1 imm) h m = load_row _ h m (λ k. k.hart) (λ k. k.memory) One zero_extended rd rs1 imm (λ v f. f)
 executed_is (instrs.Lhu rd rs1 imm) h m = load_row _ h m (λ k. k.hart) (λ k. k.memory) Two zero_extended rd rs1 imm (λ v f. f)

@@ -1,7 +1,6 @@
 -- What stores leave of a memory, and what is loaded from one.
 use Rattle.std.proofs.Common.{◌≡◌, ℕ, zero, suc, ◌+◌, ◌/◌, ◌%◌, ◌^◌, ◌<◌, Bool, List, [], ◌∷◌, map, Option, Some, None, refl, sym, ap, subst, ◌∙◌, arith, inl, inr}
 use Rattle.std.specs.Prelude.{◌==◌, slice_set, slice_index, All}
-use Rattle.std.specs.Int.{byte_at, bytes_low_first}
 use Rattle.std.specs.List.{find}
 use Rattle.std.specs.Option.{option_map}
 use Rattle.std.proofs.lemmas.Bool.{cond_both}
@@ -18,19 +17,11 @@ use Rattle.dp_base.specs.Field.{AreBytes, ◌>>=◌}
 use Rattle.dp_base.specs.Memory.{Memory, byte_in, byte_with, bytes_with, change_page, fetched, has_flag, loaded, may_store, page_at, put_bytes, put_byte, stored, width_bytes, with_byte}
 use Rattle.dp_base.proofs.Epochs.{chosen, only_if}
 use Rattle.dp_base.proofs.Fields.{bind_some}
+use Rattle.dp_base.proofs.Sizes.{AreBytes-little_bytes}
 use Rattle.rv_step.specs.Frame.{IsStoredAt}
 use Rattle.rv_step.specs.Words.{HasBytes, HasSameShape, IsWord, shape_of}
 
 -- ---- bytes
-
-byte_at_is : (i n : ℕ) → byte_at i n < 256
-byte_at_is zero n = omega arith
-byte_at_is (suc i) n = omega arith
-
-bytes_low_first_are : (i count n : ℕ) → AreBytes (bytes_low_first i count n)
-bytes_low_first_are i zero n j = omega arith
-bytes_low_first_are i (suc count) n zero = byte_at_is i n
-bytes_low_first_are i (suc count) n (suc j) = bytes_low_first_are (suc i) count n j
 
 bytes_set : (xs : List ℕ) (i y : ℕ) → AreBytes xs → y < 256 → AreBytes (slice_set xs i y)
 bytes_set [] i y fits small j = fits j
@@ -62,7 +53,7 @@ put_bytes_bytes (b ∷ bytes) address m fits all =
 
 pub stored_bytes : (width : Width) (address value : ℕ) (m : Memory) → HasBytes m → HasBytes (stored width address value m)
 stored_bytes width address value m all =
-    cond_both (may_store width address m) _ _ HasBytes (λ _. put_bytes_bytes (little_bytes (width_bytes width) value) address m (bytes_low_first_are 0 (width_bytes width) value) all) (λ _. all)
+    cond_both (may_store width address m) _ _ HasBytes (λ _. put_bytes_bytes (little_bytes (width_bytes width) value) address m (AreBytes-little_bytes (width_bytes width) value) all) (λ _. all)
 
 -- ---- shape
 
