@@ -1,16 +1,9 @@
 // Pages as a hart sees them.
 ghost use Rattle.std.specs.Prelude.{◌≡◌, Some};
-ghost use Rattle.dp_base.specs.Memory.{amo_result, is_below_signed};
+ghost use Rattle.dp_base.specs.Memory.{amo_result};
 
 use crate::Pages;
-use dp_base::{Access, AmoOp, Mem, OutOfMemory, Width};
-
-#[inline(always)]
-fn is_below_signed(a: u32, b: u32) -> bool
-    ensures { result ≡ is_below_signed a b }
-{
-    a.cast_signed() < b.cast_signed()
-}
+use dp_base::{Access, AmoOp, Mem, OutOfMemory, Width, is_below_signed};
 
 // The word that an AMO stores.
 #[inline(always)]

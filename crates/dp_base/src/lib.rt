@@ -31,6 +31,7 @@ mod out_of_memory;
 mod page;
 mod slice;
 mod tid;
+mod word;
 
 pub use access::{Access, AmoOp, Width};
 pub use answer::Answer;
@@ -41,3 +42,4 @@ pub use out_of_memory::OutOfMemory;
 pub use page::{Page, PageView};
 pub use slice::Slice;
 pub use tid::Tid;
+pub use word::is_below_signed;

@@ -34,20 +34,11 @@ pages_are_below : (n : ℕ) (spans : List Span) → All (λ k. k < n) (pages_bel
 unfolding pages_below
 pages_are_below n spans = All-filter (λ number. list_any (λ s. has_page s number) spans) (λ k. k < n) (range_with_len 0 n) (range_below n)
 
-start_pages_rise : (spans : List Span) → IsStrictlyIncreasing (start_pages spans)
-unfolding start_pages
-start_pages_rise spans = pages_rise PAGE_NUMBERS (spans ++ stack ∷ [])
-
-start_pages_are_below : (spans : List Span) → All (λ k. k < PAGE_NUMBERS) (start_pages spans)
-unfolding start_pages
-start_pages_are_below spans = pages_are_below PAGE_NUMBERS (spans ++ stack ∷ [])
-
 pub page_numbers : (segments : List Segment) → AreSegments segments → ArePageNumbers (start_pages (spans_of segments))
-page_numbers segments are = record {
-  below = start_pages_are_below (spans_of segments);
-  rising = start_pages_rise (spans_of segments);
-  few = are.few_pages;
-}
+unfolding start_pages
+page_numbers segments are =
+    let spans = spans_of segments ++ stack ∷ [] in
+    record { below = pages_are_below PAGE_NUMBERS spans; rising = pages_rise PAGE_NUMBERS spans; few = are.few_pages }
 
 -- the first of them are all of them
 pub few_are_all : (segments : List Segment) (spans : List Span) (numbers : List ℕ) → AreSegments segments → spans ≡ spans_of segments

@@ -25,7 +25,8 @@ use Rattle.rv_step.specs.Encoding.{IsInstruction, IsSigned}
 use Rattle.rv_step.specs.Execution.{executed}
 use Rattle.rv_step.specs.Frame.{written_at}
 use Rattle.rv_step.specs.Step.{effect, of_instruction, of_word}
-use Rattle.rv_step.specs.Words.{HasBytes, HasSameShape, HasWords, IsWord}
+use Rattle.guest_state.specs.Checkpoint.{IsWord}
+use Rattle.rv_step.specs.Words.{HasBytes, HasSameShape, HasWords}
 use Rattle.rv_step.proofs.Decodings.{decoding_is_encodable}
 use Rattle.rv_step.proofs.Frames.{changes_no_more}
 use Rattle.rv_step.proofs.Memories.{behind_store, fetched_is, loaded_is, stored_bytes, stored_shape}

@@ -19,7 +19,8 @@ use Rattle.dp_base.proofs.Epochs.{chosen, only_if}
 use Rattle.dp_base.proofs.Fields.{bind_some}
 use Rattle.dp_base.proofs.Sizes.{AreBytes-little_bytes}
 use Rattle.rv_step.specs.Frame.{IsStoredAt}
-use Rattle.rv_step.specs.Words.{HasBytes, HasSameShape, IsWord, shape_of}
+use Rattle.guest_state.specs.Checkpoint.{IsWord}
+use Rattle.rv_step.specs.Words.{HasBytes, HasSameShape, shape_of}
 
 -- ---- bytes
 

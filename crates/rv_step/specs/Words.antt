@@ -1,13 +1,11 @@
 -- Registers of 32 bits and memory of bytes (RISC-V Unprivileged ISA 20191213, 1.4 and 2.1), and the pages as accesses leave them.
-use Rattle.std.specs.Prelude.{◌≡◌, ◌^◌, ◌<◌, ℕ, All, length, map}
+use Rattle.std.specs.Prelude.{◌≡◌, ℕ, All, length, map}
 use Rattle.std.specs.List.{AllByRecursion}
 use Rattle.dp_base.specs.declared.page.Page.{Page}
 use Rattle.dp_base.specs.Field.{AreBytes}
 use Rattle.dp_base.specs.Memory.{Memory}
+use Rattle.guest_state.specs.Checkpoint.{IsWord}
 use Rattle.guest_state.specs.declared.hart.Hart.{Hart}
-
-abbrev pub IsWord : ℕ → Type 0
-IsWord n = n < 2 ^ 32
 
 -- pc and x1 to x31 are words
 pub record HasWords (h : Hart) : Type 0 where

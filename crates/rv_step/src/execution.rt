@@ -7,12 +7,10 @@ ghost use Rattle.rv_step.specs.Step.{answer_for, hart_after, memory_after};
 use crate::atomic::{change_word, load_reserved, store_conditional};
 use crate::control::{add_to_pc, address, branch, jump, jump_register, write};
 use crate::instr::Instr;
-use crate::integer::{
-    is_below_signed, one_if, shift_amount, shifted_left, shifted_right, shifted_right_arithmetic,
-};
+use crate::integer::{one_if, shift_amount, shifted_left, shifted_right, shifted_right_arithmetic};
 use crate::load_store::{Extension, load, store};
 use crate::stepped::Stepped;
-use dp_base::{AmoOp, Mem, OutOfMemory, Width};
+use dp_base::{AmoOp, Mem, OutOfMemory, Width, is_below_signed};
 use guest_state::Hart;
 
 const BREAKPOINT: u8 = 3;

@@ -1,15 +1,6 @@
 // What the integer instructions compute (RISC-V Unprivileged ISA 20191213, 2.4).
 ghost use Rattle.std.specs.Prelude.{◌≡◌, ◌<◌};
-ghost use Rattle.dp_base.specs.Memory.{is_below_signed};
 ghost use Rattle.rv_step.specs.Effect.{one_if, shift_of, shifted_left, shifted_right, shifted_right_arithmetic};
-
-/// Whether a word is below another, both taken as signed.
-#[inline(always)]
-pub fn is_below_signed(a: u32, b: u32) -> bool
-    ensures { result ≡ is_below_signed a b }
-{
-    a.cast_signed() < b.cast_signed()
-}
 
 #[inline(always)]
 pub fn one_if(holds: bool) -> u32

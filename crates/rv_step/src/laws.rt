@@ -13,7 +13,8 @@ ghost use Rattle.rv_step.specs.Encoding.{IsInstruction, encoded};
 ghost use Rattle.rv_step.specs.Execution.{executed};
 ghost use Rattle.rv_step.specs.Frame.{IsStoredAt, destination, reserves_or_ends, written_at};
 ghost use Rattle.rv_step.specs.Step.{effect};
-ghost use Rattle.rv_step.specs.Words.{HasBytes, HasSameShape, HasWords, IsWord};
+ghost use Rattle.guest_state.specs.Checkpoint.{IsWord};
+ghost use Rattle.rv_step.specs.Words.{HasBytes, HasSameShape, HasWords};
 
 /// The word that an instruction encodes to is one of 32 bits and is decoded to that instruction; so no two instructions share
 /// a word.

@@ -30,7 +30,7 @@ mod stepped;
 
 pub use control::address;
 pub use decoding::decode;
+pub use dp_base::is_below_signed;
 pub use instr::Instr;
-pub use integer::is_below_signed;
 pub use step::exec;
 pub use stepped::Stepped;
