@@ -48,8 +48,15 @@ fn text(alloc: Global, matches: &ArgMatches<'_>, name: &str) -> Result<Text, All
     requires { HasText name.now (rows_of (found_of matches.now)) }
     ensures { IfOk result (λ text. text ≡ text_of name.now (rows_of (found_of matches.now))) }
 {
-    let text = matches.get_str(name).unwrap();
-    Ok(Text::from_string(String::from_str(alloc, text)?))
+    Ok(Text::from_string(String::from_str(alloc, found(matches, name))?))
+}
+
+// The same, lent.
+fn found<'m>(matches: &'m ArgMatches<'_>, name: &str) -> &'m str
+    requires { HasText name.now (rows_of (found_of matches.now)) }
+    ensures { result.now ≡ text_of name.now (rows_of (found_of matches.now)) }
+{
+    matches.get_str(name).unwrap()
 }
 
 // The number of this name.
@@ -57,7 +64,7 @@ fn number(matches: &ArgMatches<'_>, name: &str) -> u64
     requires { HasNumber (2 ^ 64) name.now (rows_of (found_of matches.now)) }
     ensures { result ≡ number_of name.now (rows_of (found_of matches.now)) }
 {
-    matches.get_str(name).unwrap().parse::<u64>().unwrap()
+    found(matches, name).parse::<u64>().unwrap()
 }
 
 // The same, of a number below 2^32.
