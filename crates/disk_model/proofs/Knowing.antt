@@ -1,24 +1,23 @@
--- How what is known of a world goes on over several calls.
+-- How what is known of a world, or of an input, goes on over several calls.
 use Rattle.std.proofs.Common.{◌≡◌, Option, Some, None, subst}
-use Rattle.disk_model.specs.History.{History}
 use Rattle.disk_model.specs.Known.{IfKnown}
 
-abbrev Step : Type 1
-Step = History → History → Type 0
+abbrev Step : Type 0 → Type 1
+Step A = A → A → Type 0
 
 -- a step that is also another one
-pub known-map : (R S : Step) (a b : Option History) → ((s t : History) → R s t → S s t) → IfKnown R a b → IfKnown S a b
+pub known-map : {A : Type 0} (R S : Step A) (a b : Option A) → ((s t : A) → R s t → S s t) → IfKnown R a b → IfKnown S a b
 known-map R S None b f h = tt
 known-map R S (Some s) b f h = (h.0, h.1, f s h.0 h.2)
 
 -- one step behind another
-pub known-then : (R S T : Step) (a b c : Option History) → ((s t u : History) → R s t → S t u → T s u) → IfKnown R a b → IfKnown S b c → IfKnown T a c
+pub known-then : {A : Type 0} (R S T : Step A) (a b c : Option A) → ((s t u : A) → R s t → S t u → T s u) → IfKnown R a b → IfKnown S b c → IfKnown T a c
 known-then R S T None b c f h k = tt
-known-then R S T (Some s) b c f h k =
-    let second : IfKnown S (Some h.0) c = subst (λ (o : Option History). IfKnown S o c) h.1 k in
+known-then {A} R S T (Some s) b c f h k =
+    let second : IfKnown S (Some h.0) c = subst (λ (o : Option A). IfKnown S o c) h.1 k in
     (second.0, second.1, f s h.0 second.0 h.2 second.2)
 
 -- no step
-pub known-same : (R : Step) (a b : Option History) → b ≡ a → ((s : History) → R s s) → IfKnown R a b
+pub known-same : {A : Type 0} (R : Step A) (a b : Option A) → b ≡ a → ((s : A) → R s s) → IfKnown R a b
 known-same R None b same f = tt
 known-same R (Some s) b same f = (s, same, f s)

@@ -1,6 +1,7 @@
 -- What may be known of an input: the bytes that it has given, the pieces that it has left, whether its end was seen, and the
 -- readings of its clock. This project's own.
-use Rattle.std.specs.Prelude.{◌≡◌, ◌⊎◌, ℕ, Bool, true, false, ◌||◌, ◌&&◌, nat_lt, ◌-◌, ◌^◌, List, [], ◌∷◌, ◌++◌, length, take, drop, Option, Some, None, ⊤}
+use Rattle.std.specs.Prelude.{◌≡◌, ◌⊎◌, ℕ, Bool, true, false, ◌||◌, ◌&&◌, nat_lt, ◌-◌, ◌^◌, List, [], ◌∷◌, ◌++◌, length, take, drop, Option}
+use Rattle.disk_model.specs.Known.{IfKnown}
 
 pub record Input : Type 0 where
   -- all bytes given so far
@@ -69,7 +70,5 @@ ReadClock reading i there = (after : List ℕ) × IsNoted reading i.readings aft
 
 -- ---- inputs that may be known or not
 
--- Where the input before is known, the one after is known too, and this step leads from one to the other.
 abbrev pub IfInput : (Input → Input → Type 0) → Option Input → Option Input → Type 0
-IfInput step None after = ⊤
-IfInput step (Some before) after = (there : Input) × (after ≡ Some there) × step before there
+IfInput step before after = IfKnown step before after
