@@ -1,10 +1,11 @@
-//! What every other crate of the recorder speaks of: thread numbers, slices and answers, the limits, a guest's
-//! memory (`Mem`, `specs/Memory.antt`), the fields of the journal, and the definitions of the journal's bytes
+//! What every other crate of the recorder speaks of: thread numbers, slices and answers, logs of them, the limits, a
+//! guest's memory (`Mem`, `specs/Memory.antt`), the fields of the journal, and the definitions of the journal's bytes
 //! (`specs/Journal.antt`).
 //!
 //! Promises: what a field writer adds is what the reader of the same width takes, and no byte more; a journal
 //! value has one encoding, and no encoding is a prefix of another; `journal_reader` takes from bytes what the
-//! definitions accept, and no more. Stands on `byteorder` for numbers in bytes.
+//! definitions accept, and no more; a `Log` is the list of what was put into it, in order. Stands on `byteorder`
+//! for numbers in bytes.
 //!
 //! An epoch becomes the bytes that an append writes behind the closed gate:
 //!
@@ -26,6 +27,7 @@ pub mod journal;
 pub mod journal_reader;
 pub mod laws;
 pub mod limits;
+mod log;
 mod mem;
 mod out_of_memory;
 mod page;
@@ -37,6 +39,7 @@ pub use access::{Access, AmoOp, Width};
 pub use answer::Answer;
 pub use answer_view::AnswerView;
 pub use bytes::Bytes;
+pub use log::Log;
 pub use mem::Mem;
 pub use out_of_memory::OutOfMemory;
 pub use page::{Page, PageView};

@@ -1,6 +1,6 @@
 //! The slices of an epoch as a list: appended one by one while the epoch runs, and read back as a slice or one by one.
 //!
-//! Promises: a `SliceLog` is the list of what was put into it, in order. Stands on `dp_base`.
+//! Promises: a `SliceLog` is the list of what was put into it, in order. Stands on `dp_base`, whose `Log` it is.
 //!
 //! ```text
 //! let mut log = SliceLog::new(alloc);
@@ -10,6 +10,7 @@
 //! ```
 #![tactic(auto)]
 
-mod slice_log;
+use dp_base::{Log, Slice};
 
-pub use slice_log::SliceLog;
+/// The slices of an epoch, in order.
+pub type SliceLog = Log<Slice>;

@@ -1,7 +1,8 @@
 //! The answers to an epoch's calls as a list: appended one by one while the epoch runs, and read back as a slice or one by
 //! one.
 //!
-//! Promises: an `AnswerLog` is the list of what was put into it, in order. Stands on `dp_base`.
+//! Promises: an `AnswerLog` is the list of what was put into it, in order. Stands on `dp_base`, whose `Log` it
+//! is.
 //!
 //! ```text
 //! let mut log = AnswerLog::new(alloc);
@@ -11,6 +12,7 @@
 //! ```
 #![tactic(auto)]
 
-mod answer_log;
+use dp_base::{Answer, Log};
 
-pub use answer_log::AnswerLog;
+/// The answers that an epoch took, in order.
+pub type AnswerLog = Log<Answer>;
