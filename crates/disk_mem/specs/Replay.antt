@@ -1,7 +1,5 @@
 -- The history of a world in memory: the replay of its calls over the bytes that its disk had first. This project's own.
 use Rattle.std.specs.Prelude.{ℕ, ◌-◌, true, false, List, [], ◌∷◌, ◌++◌, length, take, replicate}
-use Rattle.disk_model.specs.declared.world.Stream.{Stream}
-use Rattle.disk_model.specs.declared.world.Stream.TheVariants.{Out, Note}
 use Rattle.disk_model.specs.History.{History, nothing_pending}
 use Rattle.disk_model.specs.Known.{overwritten}
 use Rattle.disk_model.specs.Steps.{written, truncated, passed, emitted}
@@ -15,11 +13,6 @@ filled at bytes = bytes ++ replicate (at - length bytes) 0
 -- before the first call, on a disk with these bytes
 abbrev pub start : List ℕ → History
 start bytes = record { disk = bytes; pending = nothing_pending bytes; sent = []; noted = []; past = [] }
-
--- what a stream has got
-abbrev pub stream_of : Stream → History → List ℕ
-stream_of Out h = h.sent
-stream_of Note h = h.noted
 
 -- Behind each call. One that failed by its number wrote, cut or sent nothing, but what it meant to write or cut is pending.
 abbrev pub after_call : Call → History → History

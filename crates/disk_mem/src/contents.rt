@@ -3,8 +3,9 @@ ghost use Rattle.std.specs.Prelude.{◌≡◌, ◌+◌, ◌≤◌, [], min, leng
 ghost use Rattle.dp_base.specs.Field.{AreBytes};
 ghost use Rattle.disk_model.specs.History.{IsImage};
 ghost use Rattle.disk_model.specs.Known.{overwritten};
+ghost use Rattle.disk_model.specs.Steps.{stream_of};
 ghost use Rattle.disk_mem.specs.declared.call.Call.TheVariants.{Write, Cut, Emit};
-ghost use Rattle.disk_mem.specs.Replay.{filled, start, stream_of, replay};
+ghost use Rattle.disk_mem.specs.Replay.{filled, start, replay};
 ghost use Rattle.disk_mem.specs.Recording.{started, recorded, IsQuiet};
 ghost use Rattle.disk_mem.specs.Crashing.{left_by};
 

@@ -3,10 +3,10 @@ ghost use Rattle.std.specs.Prelude.{◌≡◌, ◌<◌, ◌≤◌, ◌⊎◌, le
 ghost use Rattle.disk_model.specs.Counts.{Rose};
 ghost use Rattle.disk_model.specs.History.{IsImage};
 ghost use Rattle.disk_model.specs.Known.{IfKnown, IsWritten};
-ghost use Rattle.disk_model.specs.Steps.{IsRead, Wrote, Truncated, Synced, Emitted};
+ghost use Rattle.disk_model.specs.Steps.{IsRead, Wrote, Truncated, Synced, Emitted, stream_of};
 ghost use Rattle.disk_mem.specs.declared.fails.Fails.TheVariants.{Never};
 ghost use Rattle.disk_mem.specs.declared.call.Call.TheVariants.{Attach, Len, Read, Write, Cut, Sync, Emit};
-ghost use Rattle.disk_mem.specs.Replay.{start, stream_of, replay};
+ghost use Rattle.disk_mem.specs.Replay.{start, replay};
 ghost use Rattle.disk_mem.specs.Crashing.{left_by};
 ghost use Rattle.disk_mem.specs.MemoryWorld.{fresh, restarted, fails_next, emit_fails_next, did, did_emit, IsFailed, IsFailedEmit};
 

@@ -56,6 +56,11 @@ Synced false h there = (there ≡ h) ⊎ (there ≡ passed h)
 
 -- ---- the streams
 
+-- what a stream has got
+abbrev pub stream_of : Stream → History → List ℕ
+stream_of Out h = h.sent
+stream_of Note h = h.noted
+
 -- behind an emit of a piece of which so many bytes were taken; Out alone counts at a moment
 abbrev pub emitted : Stream → List ℕ → ℕ → History → History
 emitted Out piece count h = record h {
