@@ -1,11 +1,14 @@
 mod Range
+pub mod Dropping
+pub mod Lists
+pub mod Places
 mod StartPages
 pub mod Turns
-mod SliceRuns
+pub mod SliceRuns
 mod Stretches
 mod TurnTaken
 mod Writes
-mod Joining
+pub mod Joining
 mod RunBounds
 mod Waking
 mod Calls

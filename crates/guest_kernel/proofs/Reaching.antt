@@ -13,19 +13,22 @@ use Rattle.guest_state.specs.Checkpoint.{live}
 use Rattle.guest_state.specs.declared.hart.Hart.{Hart}
 use Rattle.guest_state.specs.declared.thread.Thread.{Thread}
 use Rattle.guest_state.specs.declared.thread.Thread.TheVariants.{Runs, Waits, Gone}
-use Rattle.rv_step.specs.Effect.{Effect, goes, calls, traps}
+use Rattle.rv_step.specs.Effect.{Effect, goes, calls, traps, unreserved}
 use Rattle.rv_step.specs.Step.{effect}
 use Rattle.guest_kernel.specs.declared.state.State.{State}
 use Rattle.turn_peek.specs.Arguments.{a0, a1, a2, a3}
 use Rattle.guest_kernel.specs.Call.{After, Refusal, called, cleared, exits, is_cleared, may_spawn, sets_break, silent, spawned_hart, spawns, waits, waits_by, wakes}
 use Rattle.guest_kernel.specs.Slices.{at, joined, run, slice_ended, slices, turns}
 use Rattle.guest_kernel.specs.Break.{may_move_break}
-use Rattle.guest_kernel.specs.State.{dropping, has_ended, unreserved, with_thread, without_reservation}
+use Rattle.guest_kernel.specs.State.{dropping, has_ended, with_thread, without_reservation}
 use Rattle.guest_kernel.specs.Threads.{is_running, thread_at, woken}
 use Rattle.guest_kernel.specs.Turn.{by_effect, turn}
-use Rattle.guest_kernel.proofs.Joining.{either_ok, whole_run}
+use Rattle.guest_kernel.proofs.Dropping.{without_reservation-end}
+use Rattle.guest_kernel.proofs.Joining.{whole_run}
+use Rattle.guest_kernel.proofs.Places.{place_of}
 use Rattle.guest_kernel.proofs.Running.{slice_end_runs, turn_of_thread, turn_on}
-use Rattle.guest_kernel.proofs.ThreadLists.{Evolves, evolves_none, evolves_then, get_append, made_at, place_of, push_evolves, set_evolves, woken_at, woken_evolves}
+use Rattle.guest_kernel.proofs.SliceRuns.{first_slice, first_turn}
+use Rattle.guest_kernel.proofs.ThreadLists.{Evolves, evolves_none, evolves_then, get_append, made_at, push_evolves, set_evolves, woken_at, woken_evolves}
 use Rattle.guest_kernel.proofs.Turns.{called_alone_by_row, called_by_row}
 
 -- ---- a turn
@@ -97,26 +100,20 @@ slice_end_evolves s tid = dropping_evolves s tid (thread_at s.threads tid) refl
 
 -- ---- a run
 
-first_turn : (n : ℕ) (tid : Tid) (here there : After) → turns 0 (suc n) tid here ≡ Ok there → (after : After) × (turn here.state tid here.rest ≡ Ok after)
-unfolding turns
-first_turn n tid here there is =
-    let step = either_ok (turn here.state tid here.rest) (λ refusal. Err (0, here)) (λ after. turns (0 + 1) n tid (joined here after)) there (λ refusal. ((0, here), refl)) is in
-    (step.0, step.1)
-
 turns_evolve : (taken left : ℕ) (tid : Tid) (here there : After) → turns taken left tid here ≡ Ok there → Evolves here.state.threads there.state.threads
 unfolding turns
 turns_evolve taken zero tid here there is = let same : here ≡ there = cc in subst (λ (a : After). Evolves here.state.threads a.state.threads) same (evolves_none here.state.threads)
 turns_evolve taken (suc left) tid here there is =
-    let step = either_ok (turn here.state tid here.rest) (λ refusal. Err (taken, here)) (λ after. turns (taken + 1) left tid (joined here after)) there (λ refusal. ((taken, here), refl)) is in
+    let step = first_turn taken left tid here there is in
     evolves_then _ _ _ (turn_evolves here.state tid here.rest step.0 step.1) (turns_evolve (taken + 1) left tid (joined here step.0) there step.2)
 
 slices_evolve : (done : ℕ) (xs : List Slice) (here there : After) → slices done xs here ≡ Ok there → Evolves here.state.threads there.state.threads
 unfolding slices
 slices_evolve done [] here there is = let same : here ≡ there = cc in subst (λ (a : After). Evolves here.state.threads a.state.threads) same (evolves_none here.state.threads)
 slices_evolve done (x ∷ xs) here there is =
-    let step = either_ok (turns 0 x.steps x.tid here) (λ stop. Err (record { slice = done; step = stop.0 }, stop.1)) (λ after. slices (done + 1) xs (slice_ended x.tid after)) there (λ stop. ((record { slice = done; step = stop.0 }, stop.1), refl)) is in
+    let step = first_slice done x xs here there is in
     evolves_then _ _ _ (turns_evolve 0 x.steps x.tid here step.0 step.1)
-    (evolves_then _ _ _ (dropping_evolves step.0.state x.tid (thread_at step.0.state.threads x.tid) refl) (slices_evolve (done + 1) xs (slice_ended x.tid step.0) there step.2))
+    (evolves_then _ _ _ (slice_end_evolves step.0.state x.tid) (slices_evolve (done + 1) xs (slice_ended x.tid step.0) there step.2))
 
 pub run_evolves : (s : State) (xs : List Slice) (log : List Answer) (there : After) → run xs (at s [] log) ≡ Ok there → Evolves s.threads there.state.threads
 run_evolves s xs log there is = slices_evolve 0 xs (at s [] log) there (whole_run xs (at s [] log) there is).ran
@@ -133,7 +130,7 @@ made_in_turns x here there ran some = by_steps x.steps refl
     by_steps zero none = absurd (omega (arith, some, none))
     by_steps (suc n) is =
         let whole : turns 0 (suc n) x.tid here ≡ Ok there = ap (λ k. turns 0 k x.tid here) (sym is) ∙ ran in
-        let first = first_turn n x.tid here there whole in
+        let first = first_turn 0 n x.tid here there whole in
         let t = turn_of_thread here.state x.tid here.rest first.0 first.1 in
         let made = made_at here.state.threads x.tid (Runs t.hart t.clear) t.there in
         let grows = (turns_evolve 0 (suc n) x.tid here there whole).grows in
@@ -143,7 +140,7 @@ slices_made : (done : ℕ) (xs : List Slice) (here there : After) → slices don
 unfolding slices
 slices_made done [] here there is = tt
 slices_made done (x ∷ xs) here there is =
-    let step = either_ok (turns 0 x.steps x.tid here) (λ stop. Err (record { slice = done; step = stop.0 }, stop.1)) (λ after. slices (done + 1) xs (slice_ended x.tid after)) there (λ stop. ((record { slice = done; step = stop.0 }, stop.1), refl)) is in
+    let step = first_slice done x xs here there is in
     let later = slices_evolve (done + 1) xs (slice_ended x.tid step.0) there step.2 in
     let end = slice_end_evolves step.0.state x.tid in
     (λ some. let made = made_in_turns x here step.0 step.1 some in omega (arith, made, end.grows, later.grows), slices_made (done + 1) xs (slice_ended x.tid step.0) there step.2)
@@ -160,23 +157,17 @@ turns_go_on : (taken left : ℕ) (tid : Tid) (here there : After) → turns take
 unfolding turns
 turns_go_on taken zero tid here there is goes_on = let same : here ≡ there = cc in subst (λ (a : After). CanGoOn a.state) same goes_on
 turns_go_on taken (suc left) tid here there is goes_on =
-    let step = either_ok (turn here.state tid here.rest) (λ refusal. Err (taken, here)) (λ after. turns (taken + 1) left tid (joined here after)) there (λ refusal. ((taken, here), refl)) is in
+    let step = first_turn taken left tid here there is in
     turns_go_on (taken + 1) left tid (joined here step.0) there step.2 (turn_on here.state tid here.rest step.0 step.1).some
-
-dropping_end : (s : State) (tid : Tid) (o : Option Thread) → (dropping s tid o).end ≡ s.end
-dropping_end s tid None = refl
-dropping_end s tid (Some (Runs hart clear)) = refl
-dropping_end s tid (Some (Waits addr hart clear)) = refl
-dropping_end s tid (Some (Gone code)) = refl
 
 slices_go_on : (done : ℕ) (xs : List Slice) (here there : After) → slices done xs here ≡ Ok there → CanGoOn here.state → CanGoOn there.state
 unfolding slices
 slices_go_on done [] here there is goes_on = let same : here ≡ there = cc in subst (λ (a : After). CanGoOn a.state) same goes_on
 slices_go_on done (x ∷ xs) here there is goes_on =
-    let step = either_ok (turns 0 x.steps x.tid here) (λ stop. Err (record { slice = done; step = stop.0 }, stop.1)) (λ after. slices (done + 1) xs (slice_ended x.tid after)) there (λ stop. ((record { slice = done; step = stop.0 }, stop.1), refl)) is in
+    let step = first_slice done x xs here there is in
     let turned = turns_go_on 0 x.steps x.tid here step.0 step.1 goes_on in
     slices_go_on (done + 1) xs (slice_ended x.tid step.0) there step.2
-    (λ going. slice_end_runs step.0.state x.tid ∙ turned (sym (ap has_ended (dropping_end step.0.state x.tid (thread_at step.0.state.threads x.tid))) ∙ going))
+    (λ going. slice_end_runs step.0.state x.tid ∙ turned (sym (ap has_ended (without_reservation-end step.0.state x.tid)) ∙ going))
 
 pub run_goes_on : (s : State) (xs : List Slice) (log : List Answer) (there : After) → run xs (at s [] log) ≡ Ok there → CanGoOn s → CanGoOn there.state
 run_goes_on s xs log there is goes_on = slices_go_on 0 xs (at s [] log) there (whole_run xs (at s [] log) there is).ran goes_on

@@ -1,6 +1,6 @@
 -- Steps of a hart that all go on are turns of its thread.
-use Rattle.std.proofs.Common.{◌≡◌, ◌+◌, ◌-◌, ◌<◌, ℕ, zero, suc, Bool, true, false, cond, Option, Some, None, Result, Ok, Err, List, [], ◌∷◌, inl, inr, refl, sym, ap, subst, ◌∙◌, arith}
-use Rattle.std.specs.Prelude.{IfOk, OnErr, OnOk, slice_get, slice_set, ◌==◌}
+use Rattle.std.proofs.Common.{◌≡◌, ◌+◌, ◌-◌, ◌<◌, ℕ, zero, suc, Bool, false, cond, Option, Some, None, Result, Ok, Err, List, [], inl, inr, refl, sym, ap, subst, ◌∙◌, arith}
+use Rattle.std.specs.Prelude.{IfOk, OnErr, OnOk}
 use Rattle.std.proofs.lemmas.List.{append-nil}
 use Rattle.dp_base.specs.declared.answer.Answer.{Answer}
 use Rattle.dp_base.specs.declared.out_of_memory.OutOfMemory.{OutOfMemory}
@@ -21,35 +21,10 @@ use Rattle.guest_kernel.specs.Stretch.{GoesOn, HasStayed, HasStopped, ThreadGoes
 use Rattle.guest_kernel.specs.Threads.{thread_at}
 use Rattle.guest_kernel.specs.Turn.{turn, by_thread, by_effect, thread_yields, yields, yields_by}
 use Rattle.std.proofs.lemmas.Bool.{cases_lt}
+use Rattle.std.proofs.lemmas.Result.{IfOk-at_ok}
+use Rattle.guest_kernel.proofs.Lists.{set_set}
+use Rattle.guest_kernel.proofs.Places.{thread_set, thread_set_same}
 use Rattle.guest_kernel.proofs.SliceRuns.{turns-add}
-
--- ---- a thread in the place where it was
-
-pub slice_set_same : {X : Type 0} (xs : List X) (i : ℕ) (x : X) → slice_get xs i ≡ Some x → slice_set xs i x ≡ xs
-slice_set_same [] i x is = refl
-slice_set_same (y ∷ ys) zero x is = let same : y ≡ x = cc in ap (λ z. z ∷ ys) (sym same)
-slice_set_same (y ∷ ys) (suc i) x is = ap (λ zs. y ∷ zs) (slice_set_same ys i x is)
-
-pub thread_set_same : (threads : List Thread) (tid : Tid) (t : Thread) → thread_at threads tid ≡ Some t → slice_set threads (tid.0 - 1) t ≡ threads
-thread_set_same threads tid t =
-    elim (tid.0 == 0) as (λ (b : Bool). cond b None (slice_get threads (tid.0 - 1)) ≡ Some t → slice_set threads (tid.0 - 1) t ≡ threads) [
-      | true ↦ λ is. absurd cc
-      | false ↦ λ is. slice_set_same threads (tid.0 - 1) t is
-    ]
-
-set_set : {X : Type 0} (xs : List X) (i : ℕ) (x y : X) → slice_set (slice_set xs i x) i y ≡ slice_set xs i y
-set_set [] i x y = refl
-set_set (z ∷ zs) zero x y = refl
-set_set (z ∷ zs) (suc i) x y = ap (λ l. z ∷ l) (set_set zs i x y)
-
-get_set : {X : Type 0} (xs : List X) (i : ℕ) (x y : X) → slice_get xs i ≡ Some x → slice_get (slice_set xs i y) i ≡ Some y
-get_set [] i x y is = absurd cc
-get_set (z ∷ zs) zero x y is = refl
-get_set (z ∷ zs) (suc i) x y is = get_set zs i x y is
-
-thread_by : (xs : List Thread) (i : ℕ) (x y : Thread) (b : Bool) → cond b None (slice_get xs i) ≡ Some x → cond b None (slice_get (slice_set xs i y) i) ≡ Some y
-thread_by xs i x y true is = absurd cc
-thread_by xs i x y false is = get_set xs i x y is
 
 -- ---- a state whose thread's hart and memory have moved on by so many steps
 
@@ -70,7 +45,7 @@ turn_goes s tid log hart clear h m stands e =
     ∙ ap (λ (x : Effect). by_effect s tid hart clear log x) e
 
 moved_stands : (s : State) (tid : Tid) (hart : Hart) (clear : ℕ) (h : Hart) (m : Memory) (n : ℕ) → Stands s tid hart clear → Stands (moved s tid h clear m n) tid h clear
-moved_stands s tid hart clear h m n stands = record { running = stands.running; thread = thread_by s.threads (tid.0 - 1) (Runs hart clear) (Runs h clear) (tid.0 == 0) stands.thread }
+moved_stands s tid hart clear h m n stands = record { running = stands.running; thread = thread_set s.threads tid (Runs hart clear) (Runs h clear) stands.thread }
 
 moved_twice : (s : State) (tid : Tid) (clear : ℕ) (h1 : Hart) (m1 : Memory) (n : ℕ) (h : Hart) (m : Memory) → moved (moved s tid h1 clear m1 n) tid h clear m 1 ≡ moved s tid h clear m (n + 1)
 moved_twice s tid clear h1 m1 n h m =
@@ -178,14 +153,9 @@ moved_yields s tid hart clear k stands gone =
     let there = (moved_stands s tid hart clear gone.there gone.behind k stands).thread in
     ap (λ (t : Option Thread). thread_yields gone.behind t) there ∙ ap (λ (e : Effect). yields_by gone.there e) gone.more
 
-abbrev reached : After → Result After (ℕ × After) → After
-reached start (Ok there) = there
-reached start (Err stop) = start
-
 going_yields : (s : State) (tid : Tid) (hart : Hart) (clear : ℕ) (k : ℕ) (mid : After) → Stands s tid hart clear → HasGoneOn k hart s.pages → turns 0 k tid (at s [] []) ≡ Ok mid → yields mid.state tid ≡ false
 going_yields s tid hart clear k mid stands gone ran =
-    let same : at (moved s tid gone.there clear gone.behind k) [] [] ≡ mid = ap (λ r. reached mid r) (sym (turns_going k s tid [] [] hart clear gone.there gone.behind 0 stands gone.gone) ∙ ran) in
-    subst (λ (a : After). yields a.state tid ≡ false) same (moved_yields s tid hart clear k stands gone)
+    IfOk-at_ok (λ (a : After). yields a.state tid ≡ false) (sym (turns_going k s tid [] [] hart clear gone.there gone.behind 0 stands gone.gone) ∙ ran) (moved_yields s tid hart clear k stands gone)
 
 gone_yields : (s : State) (tid : Tid) (steps k : ℕ) (mid : After) (left : List Thread) (behind : Memory) (t : Option Thread) → has_ended s.end ≡ false → thread_at s.threads tid ≡ t
     → ThreadGoesOn s.threads s.pages tid steps left behind t → k < steps → turns 0 k tid (at s [] []) ≡ Ok mid → yields mid.state tid ≡ false

@@ -2,10 +2,11 @@
 use Rattle.std.proofs.Common.{◌≡◌, ◌+◌, ◌-◌, ◌<◌, ◌≤◌, ℕ, zero, suc, Bool, true, false, cond, List, [], ◌∷◌, ◌++◌, get_or, length, take, Option, Some, None, inl, inr, refl, sym, ap, subst, ◌∙◌, arith}
 use Rattle.std.specs.Prelude.{◌==◌, ◌&&◌, ◌||◌, count_by, nat_lt, slice_get, slice_set}
 use Rattle.std.specs.List.{list_any}
+use Rattle.std.proofs.Math.Bool.{or-true}
 use Rattle.std.proofs.lemmas.Bool.{cases_lt, cond_both, le-ltb, lt-ltb, ltb-false, ltb-true}
 use Rattle.std.proofs.lemmas.List.{length-append, length-set}
 use Rattle.std.proofs.lemmas.List.Sums.{sum_by-append, sum_by-cons, sum_by-set}
-use Rattle.std.proofs.lemmas.Option.{get_or_from_slice_get}
+use Rattle.std.proofs.lemmas.Option.{get_or_from_slice_get, slice_get_within}
 use Rattle.dp_base.specs.declared.tid.Tid.{Tid}
 use Rattle.guest_state.specs.declared.thread.Thread.{Thread}
 use Rattle.guest_state.specs.declared.thread.Thread.TheVariants.{Gone}
@@ -14,37 +15,17 @@ use Rattle.dp_base.specs.declared.limits.TheConstants.{MAX_LIVE_THREADS, MAX_THR
 use Rattle.guest_kernel.proofs.Waking.{length-woken, live-woken}
 use Rattle.guest_kernel.specs.Threads.{AreFew, awake, is_running, runs_at, runs_by, thread_at, waits_on, woken}
 
--- ---- numbers and places
-
--- the place of a thread that was made
-pub place_of : (threads : List Thread) (tid : Tid) (t : Thread) → thread_at threads tid ≡ Some t → slice_get threads (tid.0 - 1) ≡ Some t
-place_of threads tid t =
-    cond_both (tid.0 == 0) None (slice_get threads (tid.0 - 1)) (λ (o : Option Thread). o ≡ Some t → slice_get threads (tid.0 - 1) ≡ Some t) (λ _ is. absurd cc) (λ _ is. is)
-
-pub inside_of : (threads : List Thread) (i : ℕ) (t : Thread) → slice_get threads i ≡ Some t → i < length threads
-inside_of [] i t is = absurd cc
-inside_of (x ∷ xs) zero t is = omega arith
-inside_of (x ∷ xs) (suc i) t is = let below = inside_of xs i t is in omega (arith, below)
-
 -- ---- a test of which some thread passes
 
 pub any_at : (p : Thread → Bool) (threads : List Thread) (i : ℕ) (t : Thread) → slice_get threads i ≡ Some t → p t ≡ true → list_any p threads ≡ true
 any_at p [] i t is passes = absurd cc
 any_at p (x ∷ xs) zero t is passes = let same : x ≡ t = cc in ap (λ y. p y || list_any p xs) same ∙ ap (λ b. b || list_any p xs) passes
-any_at p (x ∷ xs) (suc i) t is passes = ap (λ b. p x || b) (any_at p xs i t is passes) ∙ or_true (p x)
-  where
-    or_true : (b : Bool) → (b || true) ≡ true
-    or_true true = refl
-    or_true false = refl
+any_at p (x ∷ xs) (suc i) t is passes = ap (λ b. p x || b) (any_at p xs i t is passes) ∙ or-true (p x)
 
 pub any_set : (p : Thread → Bool) (threads : List Thread) (i : ℕ) (t : Thread) → i < length threads → p t ≡ true → list_any p (slice_set threads i t) ≡ true
 any_set p [] i t inside passes = absurd (omega (arith, inside))
 any_set p (x ∷ xs) zero t inside passes = ap (λ b. b || list_any p xs) passes
-any_set p (x ∷ xs) (suc i) t inside passes = ap (λ b. p x || b) (any_set p xs i t (omega (arith, inside)) passes) ∙ or_true (p x)
-  where
-    or_true : (b : Bool) → (b || true) ≡ true
-    or_true true = refl
-    or_true false = refl
+any_set p (x ∷ xs) (suc i) t inside passes = ap (λ b. p x || b) (any_set p xs i t (omega (arith, inside)) passes) ∙ or-true (p x)
 
 pub any_same : (p : Thread → Bool) (threads : List Thread) (i : ℕ) (old new : Thread) → slice_get threads i ≡ Some old → p new ≡ p old → list_any p (slice_set threads i new) ≡ list_any p threads
 any_same p [] i old new is same = refl
@@ -170,7 +151,7 @@ at_most_one false = omega arith
 
 live_set : (threads : List Thread) (i : ℕ) (old new : Thread) → slice_get threads i ≡ Some old → is_alive old ≡ true → live (slice_set threads i new) ≤ live threads
 live_set threads i old new there alive =
-    let inside = inside_of threads i old there in
+    let inside = slice_get_within threads i old there in
     let sums = sum_by-set (λ t. cond (is_alive t) 1 0) threads i new old inside in
     let one : ℕ = 1 in
     let here : cond (is_alive (get_or threads i old)) 1 0 ≡ one = ap (λ t. cond (is_alive t) 1 0) (get_or_from_slice_get threads i old old there) ∙ ap (λ b. cond b 1 0) alive in
@@ -220,6 +201,6 @@ made_at threads tid t = by_zero (tid.0 == 0) refl
     by_zero : (b : Bool) → (tid.0 == 0) ≡ b → cond b None (slice_get threads (tid.0 - 1)) ≡ Some t → (0 < tid.0) × (tid.0 ≤ length threads)
     by_zero true zero_ is = absurd cc
     by_zero false some is =
-        let inside = inside_of threads (tid.0 - 1) t is in
+        let inside = slice_get_within threads (tid.0 - 1) t is in
         let number = nonzero tid.0 some in
         (number, omega (arith, inside, number))

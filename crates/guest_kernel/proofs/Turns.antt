@@ -14,6 +14,8 @@ use Rattle.guest_state.specs.declared.hart.Hart.{Hart}
 use Rattle.guest_state.specs.declared.thread.Thread.{Thread}
 use Rattle.guest_state.specs.declared.thread.Thread.TheVariants.{Runs, Waits, Gone}
 use Rattle.guest_kernel.specs.declared.state.State.{State}
+use Rattle.guest_state.specs.declared.end.End.{End}
+use Rattle.guest_state.specs.declared.end.End.TheVariants as ends
 use Rattle.guest_kernel.specs.Call.{After, Refusal, needs_answer, not_runnable, wrong_answer, answered, called, called_alone, cleared, exits, exits_all, has_clock, has_read, is_cleared, may_spawn, reads_by, sets_break, silent, spawns, takes_bytes, tells_clock, tells_number, unknown, waits, waits_by, wakes, writes, yields_turn}
 use Rattle.guest_kernel.specs.Peek.{peeked, rest_by, rest_of}
 use Rattle.rv_step.specs.Effect.{Effect, goes, calls, traps}
@@ -94,6 +96,28 @@ pub called_by_row : (P : Result After Refusal → Type 0) (s : State) (tid : Tid
 called_by_row P s tid hart clear log answering alone =
     cond_both (a7 hart == 3) _ _ P (λ _. reads_by_case P s tid hart clear log (read_at_once s.pages hart) (λ value is. at_once_is_word s.pages (a0 hart) (a1 hart) (a2 hart) value is) answering)
     (λ _. cond_both (a7 hart == 8) _ _ P (λ _. clock_by P s tid hart clear log answering) (λ _. alone))
+
+-- what of a turn holds where it isn't defined, and of what each step of a hart makes it
+pub record Turning (P : Result After Refusal → Type 0) (s : State) (tid : Tid) (log : List Answer) : Type 0 where
+  pub refused : P (Err not_runnable)
+  pub went : (hart : Hart) (clear : ℕ) (after : Hart) (memory : Memory) → P (silent (record (with_thread s tid (Runs after clear)) { pages = memory }) log)
+  pub call : (hart : Hart) (clear : ℕ) → P (called s tid hart clear log)
+  pub trap : (cause value : ℕ) → P (silent (record s { end = ends.Trap tid cause value }) log)
+
+by_effect_row : (P : Result After Refusal → Type 0) (s : State) (tid : Tid) (hart : Hart) (clear : ℕ) (log : List Answer) → Turning P s tid log → (e : Effect) → P (by_effect s tid hart clear log e)
+by_effect_row P s tid hart clear log t (goes after memory) = t.went hart clear after memory
+by_effect_row P s tid hart clear log t calls = t.call hart clear
+by_effect_row P s tid hart clear log t (traps cause value) = t.trap cause value
+
+by_thread_row : (P : Result After Refusal → Type 0) (s : State) (tid : Tid) (log : List Answer) → Turning P s tid log → (o : Option Thread) → P (by_thread s tid log o)
+by_thread_row P s tid log t None = t.refused
+by_thread_row P s tid log t (Some (Runs hart clear)) = by_effect_row P s tid hart clear log t (effect hart s.pages)
+by_thread_row P s tid log t (Some (Waits addr hart clear)) = t.refused
+by_thread_row P s tid log t (Some (Gone code)) = t.refused
+
+pub turn_by_row : (P : Result After Refusal → Type 0) (s : State) (tid : Tid) (log : List Answer) → Turning P s tid log → P (turn s tid log)
+unfolding turn
+turn_by_row P s tid log t = cond_both (has_ended s.end) _ _ P (λ _. t.refused) (λ _. by_thread_row P s tid log t (thread_at s.threads tid))
 
 -- ---- with a longer log a turn does the same
 
@@ -298,54 +322,49 @@ pub record IsStill (s left : State) : Type 0 where
   pub steps : left.steps ≡ s.steps
   pub input : left.input ≡ s.input
 
-cleared_still : (s : State) (clear : ℕ) → IsStill s (cleared clear s)
-cleared_still s clear = cond_both (is_cleared clear s.pages) _ _ (IsStill s) (λ _. record { steps = refl; input = refl }) (λ _. record { steps = refl; input = refl })
+same : {s : State} {threads : List Thread} {pages : Memory} {brk : ℕ} {end : End} → IsStill s (record s { threads = threads; pages = pages; brk = brk; end = end })
+same = record { steps = refl; input = refl }
 
-pub exits_still : (s : State) (tid : Tid) (hart : Hart) (clear : ℕ) → IsStill s (exits s tid hart clear)
+cleared_still : (s : State) (clear : ℕ) → IsStill s (cleared clear s)
+cleared_still s clear = cond_both (is_cleared clear s.pages) _ _ (IsStill s) (λ _. same) (λ _. same)
+
+exits_still : (s : State) (tid : Tid) (hart : Hart) (clear : ℕ) → IsStill s (exits s tid hart clear)
 exits_still s tid hart clear =
     let left = cleared_still (with_thread s tid (Gone (a0 hart))) clear in record { steps = left.steps; input = left.input }
 
-pub spawns_still : (s : State) (tid : Tid) (hart : Hart) (clear : ℕ) → IsStill s (spawns s tid hart clear)
-spawns_still s tid hart clear = cond_both (may_spawn s.threads) _ _ (IsStill s) (λ _. record { steps = refl; input = refl }) (λ _. record { steps = refl; input = refl })
+spawns_still : (s : State) (tid : Tid) (hart : Hart) (clear : ℕ) → IsStill s (spawns s tid hart clear)
+spawns_still s tid hart clear = cond_both (may_spawn s.threads) _ _ (IsStill s) (λ _. same) (λ _. same)
 
 waits_by_still : (s : State) (tid : Tid) (hart : Hart) (clear addr expected : ℕ) (word : Option ℕ) → IsStill s (waits_by s tid hart clear addr expected word)
-waits_by_still s tid hart clear addr expected None = record { steps = refl; input = refl }
-waits_by_still s tid hart clear addr expected (Some word) = cond_both (word == expected) _ _ (IsStill s) (λ _. record { steps = refl; input = refl }) (λ _. record { steps = refl; input = refl })
+waits_by_still s tid hart clear addr expected None = same
+waits_by_still s tid hart clear addr expected (Some word) = cond_both (word == expected) _ _ (IsStill s) (λ _. same) (λ _. same)
 
-pub waits_still : (s : State) (tid : Tid) (hart : Hart) (clear : ℕ) → IsStill s (waits s tid hart clear)
+waits_still : (s : State) (tid : Tid) (hart : Hart) (clear : ℕ) → IsStill s (waits s tid hart clear)
 waits_still s tid hart clear =
-    cond_both (a0 hart % 4 == 0) _ _ (IsStill s) (λ _. waits_by_still s tid hart clear (a0 hart) (a1 hart) (loaded Four (a0 hart) s.pages)) (λ _. record { steps = refl; input = refl })
+    cond_both (a0 hart % 4 == 0) _ _ (IsStill s) (λ _. waits_by_still s tid hart clear (a0 hart) (a1 hart) (loaded Four (a0 hart) s.pages)) (λ _. same)
 
-pub sets_break_still : (s : State) (tid : Tid) (hart : Hart) (clear : ℕ) → IsStill s (sets_break s tid hart clear)
-sets_break_still s tid hart clear = cond_both (may_move_break s (a0 hart)) _ _ (IsStill s) (λ _. record { steps = refl; input = refl }) (λ _. record { steps = refl; input = refl })
+sets_break_still : (s : State) (tid : Tid) (hart : Hart) (clear : ℕ) → IsStill s (sets_break s tid hart clear)
+sets_break_still s tid hart clear = cond_both (may_move_break s (a0 hart)) _ _ (IsStill s) (λ _. same) (λ _. same)
 
-counts_by : (s left : State) (log : List Answer) → IsStill s left → CountsOnce s (silent left log)
-counts_by s left log is = ap (λ (n : ℕ). n + 1) is.steps
+-- what holds of each state left so holds of each call that takes no answer and isn't a write
+pub called_alone_still : (P : Result After Refusal → Type 0) (s : State) (tid : Tid) (hart : Hart) (clear : ℕ) (log : List Answer)
+    → ((left : State) → IsStill s left → P (silent left log)) → P (writes s tid hart clear log) → P (called_alone s tid hart clear log)
+called_alone_still P s tid hart clear log still write =
+    called_alone_by_row P s tid hart clear log (still _ (exits_still s tid hart clear)) (still _ same) write (still _ (spawns_still s tid hart clear)) (still _ (waits_still s tid hart clear))
+    (still _ same) (still _ same) (still _ (sets_break_still s tid hart clear)) (still _ same) (still _ same)
 
 called_counts : (s : State) (tid : Tid) (hart : Hart) (clear : ℕ) (log : List Answer) → CountsOnce s (called s tid hart clear log)
 called_counts s tid hart clear log = called_by_row (CountsOnce s) s tid hart clear log
     (record { at_once = λ value small. refl; bytes = λ bytes rest is few. refl; reading = λ reading rest is. refl; refused = λ refusal. tt })
-    (called_alone_by_row (CountsOnce s) s tid hart clear log
-    (counts_by s (exits s tid hart clear) log (exits_still s tid hart clear)) refl refl
-    (counts_by s (spawns s tid hart clear) log (spawns_still s tid hart clear)) (counts_by s (waits s tid hart clear) log (waits_still s tid hart clear)) refl refl
-    (counts_by s (sets_break s tid hart clear) log (sets_break_still s tid hart clear)) refl refl)
-
-by_effect_counts : (s : State) (tid : Tid) (hart : Hart) (clear : ℕ) (log : List Answer) (e : Effect) → CountsOnce s (by_effect s tid hart clear log e)
-by_effect_counts s tid hart clear log (goes after memory) = refl
-by_effect_counts s tid hart clear log calls = called_counts s tid hart clear log
-by_effect_counts s tid hart clear log (traps cause value) = refl
-
-by_thread_counts : (s : State) (tid : Tid) (log : List Answer) (t : Option Thread) → CountsOnce s (by_thread s tid log t)
-by_thread_counts s tid log None = tt
-by_thread_counts s tid log (Some (Runs hart clear)) = by_effect_counts s tid hart clear log (effect hart s.pages)
-by_thread_counts s tid log (Some (Waits addr hart clear)) = tt
-by_thread_counts s tid log (Some (Gone code)) = tt
+    (called_alone_still (CountsOnce s) s tid hart clear log (λ left is. ap (λ (n : ℕ). n + 1) is.steps) refl)
 
 pub turn_counts_once : (s : State) (tid : Tid) (log : List Answer) → CountsOnce s (turn s tid log)
-unfolding turn
-turn_counts_once s tid log =
-    elim (has_ended s.end) as (λ b. CountsOnce s (cond b (Err not_runnable) (by_thread s tid log (thread_at s.threads tid))))
-    [ true ↦ tt | false ↦ by_thread_counts s tid log (thread_at s.threads tid) ]
+turn_counts_once s tid log = turn_by_row (CountsOnce s) s tid log (record {
+  refused = tt;
+  went = λ hart clear after memory. refl;
+  call = λ hart clear. called_counts s tid hart clear log;
+  trap = λ cause value. refl;
+})
 
 -- ---- a guest that has ended has no turn
 

@@ -9,7 +9,7 @@ use Rattle.guest_state.specs.declared.thread.Thread.{Thread}
 use Rattle.guest_state.specs.declared.thread.Thread.TheVariants.{Runs, Waits, Gone}
 use Rattle.guest_state.specs.Checkpoint.{is_alive, live}
 use Rattle.guest_kernel.specs.Threads.{awake, waits_on, woken}
-use Rattle.guest_kernel.proofs.Stretches.{slice_set_same}
+use Rattle.guest_kernel.proofs.Lists.{slice_set_same}
 
 -- ---- the loop
 
@@ -124,17 +124,18 @@ alive_awake (Gone code) = refl
 live_cons : (t : Thread) (ts : List Thread) → live (t ∷ ts) ≡ cond (is_alive t) 1 0 + live ts
 live_cons t ts = sum_by-cons (λ x. cond (is_alive x) 1 0) t ts
 
-pub live-woken : (addr count : ℕ) (ts : List Thread) → live (woken addr count ts) ≡ live ts
+-- what looks only at which threads are alive
+woken_alike : {X : Type 0} (of : List Thread → X) → ((t u : Thread) (ts us : List Thread) → is_alive t ≡ is_alive u → of ts ≡ of us → of (t ∷ ts) ≡ of (u ∷ us))
+    → (addr count : ℕ) (ts : List Thread) → of (woken addr count ts) ≡ of ts
 unfolding woken
-live-woken addr count [] = refl
-live-woken addr count (t ∷ ts) =
-    cond_both (waits_on addr t && nat_lt 0 count) _ _ (λ (l : List Thread). live l ≡ live (t ∷ ts))
-    (λ _. live_cons (awake t) (woken addr (count - 1) ts) ∙ ap (λ b. cond b 1 0 + live (woken addr (count - 1) ts)) (alive_awake t) ∙ ap (λ n. cond (is_alive t) 1 0 + n) (live-woken addr (count - 1) ts) ∙ sym (live_cons t ts))
-    (λ _. live_cons t (woken addr count ts) ∙ ap (λ n. cond (is_alive t) 1 0 + n) (live-woken addr count ts) ∙ sym (live_cons t ts))
+woken_alike of each addr count [] = refl
+woken_alike of each addr count (t ∷ ts) =
+    cond_both (waits_on addr t && nat_lt 0 count) _ _ (λ (l : List Thread). of l ≡ of (t ∷ ts))
+    (λ _. each (awake t) t _ ts (alive_awake t) (woken_alike of each addr (count - 1) ts)) (λ _. each t t _ ts refl (woken_alike of each addr count ts))
+
+pub live-woken : (addr count : ℕ) (ts : List Thread) → live (woken addr count ts) ≡ live ts
+live-woken =
+    woken_alike live (λ t u ts us alike same. live_cons t ts ∙ ap (λ b. cond b 1 0 + live ts) alike ∙ ap (λ n. cond (is_alive u) 1 0 + n) same ∙ sym (live_cons u us))
 
 pub length-woken : (addr count : ℕ) (ts : List Thread) → length (woken addr count ts) ≡ length ts
-unfolding woken
-length-woken addr count [] = refl
-length-woken addr count (t ∷ ts) =
-    cond_both (waits_on addr t && nat_lt 0 count) _ _ (λ (l : List Thread). length l ≡ length (t ∷ ts))
-    (λ _. ap suc (length-woken addr (count - 1) ts)) (λ _. ap suc (length-woken addr count ts))
+length-woken = woken_alike length (λ t u ts us alike same. ap suc same)
