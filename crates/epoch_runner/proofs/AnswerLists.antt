@@ -1,6 +1,6 @@
 -- Lists of answers, one behind another.
 use Rattle.std.proofs.Common.{◌≡◌, ◌+◌, ◌*◌, ◌≤◌, Option, Some, None, List, [], ◌∷◌, ◌++◌, length, refl, sym, ap, ◌∙◌, append_assoc, arith}
-use Rattle.std.specs.List.{AllByRecursion, flat_map}
+use Rattle.std.specs.List.{flat_map}
 use Rattle.std.specs.Option.{option_to_list}
 use Rattle.std.proofs.lemmas.List.{length-append}
 use Rattle.dp_base.specs.declared.answer.Answer.{Answer}
@@ -20,10 +20,6 @@ pub clocks_append : (xs ys : List Answer) → clock_readings (xs ++ ys) ≡ cloc
 clocks_append [] ys = refl
 clocks_append (Read bytes ∷ xs) ys = clocks_append xs ys
 clocks_append (Clock reading ∷ xs) ys = ap (λ r. reading ∷ r) (clocks_append xs ys)
-
-pub all_append : {X : Type 0} (P : X → Type 0) (xs ys : List X) → AllByRecursion P xs → AllByRecursion P ys → AllByRecursion P (xs ++ ys)
-all_append P [] ys none are = are
-all_append P (x ∷ xs) ys these are = (these.0, all_append P xs ys these.1 are)
 
 -- an answer's encoding has at most nine bytes beside those that were read
 few_of_one : (x : Answer) → length (answer x) ≤ 9 + length (bytes_read (x ∷ []))

@@ -20,6 +20,7 @@ use Rattle.epoch_runner.specs.KernelLaws.{ReservationLaw, RunLaws, TurnLaws}
 use Rattle.epoch_runner.proofs.Nexts.{ends_next, last_next, rules, turn_next}
 use Rattle.epoch_runner.proofs.Readiness.{ready_rest}
 use Rattle.epoch_runner.proofs.Reservations.{closed_answers, closed_end, closed_output, closed_ready, closed_turns}
+use Rattle.epoch_runner.proofs.Stretch.{none_yet}
 use Rattle.supply.specs.Supplied.{Supplied}
 
 -- the slices that are over are a run, and behind it so many turns of a thread; each with the answers that it took
@@ -56,10 +57,6 @@ pub record Holds (start : State) (bounds : Bounds) (n : ℕ) (c : Course) : Type
 none_run : (start : State) → run [] (at start [] []) ≡ Ok (at start [] [])
 unfolding slices
 none_run start = refl
-
-no_turns : (tid : Tid) (here : After) → turns 0 0 tid here ≡ Ok here
-unfolding turns
-no_turns tid here = refl
 
 holds_start : (start : State) (bounds : Bounds) → Holds start bounds 0 (starting start)
 holds_start start bounds = record { turns = omega arith; few = omega arith; little = omega arith; little_read = omega arith; ran = record { done = refl; state_is = refl; output_is = refl; answers_are = refl; in_slice = refl } }
@@ -125,7 +122,7 @@ module _ (turn_laws : TurnLaws) (run_laws : RunLaws) (reserved : ReservationLaw)
     mid = at c.state c.output [];
     there = at c.state [] [];
     ran = ran;
-    took = ap (λ n. turns 0 n tid (at c.state [] [])) empty ∙ no_turns tid (at c.state [] []);
+    took = ap (λ n. turns 0 n tid (at c.state [] [])) empty ∙ none_yet tid (at c.state [] []);
     state_is = refl;
     output_is = sym (append-nil c.output);
     answers_are = sym (append-nil c.answers);

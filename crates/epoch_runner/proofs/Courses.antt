@@ -30,27 +30,27 @@ course-add m (suc n) w bounds c =
 pub course-from : (m n : ℕ) (w : Supplied) (bounds : Bounds) (c d : Course) → course m w bounds c ≡ Some d → course (m + n) w bounds c ≡ course n w bounds d
 course-from m n w bounds c d went = course-add m n w bounds c ∙ ap (λ o. o >>= course n w bounds) went
 
--- a step, and then the others
-pub course-step : (n : ℕ) (w : Supplied) (bounds : Bounds) (c d : Course) → step w bounds c ≡ Some d → course (suc n) w bounds c ≡ course n w bounds d
+pub one_course : (w : Supplied) (bounds : Bounds) (c : Course) → course 1 w bounds c ≡ step w bounds c
 unfolding course
-course-step zero w bounds c d is = is
-course-step (suc n) w bounds c d is = ap (λ o. o >>= step w bounds) (course-step n w bounds c d is)
+one_course w bounds c = refl
+
+-- a step, and then the others
+first_step : (n : ℕ) (w : Supplied) (bounds : Bounds) (c : Course) → course (suc n) w bounds c ≡ (step w bounds c >>= course n w bounds)
+first_step n w bounds c =
+    let one : suc n ≡ 1 + n = omega arith in
+    ap (λ k. course k w bounds c) one ∙ course-add 1 n w bounds c ∙ ap (λ o. o >>= course n w bounds) (one_course w bounds c)
+
+pub course-step : (n : ℕ) (w : Supplied) (bounds : Bounds) (c d : Course) → step w bounds c ≡ Some d → course (suc n) w bounds c ≡ course n w bounds d
+course-step n w bounds c d is = first_step n w bounds c ∙ ap (λ o. o >>= course n w bounds) is
 
 -- two places of which one step is the same
-alike : (n : ℕ) (w : Supplied) (bounds : Bounds) (c d : Course) → step w bounds c ≡ step w bounds d → course (suc n) w bounds c ≡ course (suc n) w bounds d
-unfolding course
-alike zero w bounds c d is = is
-alike (suc n) w bounds c d is = ap (λ o. o >>= step w bounds) (alike n w bounds c d is)
-
 pub course-alike : (n : ℕ) (w : Supplied) (bounds : Bounds) (c d : Course) → 0 < n → step w bounds c ≡ step w bounds d → course n w bounds c ≡ course n w bounds d
 course-alike zero w bounds c d some is = absurd (omega (arith, some))
-course-alike (suc n) w bounds c d some is = alike n w bounds c d is
+course-alike (suc n) w bounds c d some is = first_step n w bounds c ∙ ap (λ o. o >>= course n w bounds) is ∙ sym (first_step n w bounds d)
 
 -- behind the end there is nothing
 past_end : (n : ℕ) (w : Supplied) (bounds : Bounds) (c : Course) → next c.state w bounds (progress c) ≡ ends → course (suc n) w bounds c ≡ None
-unfolding course
-past_end zero w bounds c stops = ap (followed w c) stops
-past_end (suc n) w bounds c stops = ap (λ o. o >>= step w bounds) (past_end n w bounds c stops)
+past_end n w bounds c stops = first_step n w bounds c ∙ ap (λ x. followed w c x >>= course n w bounds) stops
 
 no_further : (m n : ℕ) (w : Supplied) (bounds : Bounds) (c d e : Course) → course m w bounds c ≡ Some d → next d.state w bounds (progress d) ≡ ends → course n w bounds c ≡ Some e → n ≤ m
 no_further m n w bounds c d e went stops other = elim (cases_lt m n) [

@@ -1,4 +1,4 @@
-mod AnswerLists
+pub mod AnswerLists
 mod Readiness
 mod Nexts
 mod Courses

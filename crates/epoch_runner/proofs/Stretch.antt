@@ -1,7 +1,7 @@
 -- Turns of a thread within its slice are a course.
-use Rattle.std.proofs.Common.{◌≡◌, ◌+◌, ◌<◌, ◌≤◌, ℕ, zero, suc, Bool, true, false, List, [], ◌∷◌, ◌++◌, length, Some, Result, Ok, Err, refl, sym, ap, subst, ◌∙◌, arith}
+use Rattle.std.proofs.Common.{◌≡◌, ◌+◌, ◌<◌, ◌≤◌, ℕ, zero, suc, Bool, true, false, List, [], ◌++◌, length, Some, Result, Ok, Err, refl, sym, ap, subst, ◌∙◌, arith}
 use Rattle.std.specs.List.{AllByRecursion}
-use Rattle.std.proofs.lemmas.List.{append-nil, length-append}
+use Rattle.std.proofs.lemmas.List.{append-nil, length-append, nil_from_length}
 use Rattle.dp_base.specs.declared.answer.Answer.{Answer}
 use Rattle.dp_base.specs.declared.limits.TheConstants.{EPOCH_END_BYTES}
 use Rattle.dp_base.specs.declared.slice.Slice.{Slice}
@@ -15,26 +15,18 @@ use Rattle.guest_kernel.specs.Call.{After, Refusal}
 use Rattle.guest_kernel.specs.Slices.{at, either, joined, turns}
 use Rattle.guest_kernel.specs.State.{has_ended}
 use Rattle.guest_kernel.specs.Turn.{output_after, state_after, turn, turn_answer, yields}
+use Rattle.guest_kernel.proofs.SliceRuns.{first_turn}
 use Rattle.epoch_runner.specs.declared.bounds.Bounds.{Bounds}
 use Rattle.epoch_runner.specs.Answering.{answers_for, ready_at}
-use Rattle.epoch_runner.specs.Schedule.{Course, course, followed, progress, step, turned}
+use Rattle.epoch_runner.specs.Schedule.{course, followed, progress, step, turned}
 use Rattle.epoch_runner.specs.SliceRun.{IsMoved, Traced, inside}
-use Rattle.epoch_runner.proofs.AnswerLists.{all_append, read_length}
-use Rattle.epoch_runner.proofs.Courses.{course-step}
+use Rattle.guest_kernel.proofs.Lists.{all_append}
+use Rattle.epoch_runner.proofs.AnswerLists.{read_length}
+use Rattle.epoch_runner.proofs.Courses.{course-step, one_course}
 use Rattle.epoch_runner.specs.KernelLaws.{TurnLaws}
 use Rattle.epoch_runner.proofs.Nexts.{same_next}
 use Rattle.epoch_runner.proofs.Readiness.{ready_some, ready_turn, silent_rest, silent_turn}
 use Rattle.supply.specs.Supplied.{Supplied}
-
--- what went well first, where all did
-either_ok : {X E Y F : Type 0} (r : Result X E) (f : E → Result Y F) (g : X → Result Y F) (y : Y) → ((e : E) → (z : F) × (f e ≡ Err z)) → either r f g ≡ Ok y → (x : X) × (r ≡ Ok x) × (g x ≡ Ok y)
-either_ok (Ok x) f g y fails e = (x, refl, e)
-either_ok (Err d) f g y fails e = let q = fails d in let never = q.1 in absurd cc
-
-first_turn : (taken n : ℕ) (tid : Tid) (here there : After) → turns taken (suc n) tid here ≡ Ok there → (after : After) × (turn here.state tid here.rest ≡ Ok after) × (turns (taken + 1) n tid (joined here after) ≡ Ok there)
-unfolding turns
-first_turn taken n tid here there is =
-    either_ok (turn here.state tid here.rest) (λ refusal. Err (taken, here)) (λ after. turns (taken + 1) n tid (joined here after)) there (λ refusal. ((taken, here), refl)) is
 
 turn_first : (taken n : ℕ) (tid : Tid) (here after : After) → turn here.state tid here.rest ≡ Ok after → turns taken (suc n) tid here ≡ turns (taken + 1) n tid (joined here after)
 unfolding turns
@@ -44,13 +36,9 @@ no_turns : (taken : ℕ) (tid : Tid) (here there : After) → turns taken zero t
 unfolding turns
 no_turns taken tid here there is = cc
 
-none_yet : (tid : Tid) (here : After) → turns 0 0 tid here ≡ Ok here
+pub none_yet : (tid : Tid) (here : After) → turns 0 0 tid here ≡ Ok here
 unfolding turns
 none_yet tid here = refl
-
-one_course : (w : Supplied) (bounds : Bounds) (c : Course) → course 1 w bounds c ≡ step w bounds c
-unfolding course
-one_course w bounds c = refl
 
 -- where no turn was taken nothing has changed
 pub stayed : (steps : ℕ) (tid : Tid) (s there : State) → steps ≤ 0 → turns 0 steps tid (at s [] []) ≡ Ok (at there [] []) → there ≡ s
@@ -71,10 +59,6 @@ turns_write zero taken tid here there is = let same = no_turns taken tid here th
 turns_write (suc n) taken tid here there is =
     let one = first_turn taken n tid here there is in
     omega (arith, turns_write n (taken + 1) tid (joined here one.0) there one.2, length-append here.output one.0.output)
-
-none_written : (xs : List ℕ) → length xs ≤ 0 → xs ≡ []
-none_written [] few = refl
-none_written (x ∷ xs) few = absurd (omega (arith, few))
 
 -- what a slice and its epoch leave for so many steps more
 pub record HasRoom (bounds : Bounds) (t : Traced) (done : List Slice) (before steps : ℕ) : Type 0 where
@@ -116,7 +100,7 @@ module _ (laws : TurnLaws) where
   stretch (suc n) taken w bounds s there t done tid before room is no_yield =
       let one = first_turn taken n tid (at s [] []) (at there [] []) is in
       let after = one.0 in
-      let silent : after.output ≡ [] = none_written after.output (turns_write n (taken + 1) tid (joined (at s [] []) after) (at there [] []) one.2) in
+      let silent : after.output ≡ [] = nil_from_length after.output (omega (arith, turns_write n (taken + 1) tid (joined (at s [] []) after) (at there [] []) one.2)) in
       let alone = silent_turn laws s w tid after one.1 in
       let here : joined (at s [] []) after ≡ at after.state [] [] = ap (λ o. at after.state o after.rest) silent ∙ ap (at after.state []) alone.2 in
       let others : turns (taken + 1) n tid (at after.state [] []) ≡ Ok (at there [] []) = ap (turns (taken + 1) n tid) (sym here) ∙ one.2 in
@@ -152,7 +136,7 @@ module _ (laws : TurnLaws) where
   stretch_place (suc n) taken tid s there is =
       let one = first_turn taken n tid (at s [] []) (at there [] []) is in
       let after = one.0 in
-      let silent : after.output ≡ [] = none_written after.output (turns_write n (taken + 1) tid (joined (at s [] []) after) (at there [] []) one.2) in
+      let silent : after.output ≡ [] = nil_from_length after.output (omega (arith, turns_write n (taken + 1) tid (joined (at s [] []) after) (at there [] []) one.2)) in
       let rest : after.rest ≡ [] = silent_rest laws s tid after one.1 in
       let here : joined (at s [] []) after ≡ at after.state [] [] = ap (λ o. at after.state o after.rest) silent ∙ ap (at after.state []) rest in
       let others : turns (taken + 1) n tid (at after.state [] []) ≡ Ok (at there [] []) = ap (turns (taken + 1) n tid) (sym here) ∙ one.2 in

@@ -7,10 +7,9 @@ ghost use Rattle.dp_base.specs.Journal.{IsAnswer};
 ghost use Rattle.epoch_runner.specs.Answering.{answers_for, can_step, input_due, is_ready, is_unanswered, read_of, ready_at, waits_for_input};
 ghost use Rattle.dp_base.specs.declared.limits.TheConstants.{MAX_CALL_BYTES};
 ghost use Rattle.supply.specs.Supplied.{answer_at};
-ghost use Rattle.guest_kernel.specs.Threads.{is_running};
 
 use dp_base::{Answer, Bytes, OutOfMemory, Tid};
-use guest_kernel::{Peek, State, Thread};
+use guest_kernel::{Peek, State, Thread, is_running};
 use std::alloc::Global;
 use supply::Supply;
 use turn_peek::peek_thread;
@@ -68,12 +67,6 @@ fn waits_for_input(state: &State, supply: &Supply, thread: &Thread) -> bool
 {
     let peek = peek_thread(thread, &state.pages, state.input);
     is_running(thread) && is_unanswered(supply, peek)
-}
-
-fn is_running(thread: &Thread) -> bool
-    ensures { result ≡ is_running thread.now }
-{
-    matches!(thread, Thread::Runs { .. })
 }
 
 // Whether a turn is a read whose answer isn't known.
