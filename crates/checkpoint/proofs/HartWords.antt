@@ -10,9 +10,10 @@ use Rattle.guest_state.specs.declared.thread.Thread.TheVariants.{Runs, Waits, Go
 use Rattle.guest_state.specs.Checkpoint.{IsFreeHart, IsThread, IsWord}
 use Rattle.guest_state.specs.Register.{register, with_register, next}
 use Rattle.guest_kernel.specs.Call.{spawned_hart}
-use Rattle.guest_kernel.specs.State.{unreserved}
+use Rattle.rv_step.specs.Effect.{unreserved}
 use Rattle.guest_kernel.specs.Threads.{awake}
 use Rattle.rv_step.specs.Words.{HasWords}
+use Rattle.checkpoint.proofs.Keeping.{all_set}
 
 pub of_free : (hart : Hart) → IsFreeHart (unreserved hart) → HasWords hart
 of_free hart is = record { pc = is.pc; count = is.count; registers = is.registers }
@@ -25,18 +26,13 @@ words_at [] i all = omega arith
 words_at (x ∷ xs) zero all = all.0
 words_at (x ∷ xs) (suc i) all = words_at xs i all.1
 
-pub words_set : (xs : List ℕ) (i y : ℕ) → AllByRecursion IsWord xs → IsWord y → AllByRecursion IsWord (slice_set xs i y)
-words_set [] i y all here = tt
-words_set (x ∷ xs) zero y all here = (here, all.1)
-words_set (x ∷ xs) (suc i) y all here = (all.0, words_set xs i y all.1 here)
-
 pub register_is_word : (hart : Hart) (n : ℕ) → HasWords hart → IsWord (register hart n)
 register_is_word hart n is = cond_both (n == 0) 0 (slice_index hart.x (n - 1)) IsWord (λ _. omega arith) (λ _. words_at hart.x (n - 1) is.registers)
 
 pub with_word : (hart : Hart) (n value : ℕ) → HasWords hart → IsWord value → HasWords (with_register hart n value)
 with_word hart n value is fits =
     cond_both (n == 0) hart (record hart { x = slice_set hart.x (n - 1) value }) HasWords (λ _. is)
-    (λ _. record { pc = is.pc; count = length-set hart.x (n - 1) value ∙ is.count; registers = words_set hart.x (n - 1) value is.registers fits })
+    (λ _. record { pc = is.pc; count = length-set hart.x (n - 1) value ∙ is.count; registers = all_set IsWord hart.x (n - 1) value is.registers fits })
 
 -- a thread that is woken
 pub free_awake : (hart : Hart) → IsFreeHart hart → IsFreeHart (with_register hart 10 0)

@@ -30,21 +30,6 @@ all_at P [] i x all is = absurd cc
 all_at P (y ∷ xs) zero x all is = subst P (same_Some _ _ is) all.0
 all_at P (y ∷ xs) (suc i) x all is = all_at P xs i x all.1 is
 
-pub set_at : {X : Type 0} (xs : List X) (i : ℕ) (x y : X) → slice_get xs i ≡ Some x → slice_get (slice_set xs i y) i ≡ Some y
-set_at [] i x y is = absurd cc
-set_at (z ∷ xs) zero x y is = refl
-set_at (z ∷ xs) (suc i) x y is = set_at xs i x y is
-
-pub set_same : {X : Type 0} (xs : List X) (i : ℕ) (x : X) → slice_get xs i ≡ Some x → slice_set xs i x ≡ xs
-set_same [] i x is = refl
-set_same {X} (z ∷ xs) zero x is = ap (λ (y : X). y ∷ xs) (sym (same_Some _ _ is))
-set_same {X} (z ∷ xs) (suc i) x is = ap (λ (l : List X). z ∷ l) (set_same xs i x is)
-
-pub set_twice : {X : Type 0} (xs : List X) (i : ℕ) (x y : X) → slice_set (slice_set xs i x) i y ≡ slice_set xs i y
-set_twice [] i x y = refl
-set_twice (z ∷ xs) zero x y = refl
-set_twice {X} (z ∷ xs) (suc i) x y = ap (λ (l : List X). z ∷ l) (set_twice xs i x y)
-
 one_if : Bool → ℕ
 one_if b = cond b 1 0
 

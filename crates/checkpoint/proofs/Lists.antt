@@ -31,10 +31,6 @@ set_woken addr count (x ∷ xs) (suc i) old new there is_old is_new =
 
 -- ---- each of them
 
-pub each_append : {X : Type 0} (P : X → Type 0) (xs ys : List X) → AllByRecursion P xs → AllByRecursion P ys → AllByRecursion P (xs ++ ys)
-each_append P [] ys all more = more
-each_append P (x ∷ xs) ys all more = (all.0, each_append P xs ys all.1 more)
-
 pub each_woken : ((t : Thread) → IsThread t → IsThread (awake t)) → (addr count : ℕ) (xs : List Thread) → AllByRecursion IsThread xs → AllByRecursion IsThread (woken addr count xs)
 unfolding woken
 each_woken wakes addr count [] all = tt

@@ -1,6 +1,6 @@
 -- Runs and chains from a state that has an encoding, and the state in which a guest starts.
-use Rattle.std.proofs.Common.{◌≡◌, ◌⊎◌, inl, inr, ℕ, zero, suc, ◌+◌, ◌-◌, ◌^◌, ◌<◌, ◌≤◌, Bool, true, false, cond, List, [], ◌∷◌, ◌++◌, length, slice_get, Option, Some, None, Result, Ok, Err, refl, sym, ap, subst, ◌∙◌, arith}
-use Rattle.std.specs.Prelude.{◌==◌}
+use Rattle.std.proofs.Common.{◌≡◌, ◌⊎◌, inl, inr, ℕ, zero, suc, ◌+◌, ◌-◌, ◌^◌, ◌<◌, ◌≤◌, List, [], ◌∷◌, ◌++◌, length, Option, Some, None, Result, Ok, Err, refl, sym, ap, subst, ◌∙◌, arith}
+use Rattle.std.proofs.lemmas.Result.{IfOk-at_ok}
 use Rattle.dp_base.specs.declared.answer.Answer.{Answer}
 use Rattle.dp_base.specs.declared.slice.Slice.{Slice}
 use Rattle.dp_base.specs.declared.tid.Tid.{Tid}
@@ -13,8 +13,13 @@ use Rattle.guest_state.specs.Checkpoint.{IsFreeHart, IsThread}
 use Rattle.guest_kernel.specs.declared.state.State.{State}
 use Rattle.guest_kernel.specs.Answers.{bytes_read}
 use Rattle.guest_kernel.specs.Call.{After}
-use Rattle.guest_kernel.specs.Slices.{Stop, at, chain, either, joined, run, slice_ended, slices, turns, used_up}
-use Rattle.guest_kernel.specs.State.{dropping, unreserved, without_reservation}
+use Rattle.guest_kernel.specs.Slices.{at, chain, either, joined, run, slice_ended, slices, turns}
+use Rattle.guest_kernel.specs.State.{dropping, without_reservation}
+use Rattle.rv_step.specs.Effect.{unreserved}
+use Rattle.guest_kernel.proofs.Dropping.{without_reservation-input, without_reservation-steps}
+use Rattle.guest_kernel.proofs.Joining.{whole_run}
+use Rattle.guest_kernel.proofs.Places.{place_of}
+use Rattle.guest_kernel.proofs.SliceRuns.{either_ok, first_slice, first_turn}
 use Rattle.guest_kernel.specs.Threads.{thread_at}
 use Rattle.guest_kernel.specs.Turn.{turn}
 use Rattle.checkpoint.specs.State.{IsEncodable}
@@ -25,18 +30,14 @@ use Rattle.checkpoint.proofs.Keeping.{all_at, put}
 free_again : (hart : Hart) → IsFreeHart hart → IsFreeHart (unreserved hart)
 free_again hart is = record { pc = is.pc; count = is.count; registers = is.registers; free = refl }
 
-slot : (b : Bool) (o : Option Thread) (t : Thread) → cond b None o ≡ Some t → o ≡ Some t
-slot true o t e = absurd cc
-slot false o t e = e
-
 thread_dropped : (s : State) (tid : Tid) (o : Option Thread) → thread_at s.threads tid ≡ o → IsEncodable s → IsEncodable (dropping s tid o)
 thread_dropped s tid None there is = is
 thread_dropped s tid (Some (Runs hart clear)) there is =
-    let here = slot (tid.0 == 0) (slice_get s.threads (tid.0 - 1)) (Runs hart clear) there in
+    let here = place_of s.threads tid (Runs hart clear) there in
     let t = all_at IsThread s.threads (tid.0 - 1) (Runs hart clear) is.threads here in
     put s (tid.0 - 1) (Runs hart clear) (Runs (unreserved hart) clear) is here (free_again hart t.0, t.1) refl
 thread_dropped s tid (Some (Waits addr hart clear)) there is =
-    let here = slot (tid.0 == 0) (slice_get s.threads (tid.0 - 1)) (Waits addr hart clear) there in
+    let here = place_of s.threads tid (Waits addr hart clear) there in
     let t = all_at IsThread s.threads (tid.0 - 1) (Waits addr hart clear) is.threads here in
     put s (tid.0 - 1) (Waits addr hart clear) (Waits addr (unreserved hart) clear) is here (t.0, free_again hart t.1, t.2) refl
 thread_dropped s tid (Some (Gone code)) there is = is
@@ -44,30 +45,7 @@ thread_dropped s tid (Some (Gone code)) there is = is
 dropped : (s : State) (tid : Tid) → IsEncodable s → IsEncodable (without_reservation s tid)
 dropped s tid is = thread_dropped s tid (thread_at s.threads tid) refl is
 
-same_steps : (s : State) (tid : Tid) (o : Option Thread) → (dropping s tid o).steps ≡ s.steps
-same_steps s tid None = refl
-same_steps s tid (Some (Runs hart clear)) = refl
-same_steps s tid (Some (Waits addr hart clear)) = refl
-same_steps s tid (Some (Gone code)) = refl
-
 -- ---- runs
-
--- where a run is, whatever it came to
-abbrev end_of : After → Result After (ℕ × After) → After
-end_of here (Ok there) = there
-end_of here (Err stop) = here
-
-abbrev stop_of : After → Result After (Stop × After) → After
-stop_of here (Ok there) = there
-stop_of here (Err stop) = here
-
-abbrev state_of : State → Result (State × List ℕ) ℕ → State
-state_of s (Ok end) = end.0
-state_of s (Err count) = s
-
-taken_from : {X E Y F : Type 0} (r : Result X E) (h : E → F) (g : X → Result Y F) (y : Y) → either r (λ e. Err (h e)) g ≡ Ok y → (x : X) × (r ≡ Ok x) × (g x ≡ Ok y)
-taken_from (Ok x) h g y e = (x, refl, e)
-taken_from (Err f) h g y e = absurd cc
 
 abbrev Counts : Type 0
 Counts = (s : State) (tid : Tid) (log : List Answer) (after : After) → turn s tid log ≡ Ok after → after.state.steps ≡ s.steps + 1
@@ -92,21 +70,15 @@ left_are : (log rest : List Answer) → (rest ≡ log) ⊎ ((a : Answer) × (log
 left_are log rest (inl same) are = subst (AllByRecursion IsAnswer) (sym same) are
 left_are log rest (inr taken) are = let all : AllByRecursion IsAnswer (taken.0 ∷ rest) = subst (AllByRecursion IsAnswer) taken.1 are in all.1
 
-same_input : (s : State) (tid : Tid) (o : Option Thread) → (dropping s tid o).input ≡ s.input
-same_input s tid None = refl
-same_input s tid (Some (Runs hart clear)) = refl
-same_input s tid (Some (Waits addr hart clear)) = refl
-same_input s tid (Some (Gone code)) = refl
-
 module _ (counts : Counts) (grows : Grows) (leaves : Leaves) (turn_keeps : TurnKeeps) where
   rest_are : (s : State) (tid : Tid) (log : List Answer) (after : After) → turn s tid log ≡ Ok after → AllByRecursion IsAnswer log → AllByRecursion IsAnswer after.rest
   rest_are s tid log after is are = left_are log after.rest (leaves s tid log after is) are
 
   turns_steps : (left taken : ℕ) (tid : Tid) (here there : After) → turns taken left tid here ≡ Ok there → here.state.steps ≤ there.state.steps
   unfolding turns
-  turns_steps zero taken tid here there ran = let same = ap (λ (r : Result After (ℕ × After)). end_of here r) ran in omega (arith, ap (λ (a : After). a.state.steps) same)
+  turns_steps zero taken tid here there ran = let same : here ≡ there = cc in omega (arith, ap (λ (a : After). a.state.steps) same)
   turns_steps (suc left) taken tid here there ran =
-      let a = taken_from (turn here.state tid here.rest) (λ refusal. (taken, here)) (λ after. turns (taken + 1) left tid (joined here after)) there ran in
+      let a = first_turn taken left tid here there ran in
       let one = counts here.state tid here.rest a.0 a.1 in
       let more = turns_steps left (taken + 1) tid (joined here a.0) there a.2 in
       omega (arith, one, more)
@@ -118,17 +90,17 @@ module _ (counts : Counts) (grows : Grows) (leaves : Leaves) (turn_keeps : TurnK
 
   turns_kept : (left taken : ℕ) (tid : Tid) (here there : After) → turns taken left tid here ≡ Ok there → AllByRecursion IsAnswer here.rest → Kept here there
   unfolding turns
-  turns_kept zero taken tid here there ran are = subst (Kept here) (ap (λ (r : Result After (ℕ × After)). end_of here r) ran) (record { are = are; reach_is = refl })
+  turns_kept zero taken tid here there ran are = IfOk-at_ok (Kept here) ran (record { are = are; reach_is = refl })
   turns_kept (suc left) taken tid here there ran are =
-      let a = taken_from (turn here.state tid here.rest) (λ refusal. (taken, here)) (λ after. turns (taken + 1) left tid (joined here after)) there ran in
+      let a = first_turn taken left tid here there ran in
       let more = turns_kept left (taken + 1) tid (joined here a.0) there a.2 (rest_are here.state tid here.rest a.0 a.1 are) in
       record { are = more.are; reach_is = more.reach_is ∙ grows here.state tid here.rest a.0 a.1 }
 
   turns_keep : (left taken : ℕ) (tid : Tid) (here there : After) → turns taken left tid here ≡ Ok there → AllByRecursion IsAnswer here.rest → reach here < 2 ^ 64 → IsEncodable (without_reservation here.state tid) → there.state.steps < 2 ^ 64 → IsEncodable (without_reservation there.state tid)
   unfolding turns
-  turns_keep zero taken tid here there ran are little is few = subst (λ (a : After). IsEncodable (without_reservation a.state tid)) (ap (λ (r : Result After (ℕ × After)). end_of here r) ran) is
+  turns_keep zero taken tid here there ran are little is few = IfOk-at_ok (λ (a : After). IsEncodable (without_reservation a.state tid)) ran is
   turns_keep (suc left) taken tid here there ran are little is few =
-      let a = taken_from (turn here.state tid here.rest) (λ refusal. (taken, here)) (λ after. turns (taken + 1) left tid (joined here after)) there ran in
+      let a = first_turn taken left tid here there ran in
       let more = turns_steps left (taken + 1) tid (joined here a.0) there a.2 in
       let grown = grows here.state tid here.rest a.0 a.1 in
       let next_ = turn_keeps here.state tid here.rest a.0 is are a.1 (omega (arith, more, few)) (omega (arith, grown, little)) in
@@ -136,65 +108,47 @@ module _ (counts : Counts) (grows : Grows) (leaves : Leaves) (turn_keeps : TurnK
 
   slices_steps : (xs : List Slice) (done : ℕ) (here there : After) → slices done xs here ≡ Ok there → here.state.steps ≤ there.state.steps
   unfolding slices
-  slices_steps [] done here there ran = omega (arith, ap (λ (r : Result After (Stop × After)). (stop_of here r).state.steps) ran)
+  slices_steps [] done here there ran = let same : here ≡ there = cc in omega (arith, ap (λ (a : After). a.state.steps) same)
   slices_steps (x ∷ xs) done here there ran =
-      let a = taken_from (turns 0 x.steps x.tid here) (λ stop. (record { slice = done; step = stop.0 }, stop.1)) (λ after. slices (done + 1) xs (slice_ended x.tid after)) there ran in
+      let a = first_slice done x xs here there ran in
       let one = turns_steps x.steps 0 x.tid here a.0 a.1 in
       let more = slices_steps xs (done + 1) (slice_ended x.tid a.0) there a.2 in
-      omega (arith, one, more, same_steps a.0.state x.tid (thread_at a.0.state.threads x.tid))
+      omega (arith, one, more, without_reservation-steps a.0.state x.tid)
 
   slices_kept : (xs : List Slice) (done : ℕ) (here there : After) → slices done xs here ≡ Ok there → AllByRecursion IsAnswer here.rest → Kept here there
   unfolding slices
-  slices_kept [] done here there ran are = subst (Kept here) (ap (λ (r : Result After (Stop × After)). stop_of here r) ran) (record { are = are; reach_is = refl })
+  slices_kept [] done here there ran are = IfOk-at_ok (Kept here) ran (record { are = are; reach_is = refl })
   slices_kept (x ∷ xs) done here there ran are =
-      let a = taken_from (turns 0 x.steps x.tid here) (λ stop. (record { slice = done; step = stop.0 }, stop.1)) (λ after. slices (done + 1) xs (slice_ended x.tid after)) there ran in
+      let a = first_slice done x xs here there ran in
       let one = turns_kept x.steps 0 x.tid here a.0 a.1 are in
       let more = slices_kept xs (done + 1) (slice_ended x.tid a.0) there a.2 one.are in
-      let same = same_input a.0.state x.tid (thread_at a.0.state.threads x.tid) in
+      let same = without_reservation-input a.0.state x.tid in
       record { are = more.are; reach_is = omega (arith, more.reach_is, same, one.reach_is) }
 
   slices_keep : (xs : List Slice) (done : ℕ) (here there : After) → slices done xs here ≡ Ok there → AllByRecursion IsAnswer here.rest → reach here < 2 ^ 64 → IsEncodable here.state → there.state.steps < 2 ^ 64 → IsEncodable there.state
   unfolding slices
-  slices_keep [] done here there ran are little is few = subst (λ (a : After). IsEncodable a.state) (ap (λ (r : Result After (Stop × After)). stop_of here r) ran) is
+  slices_keep [] done here there ran are little is few = IfOk-at_ok (λ (a : After). IsEncodable a.state) ran is
   slices_keep (x ∷ xs) done here there ran are little is few =
-      let a = taken_from (turns 0 x.steps x.tid here) (λ stop. (record { slice = done; step = stop.0 }, stop.1)) (λ after. slices (done + 1) xs (slice_ended x.tid after)) there ran in
+      let a = first_slice done x xs here there ran in
       let more = slices_steps xs (done + 1) (slice_ended x.tid a.0) there a.2 in
-      let same = same_steps a.0.state x.tid (thread_at a.0.state.threads x.tid) in
+      let same = without_reservation-steps a.0.state x.tid in
       let one = turns_kept x.steps 0 x.tid here a.0 a.1 are in
-      let place = same_input a.0.state x.tid (thread_at a.0.state.threads x.tid) in
+      let place = without_reservation-input a.0.state x.tid in
       let turned = turns_keep x.steps 0 x.tid here a.0 a.1 are little (dropped here.state x.tid is) (omega (arith, more, same, few)) in
       slices_keep xs (done + 1) (slice_ended x.tid a.0) there a.2 one.are (omega (arith, one.reach_is, place, little)) turned few
 
-  no_answer_left : (count : ℕ) (here there : After) (rest : List Answer) → used_up count here rest ≡ Ok there → here ≡ there
-  no_answer_left count here there [] e = ap (λ (r : Result After (Stop × After)). stop_of here r) e
-  no_answer_left count here there (x ∷ rest) e = absurd cc
-
-  ran_to : (xs : List Slice) (here there : After) → run xs here ≡ Ok there → slices 0 xs here ≡ Ok there
-  ran_to xs here there ran =
-      let a = taken_from (slices 0 xs here) (λ stop. stop) (λ after. used_up (length xs) after after.rest) there ran in
-      a.1 ∙ ap (λ (x : After). Ok x) (no_answer_left (length xs) a.0 there a.0.rest a.2)
-
-  -- a run uses its log up
-  none_left : (count : ℕ) (here there : After) (rest : List Answer) → used_up count here rest ≡ Ok there → rest ≡ []
-  none_left count here there [] e = refl
-  none_left count here there (x ∷ rest) e = absurd cc
-
-  used_up_by : (xs : List Slice) (here there : After) → run xs here ≡ Ok there → there.rest ≡ []
-  used_up_by xs here there ran =
-      let a = taken_from (slices 0 xs here) (λ stop. stop) (λ after. used_up (length xs) after after.rest) there ran in
-      ap (λ (x : After). x.rest) (sym (no_answer_left (length xs) a.0 there a.0.rest a.2)) ∙ none_left (length xs) a.0 there a.0.rest a.2
-
   run_reach : (s : State) (xs : List Slice) (log : List Answer) (there : After) → AllByRecursion IsAnswer log → run xs (at s [] log) ≡ Ok there → there.state.input ≡ s.input + length (bytes_read log)
   run_reach s xs log there are ran =
-      let kept = slices_kept xs 0 (at s [] log) there (ran_to xs (at s [] log) there ran) are in
-      omega (arith, kept.reach_is, ap (λ (l : List Answer). length (bytes_read l)) (used_up_by xs (at s [] log) there ran))
+      let whole = whole_run xs (at s [] log) there ran in
+      let kept = slices_kept xs 0 (at s [] log) there whole.ran are in
+      omega (arith, kept.reach_is, ap (λ (l : List Answer). length (bytes_read l)) whole.empty)
 
   pub run_keeps : (s : State) (xs : List Slice) (log : List Answer) (there : After) → IsEncodable s → AllByRecursion IsAnswer log → run xs (at s [] log) ≡ Ok there → there.state.steps < 2 ^ 64 → there.state.input < 2 ^ 64 → IsEncodable there.state
   run_keeps s xs log there is are ran few little =
-      slices_keep xs 0 (at s [] log) there (ran_to xs (at s [] log) there ran) are (omega (arith, run_reach s xs log there are ran, little)) is few
+      slices_keep xs 0 (at s [] log) there (whole_run xs (at s [] log) there ran).ran are (omega (arith, run_reach s xs log there are ran, little)) is few
 
   run_steps : (s : State) (xs : List Slice) (log : List Answer) (there : After) → run xs (at s [] log) ≡ Ok there → s.steps ≤ there.state.steps
-  run_steps s xs log there ran = slices_steps xs 0 (at s [] log) there (ran_to xs (at s [] log) there ran)
+  run_steps s xs log there ran = slices_steps xs 0 (at s [] log) there (whole_run xs (at s [] log) there ran).ran
 
   abbrev with_output : List ℕ → State × List ℕ → Result (State × List ℕ) ℕ
   with_output output end = Ok (end.0, output ++ end.1)
@@ -202,13 +156,13 @@ module _ (counts : Counts) (grows : Grows) (leaves : Leaves) (turn_keeps : TurnK
   chain_parts : (s : State) (e : Epoch) (epochs : List Epoch) (end : State × List ℕ) → chain s (e ∷ epochs) ≡ Ok end → (here : After) × (run e.slices (at s [] e.answers) ≡ Ok here) × (behind : State × List ℕ) × (chain here.state epochs ≡ Ok behind) × (behind.0 ≡ end.0)
   unfolding chain
   chain_parts s e epochs end chained =
-      let a = taken_from (run e.slices (at s [] e.answers)) (λ stop. 0) (λ here. either (chain here.state epochs) (λ count. Err (count + 1)) (with_output here.output)) end chained in
-      let b = taken_from (chain a.0.state epochs) (λ count. count + 1) (with_output a.0.output) end a.2 in
-      (a.0, a.1, b.0, b.1, ap (λ (r : Result (State × List ℕ) ℕ). state_of s r) b.2)
+      let a = either_ok (run e.slices (at s [] e.answers)) (λ stop. 0) (λ here. either (chain here.state epochs) (λ count. Err (count + 1)) (with_output here.output)) end chained in
+      let b = either_ok (chain a.0.state epochs) (λ count. count + 1) (with_output a.0.output) end a.2 in
+      (a.0, a.1, b.0, b.1, IfOk-at_ok (λ (e : State × List ℕ). b.0.0 ≡ e.0) b.2 refl)
 
   chain_steps : (s : State) (epochs : List Epoch) (end : State × List ℕ) → chain s epochs ≡ Ok end → s.steps ≤ end.0.steps
   unfolding chain
-  chain_steps s [] end chained = omega (arith, ap (λ (r : Result (State × List ℕ) ℕ). (state_of s r).steps) chained)
+  chain_steps s [] end chained = IfOk-at_ok (λ (e : State × List ℕ). s.steps ≤ e.0.steps) chained (omega arith)
   chain_steps s (e ∷ epochs) end chained =
       let p = chain_parts s e epochs end chained in
       let one = run_steps s e.slices e.answers p.0 p.1 in
@@ -220,7 +174,7 @@ module _ (counts : Counts) (grows : Grows) (leaves : Leaves) (turn_keeps : TurnK
 
   chain_input : (s : State) (epochs : List Epoch) (end : State × List ℕ) → AreAnswered epochs → chain s epochs ≡ Ok end → s.input ≤ end.0.input
   unfolding chain
-  chain_input s [] end are chained = omega (arith, ap (λ (r : Result (State × List ℕ) ℕ). (state_of s r).input) chained)
+  chain_input s [] end are chained = IfOk-at_ok (λ (e : State × List ℕ). s.input ≤ e.0.input) chained (omega arith)
   chain_input s (e ∷ epochs) end are chained =
       let p = chain_parts s e epochs end chained in
       let one = run_reach s e.slices e.answers p.0 are.0 p.1 in
@@ -229,7 +183,7 @@ module _ (counts : Counts) (grows : Grows) (leaves : Leaves) (turn_keeps : TurnK
 
   chain_keeps : (s : State) (epochs : List Epoch) (end : State × List ℕ) → IsEncodable s → AreAnswered epochs → chain s epochs ≡ Ok end → end.0.steps < 2 ^ 64 → end.0.input < 2 ^ 64 → IsEncodable end.0
   unfolding chain
-  chain_keeps s [] end is are chained few little = subst IsEncodable (ap (λ (r : Result (State × List ℕ) ℕ). state_of s r) chained) is
+  chain_keeps s [] end is are chained few little = IfOk-at_ok (λ (e : State × List ℕ). IsEncodable e.0) chained is
   chain_keeps s (e ∷ epochs) end is are chained few little =
       let p = chain_parts s e epochs end chained in
       let more = chain_steps p.0.state epochs p.2 p.3 in

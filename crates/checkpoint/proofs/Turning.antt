@@ -1,11 +1,11 @@
 -- A turn of a thread, behind which the state has an encoding again once the thread's reservation is dropped.
-use Rattle.std.proofs.Common.{◌≡◌, ℕ, zero, suc, ◌+◌, ◌-◌, ◌/◌, ◌%◌, ◌^◌, ◌<◌, ◌≤◌, Bool, true, false, cond, not, List, [], ◌∷◌, ◌++◌, length, count_by, min, slice_get, Option, Some, None, refl, sym, ap, subst, ◌∙◌, arith}
+use Rattle.std.proofs.Common.{◌≡◌, ℕ, ◌+◌, ◌-◌, ◌/◌, ◌%◌, ◌^◌, ◌<◌, ◌≤◌, Bool, true, false, cond, not, List, [], ◌∷◌, ◌++◌, length, count_by, min, slice_get, Option, Some, None, refl, sym, ap, subst, ◌∙◌, arith}
 use Rattle.std.specs.Prelude.{◌==◌, slice_set}
 use Rattle.std.specs.List.{AllByRecursion, list_any}
 use Rattle.std.proofs.Math.Nat.{min-le_right}
 use Rattle.std.proofs.lemmas.Bool.{and_from, and_parts, cond_both, le-leb, leb-true, lt-ltb}
 use Rattle.std.proofs.lemmas.List.{length-append, length-set}
-use Rattle.std.proofs.lemmas.Option.{slice_get_within}
+use Rattle.std.proofs.lemmas.Option.{slice_get-get_or, slice_get_within}
 use Rattle.dp_base.specs.declared.access.Width.TheVariants.{Four}
 use Rattle.dp_base.specs.declared.answer.Answer.{Answer}
 use Rattle.dp_base.specs.declared.answer.Answer.TheVariants.{Clock, Read}
@@ -25,16 +25,18 @@ use Rattle.guest_kernel.specs.declared.state.State.{State}
 use Rattle.guest_kernel.specs.Break.{may_move_break, page_from, with_break}
 use Rattle.guest_kernel.specs.Call.{Written, answered, begins_to_wait, bytes_written, called, cleared, end_of_exit, end_of_waiting, exits, exits_all, is_cleared, may_spawn, sets_break, silent, spawned_hart, spawns, waits, waits_by, wakes, written, written_by, EAGAIN, EINVAL, ENOSYS, called_alone, has_clock, has_read}
 use Rattle.turn_peek.specs.Arguments.{a0, a1, a2, a3, minus, moved, EFAULT}
+use Rattle.guest_kernel.proofs.Lists.{all_append, get_set, set_set}
+use Rattle.guest_kernel.proofs.Places.{place_of}
 use Rattle.guest_kernel.proofs.Turns.{called_alone_by_row, called_by_row}
-use Rattle.guest_kernel.specs.State.{counted, dropping, unreserved, with_thread, without_reservation}
+use Rattle.guest_kernel.specs.State.{counted, dropping, with_thread, without_reservation}
 use Rattle.guest_kernel.specs.Threads.{AreFew, is_running, thread_at, waits_on, woken}
 use Rattle.guest_kernel.specs.Turn.{by_effect}
-use Rattle.rv_step.specs.Effect.{Effect, goes, calls, traps}
+use Rattle.rv_step.specs.Effect.{Effect, goes, calls, traps, unreserved}
 use Rattle.rv_step.specs.Step.{effect}
 use Rattle.rv_step.specs.Words.{HasBytes, HasWords}
 use Rattle.checkpoint.specs.State.{IsEncodable, checkpoint_of}
-use Rattle.checkpoint.proofs.Keeping.{PagesFit, RestFits, all_at, all_set, bytes_of, live_set, pages_alike, pages_fit, set_at, set_twice}
-use Rattle.checkpoint.proofs.Lists.{each_append, each_woken, set_append, set_woken}
+use Rattle.checkpoint.proofs.Keeping.{PagesFit, RestFits, all_at, all_set, bytes_of, live_set, pages_alike, pages_fit}
+use Rattle.checkpoint.proofs.Lists.{each_woken, set_append, set_woken}
 use Rattle.checkpoint.proofs.PageLists.{contents, pages_rise, risen_pages}
 use Rattle.checkpoint.proofs.HartWords.{awake_is, next_is, of_free, register_is_word, spawned_is, to_free, with_word}
 use Rattle.checkpoint.proofs.TurnLaws.{Fits, IsGood, Keeps, TurnLaws, effect_is_good, nonzero}
@@ -42,12 +44,8 @@ use Rattle.rv_step.proofs.Memories.{put_bytes_bytes, put_bytes_shape}
 
 -- the state before the turn, whose thread runs
 module _ (laws : TurnLaws) (s : State) (tid : Tid) (hart : Hart) (clear : ℕ) (log : List Answer) (answers_are : AllByRecursion IsAnswer log) (is : IsEncodable (without_reservation s tid)) (there : thread_at s.threads tid ≡ Some (Runs hart clear)) where
-  not_none : (b : Bool) (o : Option Thread) → cond b None o ≡ Some (Runs hart clear) → o ≡ Some (Runs hart clear)
-  not_none true o e = absurd cc
-  not_none false o e = e
-
   at_i : slice_get s.threads (tid.0 - 1) ≡ Some (Runs hart clear)
-  at_i = not_none (tid.0 == 0) (slice_get s.threads (tid.0 - 1)) there
+  at_i = place_of s.threads tid (Runs hart clear) there
 
   number : (b : Bool) → (tid.0 == 0) ≡ b → b ≡ false
   number false e = refl
@@ -64,7 +62,7 @@ module _ (laws : TurnLaws) (s : State) (tid : Tid) (hart : Hart) (clear : ℕ) (
   inside = slice_get_within s.threads (tid.0 - 1) (Runs hart clear) at_i
 
   old_is : IsThread (Runs (unreserved hart) clear)
-  old_is = all_at IsThread (slice_set s.threads (tid.0 - 1) (Runs (unreserved hart) clear)) (tid.0 - 1) (Runs (unreserved hart) clear) before.threads (set_at s.threads (tid.0 - 1) (Runs hart clear) (Runs (unreserved hart) clear) at_i)
+  old_is = all_at IsThread (slice_set s.threads (tid.0 - 1) (Runs (unreserved hart) clear)) (tid.0 - 1) (Runs (unreserved hart) clear) before.threads (get_set s.threads (tid.0 - 1) (Runs hart clear) (Runs (unreserved hart) clear) at_i)
 
   hart_is : HasWords hart
   hart_is = of_free hart old_is.0
@@ -83,7 +81,7 @@ module _ (laws : TurnLaws) (s : State) (tid : Tid) (hart : Hart) (clear : ℕ) (
 
   -- each thread has an encoding, with another in the place of this one
   each_set : (t : Thread) → IsThread t → AllByRecursion IsThread (slice_set s.threads (tid.0 - 1) t)
-  each_set t fits = subst (AllByRecursion IsThread) (set_twice s.threads (tid.0 - 1) (Runs (unreserved hart) clear) t) (all_set IsThread (slice_set s.threads (tid.0 - 1) (Runs (unreserved hart) clear)) (tid.0 - 1) t before.threads fits)
+  each_set t fits = subst (AllByRecursion IsThread) (set_set s.threads (tid.0 - 1) (Runs (unreserved hart) clear) t) (all_set IsThread (slice_set s.threads (tid.0 - 1) (Runs (unreserved hart) clear)) (tid.0 - 1) t before.threads fits)
 
   end_is : IsEnd s.end
   end_is = before.end
@@ -121,15 +119,10 @@ module _ (laws : TurnLaws) (s : State) (tid : Tid) (hart : Hart) (clear : ℕ) (
   dropped_running : (left : State) (threads : List Thread) (h : Hart) (c : ℕ) → left.threads ≡ slice_set threads (tid.0 - 1) (Runs h c) → tid.0 - 1 < length threads
       → without_reservation left tid ≡ record left { threads = slice_set threads (tid.0 - 1) (Runs (unreserved h) c) }
   dropped_running left threads h c are within =
-      let here : slice_get left.threads (tid.0 - 1) ≡ Some (Runs h c) = ap (λ l. slice_get l (tid.0 - 1)) are ∙ get_set threads (tid.0 - 1) (Runs h c) within in
+      let here : slice_get left.threads (tid.0 - 1) ≡ Some (Runs h c) = ap (λ l. slice_get l (tid.0 - 1)) are ∙ get_set threads (tid.0 - 1) _ (Runs h c) (slice_get-get_or threads (tid.0 - 1) (Runs h c) within) in
       ap (λ (o : Option Thread). dropping left tid o) (placed left.threads (Runs h c) here)
       ∙ ap (λ l. record left { threads = slice_set l (tid.0 - 1) (Runs (unreserved h) c) }) are
-      ∙ ap (λ l. record left { threads = l }) (set_twice threads (tid.0 - 1) (Runs h c) (Runs (unreserved h) c))
-    where
-      get_set : (xs : List Thread) (i : ℕ) (y : Thread) → i < length xs → slice_get (slice_set xs i y) i ≡ Some y
-      get_set [] i y lt = absurd (omega (arith, lt))
-      get_set (x ∷ xs) zero y lt = refl
-      get_set (x ∷ xs) (suc i) y lt = get_set xs i y (omega (arith, lt))
+      ∙ ap (λ l. record left { threads = l }) (set_set threads (tid.0 - 1) (Runs h c) (Runs (unreserved h) c))
 
   -- it goes on, with nothing changed but these
   went : (left : State) (h : Hart) → left.threads ≡ slice_set s.threads (tid.0 - 1) (Runs h clear) → HasWords h → left.heap ≡ s.heap → is_heap s.heap left.brk ≡ true → IsEnd left.end
@@ -185,7 +178,7 @@ module _ (laws : TurnLaws) (s : State) (tid : Tid) (hart : Hart) (clear : ℕ) (
 
   left_gone : IsLeft (with_thread s tid (Gone (a0 hart)))
   left_gone = record {
-    here = set_at s.threads (tid.0 - 1) (Runs hart clear) (Gone (a0 hart)) at_i;
+    here = get_set s.threads (tid.0 - 1) (Runs hart clear) (Gone (a0 hart)) at_i;
     each = each_set (Gone (a0 hart)) code_is;
     some = omega (arith, some_threads, length-set s.threads (tid.0 - 1) (Gone (a0 hart)));
     pages = pages_are;
@@ -251,7 +244,7 @@ module _ (laws : TurnLaws) (s : State) (tid : Tid) (hart : Hart) (clear : ℕ) (
       let all : length (slice_set threads (tid.0 - 1) t) ≡ length threads = length-set threads (tid.0 - 1) t in
       fits_by left (slice_set threads (tid.0 - 1) t) (dropped_running left threads h clear refl (omega (arith, size, inside)))
       (subst (AllByRecursion IsThread) (sym (set_append s.threads (new ∷ []) (tid.0 - 1) t inside))
-      (each_append IsThread (slice_set s.threads (tid.0 - 1) t) (new ∷ []) (each_set t (to_free h words, old_is.1))
+      (all_append IsThread (slice_set s.threads (tid.0 - 1) t) (new ∷ []) (each_set t (to_free h words, old_is.1))
       ((spawned_is (a0 hart) (a1 hart) (a2 hart) (register_is_word hart 10 hart_is) (register_is_word hart 11 hart_is) (register_is_word hart 12 hart_is), register_is_word hart 13 hart_is), tt)))
       (omega (arith, all, size))
       (record { heap = refl; brk = heap_is; end = end_is; traps = traps_more (length s.threads) (length (slice_set threads (tid.0 - 1) t)) s.end (omega (arith, all, size)) within_is; pages = pages_are })
@@ -267,8 +260,8 @@ module _ (laws : TurnLaws) (s : State) (tid : Tid) (hart : Hart) (clear : ℕ) (
       let left = counted (begins_to_wait s tid hart clear addr) in
       let all : length (slice_set s.threads (tid.0 - 1) t) ≡ length s.threads = length-set s.threads (tid.0 - 1) t in
       let dropped : without_reservation left tid ≡ record left { threads = slice_set s.threads (tid.0 - 1) t } =
-      ap (λ (o : Option Thread). dropping left tid o) (placed threads (Waits addr h clear) (set_at s.threads (tid.0 - 1) (Runs hart clear) (Waits addr h clear) at_i))
-      ∙ ap (λ l. record left { threads = l }) (set_twice s.threads (tid.0 - 1) (Waits addr h clear) t) in
+      ap (λ (o : Option Thread). dropping left tid o) (placed threads (Waits addr h clear) (get_set s.threads (tid.0 - 1) (Runs hart clear) (Waits addr h clear) at_i))
+      ∙ ap (λ l. record left { threads = l }) (set_set s.threads (tid.0 - 1) (Waits addr h clear) t) in
       fits_by left (slice_set s.threads (tid.0 - 1) t) dropped (each_set t (fits, to_free h (next_is hart hart_is), old_is.1)) (omega (arith, all, some_threads))
       (record { heap = refl; brk = heap_is; end = waiting_end threads; traps = waiting_traps (length (slice_set s.threads (tid.0 - 1) t)) threads; pages = pages_are })
 
