@@ -1,2 +1,2 @@
-mod Reservations
+pub mod Reservations
 mod ReadTurns

@@ -1,5 +1,5 @@
 -- What a hart's next turn asks for, by whether its step calls: the reservation has no part in that.
-use Rattle.std.proofs.Common.{◌≡◌, ◌⊎◌, ◌+◌, ◌*◌, ◌/◌, ◌%◌, ℕ, Bool, true, false, not, nat_lt, cond, Option, Some, None, refl, sym, ap, ◌∙◌, inl, inr}
+use Rattle.std.proofs.Common.{◌≡◌, ◌⊎◌, ◌+◌, ◌*◌, ◌/◌, ◌%◌, ℕ, Bool, true, false, not, nat_lt, cond, Option, Some, None, refl, sym, ap, subst, ◌∙◌, inl, inr}
 use Rattle.std.specs.Prelude.{◌==◌, if◌then◌else◌}
 use Rattle.dp_base.specs.Field.{◌>>=◌}
 use Rattle.dp_base.specs.Memory.{Memory, amo_word, fetched, is_below_signed, loaded, may_store}
@@ -143,15 +143,15 @@ pub word_asks : (x : Option Instr) → AsksForNothing (word_peeked x)
 word_asks None = inr (inl refl)
 word_asks (Some instruction) = instruction_asks instruction
 
-module _ (f : Peek → Bool) (plain : f peeks.Plain ≡ f peeks.Sync) (conditional : f peeks.Sc ≡ f peeks.Sync) where
-  nothing_asked : (p : Peek) → AsksForNothing p → f p ≡ f peeks.Sync
-  nothing_asked p (inl is) = ap f is ∙ plain
-  nothing_asked p (inr (inl is)) = ap f is
-  nothing_asked p (inr (inr is)) = ap f is ∙ conditional
+pub nothing_asked : (P : Peek → Type 0) (p : Peek) → AsksForNothing p → P peeks.Plain → P peeks.Sync → P peeks.Sc → P p
+nothing_asked P p (inl is) plain sync conditional = subst P (sym is) plain
+nothing_asked P p (inr (inl is)) plain sync conditional = subst P (sym is) sync
+nothing_asked P p (inr (inr is)) plain sync conditional = subst P (sym is) conditional
 
+module _ (f : Peek → Bool) (plain : f peeks.Plain ≡ f peeks.Sync) (conditional : f peeks.Sc ≡ f peeks.Sync) where
   asked_by : (h : Hart) (m : Memory) (input : ℕ) (p : Peek) (e : Effect) → AsksForNothing p
       → f (effect_peeked h m input p e) ≡ (if is_call e then f (call_peeked h m input) else f peeks.Sync)
-  asked_by h m input p (goes after left) asks = nothing_asked p asks
+  asked_by h m input p (goes after left) asks = nothing_asked (λ (q : Peek). f q ≡ f peeks.Sync) p asks plain refl conditional
   asked_by h m input p calls asks = refl
   asked_by h m input p (traps cause value) asks = refl
 
