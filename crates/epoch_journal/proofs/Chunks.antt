@@ -37,7 +37,7 @@ pub begun_read : (known : Option (List ℕ)) → IsReadOn known [] true
 begun_read None = tt
 begun_read (Some disk) = (refl, λ never. absurd cc)
 
--- less is left to read, or it was the last time
-pub smaller : (most before after : ℕ) (more : Bool) → before < most → after ≤ most → before ≤ after → (IsTrue more → before < after) → most - after + cond more 1 0 < most - before + 1
+-- less is left, or it was the last time
+pub smaller : (most before after : ℕ) (more : Bool) → before ≤ most → after ≤ most → before ≤ after → (IsTrue more → before < after) → most - after + cond more 1 0 < most - before + 1
 smaller most before after true below within kept grows = let grown = grows refl in omega (arith, below, within, grown)
 smaller most before after false below within kept grows = omega (arith, below, within, kept)

@@ -2,4 +2,4 @@ pub mod ReadsAs
 pub mod AtRest
 pub mod OnDisk
 mod OnEmptyDisk
-mod Chunks
+pub mod Chunks
