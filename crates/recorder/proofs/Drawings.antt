@@ -6,9 +6,10 @@ use Rattle.std.proofs.lemmas.Bool.{cases_lt, eqb-true, or_right}
 use Rattle.std.proofs.Math.Seq.{take-add}
 use Rattle.std.proofs.lemmas.List.{append-nil, drop-append-le, drop-drop, drop_all, length-append, length-take-le, take-append-drop, take-append-le, take-take, take_all}
 use Rattle.dp_base.specs.declared.answer.Answer.{Answer}
-use Rattle.dp_base.specs.declared.answer.Answer.TheVariants.{Clock, Read}
+use Rattle.dp_base.specs.declared.answer.Answer.TheVariants.{Read}
 use Rattle.disk_model.specs.Input.{IfInput, Input, IsLast, IsNoted, ReadClock, Took, is_at_end, left_after, taken, took}
 use Rattle.epoch_runner.specs.Supplying.{IsSuppliedBy}
+use Rattle.epoch_runner.proofs.AnswerLists.{clocks_append, read_append}
 use Rattle.guest_kernel.specs.Answers.{bytes_read, clock_readings}
 use Rattle.supply.specs.Supplied.{IsLastOf, Supplied, empty, refilled}
 use Rattle.supply.specs.Windows.{behind_takes, bytes_left, windows}
@@ -93,16 +94,6 @@ found-append reading (v ∷ values) more readings found last all =
     (found.0, found.1, found-append reading values more (drop found.0 readings) found.2 (last-behind reading readings found.0 v last found.1) all)
 
 -- ---- answers joined
-
-pub bytes_read-append : (xs ys : List Answer) → bytes_read (xs ++ ys) ≡ bytes_read xs ++ bytes_read ys
-bytes_read-append [] ys = refl
-bytes_read-append (Read bytes ∷ xs) ys = ap (λ (l : List ℕ). bytes ++ l) (bytes_read-append xs ys) ∙ sym (append_assoc bytes (bytes_read xs) (bytes_read ys))
-bytes_read-append (Clock reading ∷ xs) ys = bytes_read-append xs ys
-
-pub clock_readings-append : (xs ys : List Answer) → clock_readings (xs ++ ys) ≡ clock_readings xs ++ clock_readings ys
-clock_readings-append [] ys = refl
-clock_readings-append (Read bytes ∷ xs) ys = clock_readings-append xs ys
-clock_readings-append (Clock reading ∷ xs) ys = ap (λ (l : List ℕ). reading ∷ l) (clock_readings-append xs ys)
 
 -- an item of joined lists is in the first, or in the second
 split-item : (xs ys before after : List Answer) (x : Answer) → xs ++ ys ≡ before ++ x ∷ after
@@ -293,7 +284,7 @@ taken_more w place behind draws answers more i k so_far early supplied last = re
   ended = so_far.ended;
   empties = λ before after is. by_side before after is (split-item answers more before after (Read []) is);
   kept = so_far.kept;
-  clocks = subst (λ (l : List ℕ). AreFound l (readings_since i k)) (sym (clock_readings-append answers more)) (found-append w.stamp (clock_readings answers) (clock_readings more) (readings_since i k) so_far.clocks last supplied.clocks);
+  clocks = subst (λ (l : List ℕ). AreFound l (readings_since i k)) (sym (clocks_append answers more)) (found-append w.stamp (clock_readings answers) (clock_readings more) (readings_since i k) so_far.clocks last supplied.clocks);
 }
   where
     given : List ℕ
@@ -309,11 +300,11 @@ taken_more w place behind draws answers more i k so_far early supplied last = re
         let rest : bytes_read more ≡ take (behind - place) (drop place given) =
         supplied.reads ∙ ap (λ (l : List ℕ). take (behind - place) (drop (place - w.place) l)) (sym so_far.last.last)
         ∙ ap (take (behind - place)) (drop-drop (place - w.place) w.place given ∙ ap (λ n. drop n given) sum) in
-        bytes_read-append answers more ∙ ap (λ (l : List ℕ). l ++ bytes_read more) so_far.read ∙ ap (λ (l : List ℕ). take place given ++ l) rest
+        read_append answers more ∙ ap (λ (l : List ℕ). l ++ bytes_read more) so_far.read ∙ ap (λ (l : List ℕ). take place given ++ l) rest
         ∙ sym (take-add place (behind - place) given) ∙ ap (λ n. take n given) all
 
     before_all : (before after : List Answer) → answers ++ more ≡ before ++ Read [] ∷ after → bytes_read before ++ bytes_read after ≡ take behind given
-    before_all before after is = sym (bytes_read-append before (Read [] ∷ after)) ∙ ap bytes_read (sym is) ∙ all_read
+    before_all before after is = sym (read_append before (Read [] ∷ after)) ∙ ap bytes_read (sym is) ∙ all_read
 
     by_side : (before after : List Answer) → answers ++ more ≡ before ++ Read [] ∷ after
         → ((rest : List Answer) × (answers ≡ before ++ Read [] ∷ rest)) ⊎ ((others : List Answer) × (before ≡ answers ++ others) × (more ≡ others ++ Read [] ∷ after))
@@ -321,7 +312,7 @@ taken_more w place behind draws answers more i k so_far early supplied last = re
     by_side before after is (inl there) = so_far.empties before there.0 there.1
     by_side before after is (inr there) =
         let e = supplied.ends there.0 after there.2 in
-        let parts : bytes_read before ≡ bytes_read answers ++ bytes_read there.0 = ap bytes_read there.1 ∙ bytes_read-append answers there.0 in
+        let parts : bytes_read before ≡ bytes_read answers ++ bytes_read there.0 = ap bytes_read there.1 ∙ read_append answers there.0 in
         let first : length (bytes_read answers) ≡ place = ap (λ (l : List ℕ). length l) so_far.read ∙ length-take-le place given so_far.within in
         let size : length (bytes_read before) ≡ length given =
         ap (λ (l : List ℕ). length l) parts ∙ length-append (bytes_read answers) (bytes_read there.0) ∙ omega (arith, first, e.1, so_far.last.end) in

@@ -29,7 +29,8 @@ use Rattle.recorder.specs.Committing.{IsCommitting}
 use Rattle.recorder.specs.Drawing.{AreFound, IsHonestSince, Round, answers_of, epochs_of, readings_since, supply_of}
 use Rattle.recorder.specs.Moments.{EachMoment, HoldsAt, IsRecording, answers_in}
 use Rattle.recorder.specs.Recording.{EachIsNext, IsLeft, first_behind, records_of}
-use Rattle.recorder.proofs.Drawings.{bytes_read-append, clock_readings-append, input-map}
+use Rattle.epoch_runner.proofs.AnswerLists.{clocks_append, read_append}
+use Rattle.recorder.proofs.Drawings.{input-map}
 
 -- ---- answers
 
@@ -54,9 +55,9 @@ honest-left xs ys i j honest =
       honest.0,
       honest.1,
       record {
-        reads = (bytes_read ys ++ rest, is.reads.1 ∙ ap (λ (l : List ℕ). l ++ rest) (bytes_read-append xs ys) ∙ append_assoc (bytes_read xs) (bytes_read ys) rest);
+        reads = (bytes_read ys ++ rest, is.reads.1 ∙ ap (λ (l : List ℕ). l ++ rest) (read_append xs ys) ∙ append_assoc (bytes_read xs) (bytes_read ys) rest);
         ends = λ before after e. is.ends before (after ++ ys) (ap (λ (l : List Answer). l ++ ys) e ∙ append_assoc before (Read [] ∷ after) ys);
-        clocks = found-left (clock_readings xs) (clock_readings ys) (readings_since i j) (subst (λ (l : List ℕ). AreFound l (readings_since i j)) (clock_readings-append xs ys) is.clocks);
+        clocks = found-left (clock_readings xs) (clock_readings ys) (readings_since i j) (subst (λ (l : List ℕ). AreFound l (readings_since i j)) (clocks_append xs ys) is.clocks);
       },
     )
 
@@ -67,10 +68,6 @@ pub are_records : (options : Options) (first : ℕ) (s : State) (w : Supplied) (
 are_records options first s w [] each = tt
 are_records options first s w (r ∷ rounds) each =
     ((each.3.is_epoch, each.3.fits.1), are_records options (first_behind first r.epoch.slices) each.0 (supply_of w r.draw) rounds each.4)
-
-pub records_more : (records : List Record) (r : Record) → AllByRecursion IsRecord records → IsRecord r → AllByRecursion IsRecord (records ++ r ∷ [])
-records_more [] r are is = (is, tt)
-records_more (x ∷ xs) r are is = (are.0, records_more xs r are.1 is)
 
 -- ---- at a moment of a recording so far
 

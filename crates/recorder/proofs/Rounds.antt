@@ -40,7 +40,8 @@ use Rattle.journal_text.specs.Reading.{journal_of}
 use Rattle.journal_text.specs.Records.{IsRecord, Record, epoch}
 use Rattle.recorder.specs.Moments.{EachMoment, HoldsAt, answers_in}
 use Rattle.recorder.specs.Telling.{HasTold, IsTold, report_at}
-use Rattle.recorder.proofs.Moments.{AlwaysPartly, answers_are, append_left, appends_partly, are_records, commits_partly, each_moment, known-both, noted-too, records_more}
+use Rattle.guest_kernel.proofs.Lists.{all_append}
+use Rattle.recorder.proofs.Moments.{AlwaysPartly, answers_are, append_left, appends_partly, are_records, commits_partly, each_moment, known-both, noted-too}
 use Rattle.recorder.proofs.RunLists.{AreAnswers, answers-push, answers_are-push, draws-push, each-push, epochs-push, records-push, supply-push}
 use Rattle.recorder.proofs.SoFar.{CanGoOn, HasDrawnRound, SoFar, room_kept, still_placed}
 
@@ -251,7 +252,7 @@ module _ (guest : List ℕ) (guest_is : IsGuest guest) (options : Options) (star
             drawn_epoch
 
         records_there : AllByRecursion IsRecord (records_of (epochs_of so_far.done) ++ epoch e ∷ [])
-        records_there = records_more (records_of (epochs_of so_far.done)) (epoch e) records_are (next_.is_epoch, next_.fits.1)
+        records_there = all_append IsRecord (records_of (epochs_of so_far.done)) (epoch e ∷ []) records_are ((next_.is_epoch, next_.fits.1), tt)
 
         abbrev E : List Epoch
         E = epochs_of so_far.done

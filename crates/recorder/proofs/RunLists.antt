@@ -1,8 +1,9 @@
 -- Runs as lists of rounds and epochs: what one more round or epoch at the end adds to each.
 use Rattle.std.proofs.Common.{◌≡◌, ℕ, ◌+◌, ◌<◌, ◌≤◌, List, [], ◌∷◌, ◌++◌, length, Result, Ok, Err, refl, sym, ap, subst, ◌∙◌, append_assoc, arith}
-use Rattle.std.proofs.lemmas.List.{append-nil}
+use Rattle.std.proofs.lemmas.List.{append-nil, map_push}
 use Rattle.std.specs.List.{AllByRecursion}
 use Rattle.std.proofs.lemmas.List.Sums.{sum_by-cons}
+use Rattle.std.proofs.lemmas.Result.{IfOk-at_ok}
 use Rattle.dp_base.specs.declared.answer.Answer.{Answer}
 use Rattle.dp_base.specs.declared.slice.Slice.{Slice}
 use Rattle.dp_base.specs.Journal.{Epoch, IsAnswer, IsSlice, steps_of}
@@ -14,7 +15,8 @@ use Rattle.guest_kernel.specs.Call.{After}
 use Rattle.guest_kernel.specs.Slices.{Stop, chain, either, onto}
 use Rattle.recorder.specs.declared.options.Options.{Options}
 use Rattle.recorder.specs.Recording.{IsNext, EachIsNext, Run, first_after, first_behind, records_of}
-use Rattle.journal_text.specs.Records.{Record, epoch}
+use Rattle.journal_text.specs.Records.{epoch}
+use Rattle.guest_kernel.proofs.Lists.{all_append}
 
 pub no_epochs : (start : State) → chain start [] ≡ Ok (start, [])
 unfolding chain
@@ -23,15 +25,10 @@ no_epochs start = refl
 abbrev pub no_round : (options : Options) (start : State) → start.steps ≤ options.limit → Run options start
 no_round options start few = record { rounds = []; end = start; output = []; chained = no_epochs start; each = tt; counted = few }
 
--- where a chain ends
-abbrev end_or : State → Result (State × List ℕ) ℕ → State
-end_or other (Ok end) = end.0
-end_or other (Err count) = other
-
 -- a chain behind an epoch ends where the whole one does
 chain_end : (r : Result (State × List ℕ) ℕ) (written : List ℕ) (mid : State) (before : List ℕ) → either r (λ count. Err (count + 1)) (onto written) ≡ Ok (mid, before) → (output : List ℕ) × (r ≡ Ok (mid, output))
 chain_end (Err count) written mid before is = absurd cc
-chain_end (Ok end) written mid before is = (end.1, ap (λ (s : State). Ok (s, end.1)) (ap (end_or mid) is))
+chain_end (Ok end) written mid before is = (end.1, ap (λ (s : State). Ok (s, end.1)) (IfOk-at_ok (λ (there : State × List ℕ). end.0 ≡ there.0) is refl))
 
 -- a round behind a run is next
 pub each-push : (options : Options) (first : ℕ) (start : State) (w : Supplied) (rounds : List Round) (mid : State) (before : List ℕ) (r : Round) (end : State) (output : List ℕ)
@@ -41,7 +38,7 @@ pub each-push : (options : Options) (first : ℕ) (start : State) (w : Supplied)
     → EachIsNext options first start w (rounds ++ r ∷ [])
 unfolding chain
 each-push options first start w [] mid before r end output each chained due next_ =
-    let same : start ≡ mid = ap (end_or mid) chained in (
+    let same : start ≡ mid = IfOk-at_ok (λ (there : State × List ℕ). start ≡ there.0) chained refl in (
       end,
       output,
       subst (λ (s : State). r.draw.due ≡ input_due s w) (sym same) due,
@@ -57,12 +54,10 @@ each-push options first start w (x ∷ xs) mid before r end output each chained 
     (there, written, each.2, each.3, each-push options (first_behind first x.epoch.slices) there (supply_of w x.draw) xs mid last.0 r end output each.4 last.1 due next_)
 
 pub epochs-push : (rounds : List Round) (r : Round) → epochs_of (rounds ++ r ∷ []) ≡ epochs_of rounds ++ r.epoch ∷ []
-epochs-push [] r = refl
-epochs-push (x ∷ xs) r = ap (λ (l : List Epoch). x.epoch ∷ l) (epochs-push xs r)
+epochs-push rounds r = map_push (λ (x : Round). x.epoch) rounds r
 
 pub draws-push : (rounds : List Round) (r : Round) → draws_of (rounds ++ r ∷ []) ≡ draws_of rounds ++ r.draw ∷ []
-draws-push [] r = refl
-draws-push (x ∷ xs) r = ap (λ (l : List Draw). x.draw ∷ l) (draws-push xs r)
+draws-push rounds r = map_push (λ (x : Round). x.draw) rounds r
 
 pub answers-push : (rounds : List Round) (r : Round) → answers_of (rounds ++ r ∷ []) ≡ answers_of rounds ++ r.epoch.answers
 answers-push [] r = append-nil r.epoch.answers
@@ -76,16 +71,14 @@ abbrev pub AreAnswers : List Epoch → Type 0
 AreAnswers epochs = AllByRecursion (λ (e : Epoch). AllByRecursion IsAnswer e.answers) epochs
 
 pub answers_are-push : (epochs : List Epoch) (e : Epoch) → AreAnswers epochs → AllByRecursion IsAnswer e.answers → AreAnswers (epochs ++ e ∷ [])
-answers_are-push [] e are more = (more, tt)
-answers_are-push (x ∷ xs) e are more = (are.0, answers_are-push xs e are.1 more)
+answers_are-push epochs e are more = all_append (λ (x : Epoch). AllByRecursion IsAnswer x.answers) epochs (e ∷ []) are (more, tt)
 
 pub first_after-push : (first : ℕ) (epochs : List Epoch) (e : Epoch) → first_after first (epochs ++ e ∷ []) ≡ first_behind (first_after first epochs) e.slices
 first_after-push first [] e = refl
 first_after-push first (x ∷ xs) e = first_after-push (first_behind first x.slices) xs e
 
 pub records-push : (epochs : List Epoch) (e : Epoch) → records_of (epochs ++ e ∷ []) ≡ records_of epochs ++ epoch e ∷ []
-records-push [] e = refl
-records-push (x ∷ xs) e = ap (λ (l : List Record). epoch x ∷ l) (records-push xs e)
+records-push epochs e = map_push epoch epochs e
 
 -- ---- an epoch that was run
 
