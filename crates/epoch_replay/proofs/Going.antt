@@ -1,6 +1,5 @@
 -- A play so far, and how it goes on and stops.
 use Rattle.std.proofs.Common.{◌≡◌, inl, inr, ℕ, ◌+◌, ◌-◌, ◌*◌, ◌<◌, ◌≤◌, ◌^◌, Bool, true, false, cond, List, [], ◌∷◌, ◌++◌, length, take, drop, Option, Some, Result, Ok, Err, refl, sym, ap, subst, ◌∙◌, append_assoc, arith}
-use Rattle.std.specs.Prelude.{IsTrue}
 use Rattle.std.proofs.lemmas.List.{append-nil, length-append, take_all, take-append-drop}
 use Rattle.dp_base.specs.declared.answer.Answer.{Answer}
 use Rattle.dp_base.specs.declared.limits.TheConstants.{MAX_CALL_BYTES, MAX_EPOCH_STEPS, MAX_JOURNAL_BYTES}
@@ -18,7 +17,7 @@ use Rattle.guest_state.specs.Checkpoint.{Checkpoint}
 use Rattle.checkpoint.specs.State.{IsEncodable, digest_of}
 use Rattle.dp_report.specs.declared.report.Report.{Report}
 use Rattle.dp_report.specs.Texts.{report_line}
-use Rattle.journal_text.specs.Reading.{Reading, Tail, first_bytes, reading_of, reads, tail_at}
+use Rattle.journal_text.specs.Reading.{Reading, Tail, bad_record, end, first_bytes, reading_of, reads, tail_at}
 use Rattle.journal_text.specs.Records.{Next, Record, ended, bad, epoch, mark, list_from, next_at}
 use Rattle.epoch_replay.specs.declared.progress.Progress.{Progress}
 use Rattle.epoch_replay.specs.declared.replay_fault.ReplayFault.{ReplayFault}
@@ -29,39 +28,32 @@ use Rattle.epoch_replay.specs.Replaying.{Ends, HasNotedSome, HasSent, HasSentSom
 
 -- ---- the definition, step by step
 
-epoch_step : (s : State) (number : ℕ) (e : Epoch) (others : List Record) (tail : Tail) (here : After) → run e.slices (at s [] e.answers) ≡ Ok here
-    → play_from s number (epoch e ∷ others) tail ≡ behind here.output (play_from here.state (number + 1) others tail)
+-- an epoch in front of others, by what its slices come to
+epoch_plays : (s : State) (number : ℕ) (e : Epoch) (others : List Record) (tail : Tail) (r : Result After (Stop × After)) → run e.slices (at s [] e.answers) ≡ r
+    → play_from s number (epoch e ∷ others) tail ≡ either r (λ stop. stopped (Err (bad_epoch number))) (λ here. behind here.output (play_from here.state (number + 1) others tail))
 unfolding play_from
-epoch_step s number e others tail here ran =
-    ap (λ (r : Result After (Stop × After)). either r (λ stop. stopped (Err (bad_epoch number))) (λ there. behind there.output (play_from there.state (number + 1) others tail))) ran
+epoch_plays s number e others tail r ran =
+    ap (λ (x : Result After (Stop × After)). either x (λ stop. stopped (Err (bad_epoch number))) (λ here. behind here.output (play_from here.state (number + 1) others tail))) ran
 
-epoch_stops : (s : State) (number : ℕ) (e : Epoch) (others : List Record) (tail : Tail) (stop : Stop × After) → run e.slices (at s [] e.answers) ≡ Err stop
-    → play_from s number (epoch e ∷ others) tail ≡ stopped (Err (bad_epoch number))
+-- a mark in front of others
+mark_plays : (s : State) (number : ℕ) (c : Checkpoint) (others : List Record) (tail : Tail) (right : Bool) → is_right c s ≡ right
+    → play_from s number (mark c ∷ others) tail ≡ cond right (play_from s (number + 1) others tail) (stopped (Err (bad_mark number)))
 unfolding play_from
-epoch_stops s number e others tail stop ran =
-    ap (λ (r : Result After (Stop × After)). either r (λ stop. stopped (Err (bad_epoch number))) (λ there. behind there.output (play_from there.state (number + 1) others tail))) ran
+mark_plays s number c others tail right is = ap (λ (b : Bool). cond b (play_from s (number + 1) others tail) (stopped (Err (bad_mark number)))) is
 
-mark_step : (s : State) (number : ℕ) (c : Checkpoint) (others : List Record) (tail : Tail) → is_right c s ≡ true → play_from s number (mark c ∷ others) tail ≡ play_from s (number + 1) others tail
-unfolding play_from
-mark_step s number c others tail right = rw right refl
+-- no record, by what stands in its place
+abbrev none_left_plays : State → Tail → Played
+none_left_plays s (end place) = stopped (Ok s)
+none_left_plays s (bad_record number) = stopped (Err (bad_journal number))
 
-mark_stops : (s : State) (number : ℕ) (c : Checkpoint) (others : List Record) (tail : Tail) → is_right c s ≡ false → play_from s number (mark c ∷ others) tail ≡ stopped (Err (bad_mark number))
+none_plays : (s : State) (number : ℕ) (tail : Tail) → play_from s number [] tail ≡ none_left_plays s tail
 unfolding play_from
-mark_stops s number c others tail wrong = rw wrong refl
-
-all_played : (s : State) (number place count : ℕ) (next : Next) (tail : Tail) → tail ≡ tail_at next place count → next ≡ ended → play_from s number [] tail ≡ stopped (Ok s)
-unfolding play_from
-all_played s number place count next tail is no_more =
-    ap (λ (t : Tail). play_from s number [] t) (is ∙ ap (λ (n : Next). tail_at n place count) no_more)
-
-bad_here : (s : State) (number place count : ℕ) (next : Next) (tail : Tail) → tail ≡ tail_at next place count → next ≡ bad → play_from s number [] tail ≡ stopped (Err (bad_journal count))
-unfolding play_from
-bad_here s number place count next tail is malformed =
-    ap (λ (t : Tail). play_from s number [] t) (is ∙ ap (λ (n : Next). tail_at n place count) malformed)
+none_plays s number (end place) = refl
+none_plays s number (bad_record k) = refl
 
 -- ---- what a play has behind an output
 
-abbrev made : Result State Refusal → List ℕ → Played
+abbrev pub made : Result State Refusal → List ℕ → Played
 made stop output = record { output = output; stop = stop }
 
 behind_stop : (output : List ℕ) (stop : Result State Refusal) → behind output (stopped stop) ≡ made stop output
@@ -163,20 +155,23 @@ module _ (reading : Reading) (file : List ℕ) (first now : Option History) (p :
     tail_is : reading.tail ≡ tail_at (next_at (drop p.at file)) so_far.place p.number
     tail_is = so_far.tail ∙ ap (λ (l : List Record × List ℕ). tail_at (next_at l.1) so_far.place (p.number + length l.0)) none ∙ ap (λ (n : ℕ). tail_at (next_at (drop p.at file)) so_far.place n) (omega arith)
 
+    ends_with : (stands : Next) → next_at (drop p.at file) ≡ stands → play_from p.state p.number (left_at file p.at) reading.tail ≡ none_left_plays p.state (tail_at stands so_far.place p.number)
+    ends_with stands is =
+        ap (λ (l : List Record). play_from p.state p.number l reading.tail) none_left ∙ none_plays p.state p.number reading.tail
+        ∙ ap (none_left_plays p.state) (tail_is ∙ ap (λ (n : Next). tail_at n so_far.place p.number) is)
+
     pub all : next_at (drop p.at file) ≡ ended → IsAll reading first now p
     all no_more = record {
       accepted = so_far.accepted;
       output = so_far.output;
-      plays = stops_here (Ok p.state)
-          (ap (λ (l : List Record). play_from p.state p.number l reading.tail) none_left ∙ all_played p.state p.number so_far.place p.number (next_at (drop p.at file)) reading.tail tail_is no_more);
+      plays = stops_here (Ok p.state) (ends_with ended no_more);
       epochs = omega (arith, so_far.epochs, ap (λ (l : List Record). length (epochs_of l)) none_left);
       sent = so_far.sent;
       history = so_far.history;
     }
 
     pub malformed : next_at (drop p.at file) ≡ bad → Replayed (Some reading) first now (Err (faults.BadJournal p.number))
-    malformed is = refused (bad_journal p.number)
-        (ap (λ (l : List Record). play_from p.state p.number l reading.tail) none_left ∙ bad_here p.state p.number so_far.place p.number (next_at (drop p.at file)) reading.tail tail_is is)
+    malformed is = refused (bad_journal p.number) (ends_with bad is)
 
   -- ---- a record is left, and the next one stands at this place
 
@@ -197,13 +192,13 @@ module _ (reading : Reading) (file : List ℕ) (first now : Option History) (p :
   module _ (next : ℕ) (e : Epoch) (one : list_from (drop p.at file) ≡ (epoch e ∷ (list_from (drop next file)).0, (list_from (drop next file)).1)) where
     pub epoch_refused : (stop : Stop × After) → run e.slices (at p.state [] e.answers) ≡ Err stop → Replayed (Some reading) first now (Err (faults.BadEpoch p.number))
     epoch_refused stop ran =
-        refused (bad_epoch p.number) (left_plays next (epoch e) one (stopped (Err (bad_epoch p.number))) (epoch_stops p.state p.number e (left_at file next) reading.tail stop ran))
+        refused (bad_epoch p.number) (left_plays next (epoch e) one (stopped (Err (bad_epoch p.number))) (epoch_plays p.state p.number e (left_at file next) reading.tail (Err stop) ran))
 
     module _ (s : State) (output : List ℕ) (rest : List Answer) (ran : run e.slices (at p.state [] e.answers) ≡ Ok (at s output rest)) where
       plays_behind : play_of reading ≡ behind (so_far.output ++ output) (play_from s (p.number + 1) (left_at file next) reading.tail)
       plays_behind =
           plays_on (behind output (play_from s (p.number + 1) (left_at file next) reading.tail))
-          (left_plays next (epoch e) one (behind output (play_from s (p.number + 1) (left_at file next) reading.tail)) (epoch_step p.state p.number e (left_at file next) reading.tail (at s output rest) ran))
+          (left_plays next (epoch e) one (behind output (play_from s (p.number + 1) (left_at file next) reading.tail)) (epoch_plays p.state p.number e (left_at file next) reading.tail (Ok (at s output rest)) ran))
           ∙ behind_twice so_far.output output (play_from s (p.number + 1) (left_at file next) reading.tail)
 
       pub epoch_sent : (later : Option History) (count : ℕ) → count ≡ length output → IfKnown (Sent Out output true) now later
@@ -232,14 +227,14 @@ module _ (reading : Reading) (file : List ℕ) (first now : Option History) (p :
   module _ (next : ℕ) (c : Checkpoint) (one : list_from (drop p.at file) ≡ (mark c ∷ (list_from (drop next file)).0, (list_from (drop next file)).1)) where
     pub mark_refused : is_right c p.state ≡ false → Replayed (Some reading) first now (Err (faults.BadMark p.number))
     mark_refused wrong =
-        refused (bad_mark p.number) (left_plays next (mark c) one (stopped (Err (bad_mark p.number))) (mark_stops p.state p.number c (left_at file next) reading.tail wrong))
+        refused (bad_mark p.number) (left_plays next (mark c) one (stopped (Err (bad_mark p.number))) (mark_plays p.state p.number c (left_at file next) reading.tail false wrong))
 
     pub mark_taken : is_right c p.state ≡ true → SoFar reading file first now (record { state = p.state; at = next; number = p.number + 1; epochs = p.epochs; sent = p.sent })
     mark_taken right = record {
       accepted = so_far.accepted;
       output = so_far.output;
       plays = plays_on (play_from p.state (p.number + 1) (left_at file next) reading.tail)
-          (left_plays next (mark c) one (play_from p.state (p.number + 1) (left_at file next) reading.tail) (mark_step p.state p.number c (left_at file next) reading.tail right));
+          (left_plays next (mark c) one (play_from p.state (p.number + 1) (left_at file next) reading.tail) (mark_plays p.state p.number c (left_at file next) reading.tail true right));
       place = so_far.place;
       tail = tail_on next (mark c) one;
       epochs = omega (arith, so_far.epochs, ap (λ (l : List Record). length (epochs_of l)) (one_left next (mark c) one));
@@ -292,11 +287,6 @@ epoch_bounded file p s sent next e read is further within few counts reads write
 
 pub at_reading : (o : Option Reading) (reading : Reading) (before after : Option History) (answer : Result Report ReplayFault) → o ≡ Some reading → Replayed (Some reading) before after answer → Replayed o before after answer
 at_reading o reading before after answer is replayed = subst (λ (q : Option Reading). Replayed q before after answer) (sym is) replayed
-
--- less is left to play, or it was the last time
-pub smaller : (most before after : ℕ) (more : Bool) → before ≤ most → after ≤ most → before ≤ after → (IsTrue more → before < after) → most - after + cond more 1 0 < most - before + 1
-smaller most before after true below within kept grows = let grown = grows refl in omega (arith, below, within, grown)
-smaller most before after false below within kept grows = omega (arith, below, within, kept)
 
 -- ---- the start
 

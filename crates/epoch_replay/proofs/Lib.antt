@@ -1,4 +1,4 @@
-mod Going
+pub mod Going
 mod Finding
 mod Marks
 mod Epochs

@@ -5,7 +5,8 @@ use Rattle.dp_report.specs.declared.report.Report.{Report}
 use Rattle.journal_text.specs.Reading.{reads}
 use Rattle.epoch_replay.specs.declared.replay_fault.ReplayFault.TheVariants as faults
 use Rattle.epoch_replay.proofs.Epochs.{sent_as}
-use Rattle.epoch_replay.proofs.Going.{IsPlay, at_reading, begun, begun_bounded, no_line, not_told, smaller, told}
+use Rattle.epoch_journal.proofs.Chunks.{smaller}
+use Rattle.epoch_replay.proofs.Going.{IsPlay, at_reading, begun, begun_bounded, no_line, not_told, told}
 use Rattle.epoch_replay.proofs.replaying.play.Goals as goal
 
 pub records-init : goal.records-init
