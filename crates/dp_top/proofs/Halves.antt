@@ -11,6 +11,7 @@ use Rattle.disk_model.specs.Input.{Input}
 use Rattle.dp_report.specs.declared.report.Report.{Report}
 use Rattle.epoch_replay.specs.Play.{Play, Played, Refusal, bad_image, no_journal, behind, play_from, play_of, played, played_if, plays_to}
 use Rattle.epoch_replay.specs.Replaying.{Ends, Replayed, epochs_of, report_of as report_in}
+use Rattle.epoch_replay.proofs.Going.{made}
 use Rattle.guest_kernel.specs.declared.state.State.{State}
 use Rattle.guest_kernel.specs.Call.{After}
 use Rattle.guest_kernel.specs.Slices.{Stop, at, chain, either, onto, run}
@@ -24,9 +25,6 @@ use Rattle.supply.specs.Supplied.{empty}
 use Rattle.supply.specs.declared.TheConstants.{MAX_ROOM}
 
 -- ---- a chain of epochs plays as it runs
-
-abbrev made : Result State Refusal → List ℕ → Played
-made stop output = record { output = output; stop = stop }
 
 abbrev ended_as : Result (State × List ℕ) ℕ → Played → Type 0
 ended_as (Ok last) p = p ≡ made (Ok last.0) last.1
