@@ -5,6 +5,7 @@ use Rattle.std.proofs.lemmas.Bool.{and_parts, leb-true, le-leb, lt-leb, and_from
 use Rattle.std.proofs.lemmas.List.{append-nil, length_push}
 use Rattle.std.proofs.lemmas.List.Elements.{All-cons}
 use Rattle.std.proofs.lemmas.Option.{same_Some}
+use Rattle.std.proofs.Math.Bool.{and-false, and_assoc}
 use Rattle.std.proofs.Math.Numerals.{add-one}
 use Rattle.dp_base.specs.declared.limits.TheConstants.{PAGE_BYTES}
 use Rattle.dp_base.specs.declared.page.Page.{Page}
@@ -26,17 +27,9 @@ abbrev pub next_least : ℕ → List Page → ℕ
 next_least least [] = least
 next_least least (p ∷ pages) = next_least (p.number + 1) pages
 
-and_false : (a : Bool) → a && false ≡ false
-and_false true = refl
-and_false false = refl
-
-and_assoc : (a b c : Bool) → a && (b && c) ≡ (a && b) && c
-and_assoc true b c = refl
-and_assoc false b c = refl
-
 rising_join : (least : ℕ) (xs ys : List Page) → rising_from least (xs ++ ys) ≡ rising_from least xs && rising_from (next_least least xs) ys
 rising_join least [] ys = refl
-rising_join least (x ∷ xs) ys = ap (λ (b : Bool). leb least x.number && b) (rising_join (x.number + 1) xs ys) ∙ and_assoc (leb least x.number) (rising_from (x.number + 1) xs) (rising_from (next_least (x.number + 1) xs) ys)
+rising_join least (x ∷ xs) ys = ap (λ (b : Bool). leb least x.number && b) (rising_join (x.number + 1) xs ys) ∙ sym (and_assoc (leb least x.number) (rising_from (x.number + 1) xs) (rising_from (next_least (x.number + 1) xs) ys))
 
 least_rises : (least : ℕ) (xs : List Page) → rising_from least xs ≡ true → least ≤ next_least least xs
 least_rises least [] rise = omega arith
@@ -116,7 +109,7 @@ page_low i n bytes pages least rest p next so_far more is low =
     no_rise : (more_ : List Page) → rising (pages ++ p ∷ more_) ≡ false
     no_rise more_ =
         let last : leb (next_least 0 pages) p.number ≡ false = lt-leb _ _ (omega (arith, low, so_far.least_is)) in
-        rising_join 0 pages (p ∷ more_) ∙ ap (λ (b : Bool). rising pages && (b && rising_from (p.number + 1) more_)) last ∙ and_false (rising pages)
+        rising_join 0 pages (p ∷ more_) ∙ ap (λ (b : Bool). rising pages && (b && rising_from (p.number + 1) more_)) last ∙ and-false (rising pages)
 
     none_left : (r : Option (List Page × List ℕ)) → (((r >>= λ others. Some (p ∷ others.0, others.1)) >>= behind pages) >>= if_rising) ≡ None
     none_left None = refl
