@@ -26,7 +26,13 @@ fn stops(rt: &HostRuntime, number: u64) -> Result<Stopped, Fail> {
         sink: Failing::Never,
         piece: 4096,
     };
-    recording(rt, &["dpcli", "record", "g", "j"], &WRITES_WORDS, &[], faults)
+    recording(
+        rt,
+        &["dpcli", "record", "g", "j"],
+        &WRITES_WORDS,
+        &[],
+        faults,
+    )
 }
 
 fn gate_of(image: &[u8]) -> (usize, u8) {

@@ -9,7 +9,8 @@ use Rattle.disk_model.specs.declared.world.Stream.{Stream}
 use Rattle.disk_model.specs.declared.world.Stream.TheVariants.{Out, Note}
 use Rattle.disk_model.specs.History.{History, IsImage, Pending}
 use Rattle.disk_model.proofs.Moments.{always-then, always-weaker}
-use Rattle.device.specs.Sending.{IsOutSent, IsSending, IsSent, Sent, joined, other, stream_of}
+use Rattle.disk_model.specs.Steps.{stream_of}
+use Rattle.device.specs.Sending.{IsOutSent, IsSending, IsSent, Sent, joined, other}
 use Rattle.device.proofs.Sends.{none_sent}
 
 -- a prefix of a text, with the number of its bytes

@@ -9,7 +9,8 @@ use Rattle.disk_model.specs.History.{History, IsImage, Pending, now}
 use Rattle.disk_model.specs.Moments.{Always, Then}
 use Rattle.disk_model.specs.Steps.{Emitted, emitted}
 use Rattle.disk_model.proofs.Moments.{always-one, always-start, always-then, got-nothing}
-use Rattle.device.specs.Sending.{IsOutSent, IsSending, IsSent, Sent, stream_of}
+use Rattle.disk_model.specs.Steps.{stream_of}
+use Rattle.device.specs.Sending.{IsOutSent, IsSending, IsSent, Sent}
 
 -- before the first part
 out-unsent : (to : Stream) (bytes before sent : List ℕ) → sent ≡ before → IsOutSent to bytes before sent

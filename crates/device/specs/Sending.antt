@@ -6,11 +6,7 @@ use Rattle.disk_model.specs.declared.world.Stream.{Stream}
 use Rattle.disk_model.specs.declared.world.Stream.TheVariants.{Out, Note}
 use Rattle.disk_model.specs.History.{History, IsImage}
 use Rattle.disk_model.specs.Moments.{Always}
-
--- what a stream has got
-abbrev pub stream_of : Stream → History → List ℕ
-stream_of Out h = h.sent
-stream_of Note h = h.noted
+use Rattle.disk_model.specs.Steps.{stream_of}
 
 abbrev pub other : Stream → Stream
 other Out = Note

@@ -2,7 +2,6 @@
 ghost use Rattle.std.specs.Prelude.{◌≤◌};
 
 use disk_mem::MemWorld;
-use dp_base::OutOfMemory;
 use epoch_journal::{AppendFault, BeginFault, Journal, read_whole};
 use journal_text::Frame;
 use std::alloc::Global;

@@ -7,7 +7,6 @@ use disk_model::Stream;
 use dp_report::Report;
 use guest_kernel::{End, start_from_file};
 use recorder::{Options, RecordFault, record_};
-use std::alloc::Global;
 use std::test::Fail;
 use test_files::{EXITS, WRITES};
 use test_worlds::{Failing, letters_of, world_of};

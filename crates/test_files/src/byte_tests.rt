@@ -28,7 +28,10 @@ fn bytes_replaced(rt: HostRuntime) -> Result<(), Fail> {
         (0, usize::MAX, b"", b""),
     ];
     for (at, count, by, wanted) in cases {
-        assert!(rt; is_replaced(rt.alloc(), at, count, by, wanted)?, "{count} at {at}");
+        assert!(rt;
+            is_replaced(rt.alloc(), at, count, by, wanted)?,
+            "{count} at {at}"
+        );
     }
     Ok(())
 }
@@ -37,7 +40,15 @@ fn bytes_replaced(rt: HostRuntime) -> Result<(), Fail> {
 fn bytes_repeated(rt: HostRuntime) -> Result<(), Fail> {
     let bytes = repeated(rt.alloc(), 504)?;
     assert_eq!(rt; bytes.len(), 504);
-    let cases = [(0, 0), (1, 1), (250, 250), (251, 0), (501, 250), (502, 0), (503, 1)];
+    let cases = [
+        (0, 0),
+        (1, 1),
+        (250, 250),
+        (251, 0),
+        (501, 250),
+        (502, 0),
+        (503, 1),
+    ];
     for (place, byte) in cases {
         assert_eq!(rt; bytes.get(place).copied(), Some(byte), "at {place}");
     }

@@ -6,7 +6,8 @@ mod repeating;
 mod replacing;
 
 pub use guest::{
-    EXITS, EXITS_WORDS, HEADERS_END, HEADERS_START, MOST_WORDS, WITH_ATTRIBUTES, WRITES, WRITES_WORDS, file_of,
+    EXITS, EXITS_WORDS, HEADERS_END, HEADERS_START, MOST_WORDS, WITH_ATTRIBUTES, WRITES,
+    WRITES_WORDS, file_of,
 };
 pub use repeating::{PERIOD, repeated};
 pub use replacing::replaced;

@@ -2,12 +2,12 @@
 #![tactic(auto)]
 
 mod epoch;
-mod journal;
 mod gate;
+mod journal;
 
 pub use epoch::{THREE_STEPS, frame_of_three_steps};
-pub use journal::{journal_of, records_of};
 pub use gate::{Kind, seen};
+pub use journal::{journal_of, records_of};
 
 #[cfg(test)]
 mod tests;

@@ -5,7 +5,6 @@ use disk_mem::MemWorld;
 use disk_model::Stream;
 use dp_report::Status;
 use dp_top::run;
-use std::alloc::Global;
 use std::test::Fail;
 use test_files::file_of;
 use test_worlds::{Failing, disk_of, file_named, inlet_of, texts_of};

@@ -5,7 +5,6 @@ use crate::run_tests::{RECORD, ran};
 use disk_mem::MemWorld;
 use disk_model::Stream;
 use dp_report::Status;
-use std::alloc::{AllocError, Global};
 use std::test::Fail;
 use test_files::{EXITS, repeated, replaced};
 use test_journals::journal_of;
