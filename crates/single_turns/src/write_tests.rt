@@ -1,5 +1,5 @@
 // Writes, each worked out by hand.
-ghost use Rattle.std.specs.Prelude.{◌≡◌, ◌<◌, ◌^◌, IfOk};
+ghost use Rattle.std.specs.Prelude.{◌≡◌, IfOk};
 
 use crate::mapping::map;
 use crate::one_turn::turn_behind;
