@@ -20,7 +20,7 @@ use Rattle.recorder.specs.declared.record_fault.RecordFault.{RecordFault}
 use Rattle.recorder.specs.declared.record_fault.RecordFault.TheVariants as faults
 use Rattle.recorder.specs.Moments.{EachMoment}
 use Rattle.recorder.specs.Recording.{IsInUse, MayFollow, Recorded}
-use Rattle.recorder.proofs.Drawings.{has_drawn, input-same, none_drawn}
+use Rattle.recorder.proofs.Drawings.{has_drawn, none_drawn}
 use Rattle.recorder.proofs.Moments.{nothing_left, nothing_synced}
 use Rattle.recorder.proofs.RunLists.{no_round}
 use Rattle.recorder.specs.Drawing.{HasDrawn}
@@ -50,7 +50,7 @@ pub not_attached : (guest : List ℕ) (start : State) (options : Options) (i j :
 not_attached guest start options i j before after first kept same = (
   no_round options start (omega (arith, first)),
   inl refl,
-  inl (input-same (HasDrawn [] []) i j kept (λ s. has_drawn (empty MAX_ROOM) 0 [] [] s s (none_drawn s))),
+  inl (known-same (HasDrawn [] []) i j kept (λ s. has_drawn (empty MAX_ROOM) 0 [] [] s s (none_drawn s))),
   known-same _ _ _ same (λ s. record { sent = sym (append-nil s.sent); noted = refl; on_disk = inl (refl, nothing_synced s); untouched = inr refl; left = λ empty_ synced. nothing_left guest (MayFollow (no_round options start (omega (arith, first)))) s empty_ synced }),
 )
 

@@ -6,11 +6,11 @@ use Rattle.disk_model.specs.Input.{Input}
 use Rattle.supply.specs.Supplied.{empty}
 use Rattle.supply.specs.declared.TheConstants.{MAX_ROOM}
 use Rattle.recorder.specs.Drawing.{HasDrawn, IsHonestSince}
-use Rattle.recorder.proofs.Drawings.{IsDrawn, has_drawn, input-same, none_drawn}
+use Rattle.recorder.proofs.Drawings.{IsDrawn, has_drawn, none_drawn}
 use Rattle.disk_model.specs.History.{History, IsSynced}
 use Rattle.disk_model.specs.Moments.{Always}
 use Rattle.disk_model.specs.Known.{IfKnown}
-use Rattle.disk_model.proofs.Knowing.{known-map}
+use Rattle.disk_model.proofs.Knowing.{known-map, known-same}
 use Rattle.guest_kernel.specs.declared.state.State.{State}
 use Rattle.guest_kernel.specs.Slices.{chain}
 use Rattle.recorder.specs.declared.options.Options.{Options}
@@ -46,7 +46,7 @@ module _ (guest : List ℕ) (guest_is : IsGuest guest) (options : Options) (star
           inside = omega (arith, input);
           little_input = omega (arith, input);
           are_answers = tt;
-          drawn = input-same (IsDrawn (empty MAX_ROOM) start.input [] []) i i refl (λ s. subst (λ (n : ℕ). IsDrawn (empty MAX_ROOM) n [] [] s s) (sym input) (none_drawn s));
+          drawn = known-same (IsDrawn (empty MAX_ROOM) start.input [] []) i i refl (λ s. subst (λ (n : ℕ). IsDrawn (empty MAX_ROOM) n [] [] s s) (sym input) (none_drawn s));
           history = known-map _ _ _ _ (λ s t b. record { empty = b.0; stands = b.1; sent = b.2.sent ∙ sym (append-nil s.sent); noted = b.2.noted }) begun;
           moments = known-map _ _ _ _ (λ s t b empty synced. begins_partly guest start (no_epochs start) s t (b.3 guest_is synced empty)) begun;
           place_is = end_is ∙ sym size;
@@ -67,7 +67,7 @@ module _ (guest : List ℕ) (guest_is : IsGuest guest) (options : Options) (star
   begin_failed now begins.DiskFault few numbers begun = (
     no_round options start few,
     inl refl,
-    inl (input-same (HasDrawn [] []) i i refl (λ s. has_drawn (empty MAX_ROOM) 0 [] [] s s (none_drawn s))),
+    inl (known-same (HasDrawn [] []) i i refl (λ s. has_drawn (empty MAX_ROOM) 0 [] [] s s (none_drawn s))),
     known-map _ _ _ _ (λ s t b. record { sent = b.0.sent ∙ sym (append-nil s.sent); noted = b.0.noted; on_disk = inl (refl, λ empty_ synced. b.3 guest_is synced empty_); untouched = b.1; left = λ empty_ synced. begin_left guest start (MayFollow (no_round options start few)) s t (b.2 guest_is synced empty_) }) begun,
   )
   begin_failed now (begins.Full end need) few numbers begun = inl (numbers.0, numbers.1, numbers.2, refl, begun)
@@ -79,7 +79,7 @@ module _ (guest : List ℕ) (guest_is : IsGuest guest) (options : Options) (star
   pub begin_failed_moments : (now : Option History) (fault : BeginFault) → IfKnown (Begun guest (Err fault)) first now → EachMoment guest start i i first now
   begin_failed_moments now (begins.InUse len) begun = known-map _ _ _ _ (λ s t b. nothing_written s t b.1) begun
   begin_failed_moments now begins.DiskFault begun =
-      each_moment guest start [] i i (input-same (IsHonestSince []) i i refl (λ s. (has_drawn (empty MAX_ROOM) 0 [] [] s s (none_drawn s)).1)) first now
+      each_moment guest start [] i i (known-same (IsHonestSince []) i i refl (λ s. (has_drawn (empty MAX_ROOM) 0 [] [] s s (none_drawn s)).1)) first now
       (known-map _ _ _ _ (λ s t b empty_ synced. begins_partly guest start (no_epochs start) s t (b.2 guest_is synced empty_)) begun)
   begin_failed_moments now (begins.Full end need) begun = known-map _ _ _ _ (λ s t b. nothing_written s t b.1) begun
   begin_failed_moments now begins.OutOfMemory begun = known-map _ _ _ _ (λ s t b. nothing_written s t b.1) begun

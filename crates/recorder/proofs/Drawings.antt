@@ -8,6 +8,7 @@ use Rattle.std.proofs.lemmas.List.{append-nil, drop-append-le, drop-drop, drop_a
 use Rattle.dp_base.specs.declared.answer.Answer.{Answer}
 use Rattle.dp_base.specs.declared.answer.Answer.TheVariants.{Read}
 use Rattle.disk_model.specs.Input.{IfInput, Input, IsLast, IsNoted, ReadClock, Took, is_at_end, left_after, taken, took}
+use Rattle.disk_model.proofs.Knowing.{known-map, known-then}
 use Rattle.epoch_runner.specs.Supplying.{IsSuppliedBy}
 use Rattle.epoch_runner.proofs.AnswerLists.{clocks_append, read_append}
 use Rattle.guest_kernel.specs.Answers.{bytes_read, clock_readings}
@@ -15,22 +16,6 @@ use Rattle.supply.specs.Supplied.{IsLastOf, Supplied, empty, refilled}
 use Rattle.supply.specs.Windows.{behind_takes, bytes_left, windows}
 use Rattle.supply.specs.declared.TheConstants.{MAX_ROOM}
 use Rattle.recorder.specs.Drawing.{AreFound, Draw, Drew, DrewAll, HasDrawn, TookIf, readings_since, supply_of}
-
--- ---- inputs that may be known or not
-
-pub input-map : (P Q : Input → Input → Type 0) (before after : Option Input) → ((s t : Input) → P s t → Q s t) → IfInput P before after → IfInput Q before after
-input-map P Q None after f known = known
-input-map P Q (Some s) after f known = (known.0, known.1, f s known.0 known.2)
-
-pub input-then : (P Q R : Input → Input → Type 0) (before there after : Option Input) → ((s t u : Input) → P s t → Q t u → R s u) → IfInput P before there → IfInput Q there after → IfInput R before after
-input-then P Q R None there after f first second = tt
-input-then P Q R (Some s) there after f first second =
-    let later : IfInput Q (Some first.0) after = subst (λ (o : Option Input). IfInput Q o after) first.1 second in
-    (later.0, later.1, f s first.0 later.0 first.2 later.2)
-
-pub input-same : (P : Input → Input → Type 0) (before after : Option Input) → after ≡ before → ((s : Input) → P s s) → IfInput P before after
-input-same P None after same holds = tt
-input-same P (Some s) after same holds = (s, same, holds s)
 
 -- ---- readings
 
@@ -340,11 +325,11 @@ has_drawn w place draws answers i j is = (
 pub drew_due : (bytes : List ℕ) (reading : ℕ) (i mid j : Option Input) → IfInput (Took MAX_ROOM bytes) i mid → IfInput (ReadClock reading) mid j
     → IfInput (Drew (record { due = true; taken = bytes; reading = reading })) i j
 drew_due bytes reading i mid j first second =
-    input-then (Took MAX_ROOM bytes) (ReadClock reading) (Drew (record { due = true; taken = bytes; reading = reading })) i mid j (λ s t u a b. (t, a, b)) first second
+    known-then (Took MAX_ROOM bytes) (ReadClock reading) (Drew (record { due = true; taken = bytes; reading = reading })) i mid j (λ s t u a b. (t, a, b)) first second
 
 -- and where it wasn't
 pub drew_none : (reading : ℕ) (i j : Option Input) → IfInput (ReadClock reading) i j → IfInput (Drew (record { due = false; taken = []; reading = reading })) i j
-drew_none reading i j read = input-map (ReadClock reading) (Drew (record { due = false; taken = []; reading = reading })) i j (λ s t a. (s, refl, a)) read
+drew_none reading i j read = known-map (ReadClock reading) (Drew (record { due = false; taken = []; reading = reading })) i j (λ s t a. (s, refl, a)) read
 
 -- ---- the laws of one take, from those of many
 

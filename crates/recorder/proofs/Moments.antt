@@ -30,7 +30,6 @@ use Rattle.recorder.specs.Drawing.{AreFound, IsHonestSince, Round, answers_of, e
 use Rattle.recorder.specs.Moments.{EachMoment, HoldsAt, IsRecording, answers_in}
 use Rattle.recorder.specs.Recording.{EachIsNext, IsLeft, first_behind, records_of}
 use Rattle.epoch_runner.proofs.AnswerLists.{clocks_append, read_append}
-use Rattle.recorder.proofs.Drawings.{input-map}
 
 -- ---- answers
 
@@ -186,7 +185,7 @@ module _ (guest : List ℕ) (start : State) where
       end = f.end;
       output = f.output;
       chained = f.chained;
-      honest = input-map (IsHonestSince (answers_in epochs)) (IsHonestSince (answers_in f.front)) i j
+      honest = known-map (IsHonestSince (answers_in epochs)) (IsHonestSince (answers_in f.front)) i j
           (λ a b h. honest-left (answers_in f.front) (answers_in f.rest) a b (subst (λ (l : List Answer). IsHonestSince l a b) (ap answers_in f.all ∙ answers_in-append f.front f.rest) h))
           honest;
       sent = f.sent;

@@ -12,7 +12,7 @@ use Rattle.disk_model.specs.Input.{IfInput, Input, IsLast}
 use Rattle.supply.specs.Supplied.{Supplied, empty, end_of}
 use Rattle.supply.specs.declared.TheConstants.{MAX_ROOM}
 use Rattle.recorder.specs.Drawing.{Draw, Drew, HasDrawn, IsHonestSince, Round, answers_of, draws_of, epochs_of, readings_since, supply_behind, supply_of}
-use Rattle.recorder.proofs.Drawings.{IsDrawn, TakeLaws, drawn_more, has_drawn, input-map, input-then, taken_more}
+use Rattle.recorder.proofs.Drawings.{IsDrawn, TakeLaws, drawn_more, has_drawn, taken_more}
 use Rattle.disk_model.specs.History.{History}
 use Rattle.disk_model.specs.Moments.{Always}
 use Rattle.disk_model.specs.Known.{IfKnown}
@@ -63,7 +63,7 @@ module _ (guest : List ℕ) (guest_is : IsGuest guest) (options : Options) (star
     fits_still = omega (arith, so_far.fits, so_far.place_is, so_far.room_is)
 
     drawn_still : IfInput (HasDrawn (draws_of so_far.done) (answers_of so_far.done)) i there
-    drawn_still = input-map (IsDrawn w state.input (draws_of so_far.done) (answers_of so_far.done)) (HasDrawn (draws_of so_far.done) (answers_of so_far.done)) i there
+    drawn_still = known-map (IsDrawn w state.input (draws_of so_far.done) (answers_of so_far.done)) (HasDrawn (draws_of so_far.done) (answers_of so_far.done)) i there
         (λ s t is. has_drawn w state.input (draws_of so_far.done) (answers_of so_far.done) s t is)
         so_far.drawn
 
@@ -71,7 +71,7 @@ module _ (guest : List ℕ) (guest_is : IsGuest guest) (options : Options) (star
     no_more = inl drawn_still
 
     honest_of : (later : Option Input) (draws : List Draw) → IfInput (HasDrawn draws (answers_of so_far.done)) i later → IfInput (IsHonestSince (answers_in (epochs_of so_far.done))) i later
-    honest_of later draws drawn = input-map (HasDrawn draws (answers_of so_far.done)) (IsHonestSince (answers_in (epochs_of so_far.done))) i later
+    honest_of later draws drawn = known-map (HasDrawn draws (answers_of so_far.done)) (IsHonestSince (answers_in (epochs_of so_far.done))) i later
         (λ s t h. subst (λ (l : List Answer). IsHonestSince l s t) (answers_are so_far.done) h.1)
         drawn
 
@@ -190,13 +190,13 @@ module _ (guest : List ℕ) (guest_is : IsGuest guest) (options : Options) (star
           (still_placed w state.input round.draw.due round.draw.taken round.draw.reading so_far.placed so_far.inside (λ e. (round.used e).0))
 
       with_round : IfInput (λ (s t : Input). IsDrawn (supply_of w round.draw) state.input (draws_of so_far.done ++ round.draw ∷ []) (answers_of so_far.done) s t × IsLast round.draw.reading (readings_since s t)) i later
-      with_round = input-then (IsDrawn w state.input (draws_of so_far.done) (answers_of so_far.done)) (Drew round.draw)
+      with_round = known-then (IsDrawn w state.input (draws_of so_far.done) (answers_of so_far.done)) (Drew round.draw)
           (λ (s t : Input). IsDrawn (supply_of w round.draw) state.input (draws_of so_far.done ++ round.draw ∷ []) (answers_of so_far.done) s t × IsLast round.draw.reading (readings_since s t)) i there later
           (λ s t u a b. drawn_more laws w state.input (draws_of so_far.done) (answers_of so_far.done) round.draw s t u a (λ e. (round.used e).1) b)
           so_far.drawn round.drew
 
       drawn_round : IfInput (HasDrawn (draws_of so_far.done ++ round.draw ∷ []) (answers_of so_far.done)) i later
-      drawn_round = input-map (λ (s t : Input). IsDrawn (supply_of w round.draw) state.input (draws_of so_far.done ++ round.draw ∷ []) (answers_of so_far.done) s t × IsLast round.draw.reading (readings_since s t))
+      drawn_round = known-map (λ (s t : Input). IsDrawn (supply_of w round.draw) state.input (draws_of so_far.done ++ round.draw ∷ []) (answers_of so_far.done) s t × IsLast round.draw.reading (readings_since s t))
           (HasDrawn (draws_of so_far.done ++ round.draw ∷ []) (answers_of so_far.done)) i later
           (λ s t a. has_drawn (supply_of w round.draw) state.input (draws_of so_far.done ++ round.draw ∷ []) (answers_of so_far.done) s t a.0)
           with_round
@@ -237,7 +237,7 @@ module _ (guest : List ℕ) (guest_is : IsGuest guest) (options : Options) (star
         size_more = ap (λ (l : List Record). length (journal_of guest l)) (records-push (epochs_of so_far.done) e) ∙ length-journal-push guest (records_of (epochs_of so_far.done)) (epoch e)
 
         drawn_epoch : IfInput (IsDrawn with_ end.input (draws_of so_far.done ++ round.draw ∷ []) (answers_of so_far.done ++ e.answers)) i later
-        drawn_epoch = input-map (λ (s t : Input). IsDrawn (supply_of w round.draw) state.input (draws_of so_far.done ++ round.draw ∷ []) (answers_of so_far.done) s t × IsLast round.draw.reading (readings_since s t))
+        drawn_epoch = known-map (λ (s t : Input). IsDrawn (supply_of w round.draw) state.input (draws_of so_far.done ++ round.draw ∷ []) (answers_of so_far.done) s t × IsLast round.draw.reading (readings_since s t))
             (IsDrawn with_ end.input (draws_of so_far.done ++ round.draw ∷ []) (answers_of so_far.done ++ e.answers)) i later
             (λ s t a.
             let drawn = subst (λ (x : Supplied). IsDrawn x state.input (draws_of so_far.done ++ round.draw ∷ []) (answers_of so_far.done) s t) (sym round.is) a.0 in
@@ -246,7 +246,7 @@ module _ (guest : List ℕ) (guest_is : IsGuest guest) (options : Options) (star
             with_round
 
         honest_epoch : IfInput (HasDrawn (draws_of so_far.done ++ round.draw ∷ []) (answers_of so_far.done ++ e.answers)) i later
-        honest_epoch = input-map (IsDrawn with_ end.input (draws_of so_far.done ++ round.draw ∷ []) (answers_of so_far.done ++ e.answers))
+        honest_epoch = known-map (IsDrawn with_ end.input (draws_of so_far.done ++ round.draw ∷ []) (answers_of so_far.done ++ e.answers))
             (HasDrawn (draws_of so_far.done ++ round.draw ∷ []) (answers_of so_far.done ++ e.answers)) i later
             (λ s t a. has_drawn with_ end.input (draws_of so_far.done ++ round.draw ∷ []) (answers_of so_far.done ++ e.answers) s t a)
             drawn_epoch
@@ -272,7 +272,7 @@ module _ (guest : List ℕ) (guest_is : IsGuest guest) (options : Options) (star
               (known-both _ _ _ _ so_far.history so_far.moments) known
 
           honest_there : IfInput (IsHonestSince (answers_in (E ++ e ∷ []))) i later
-          honest_there = input-map (HasDrawn (draws_of so_far.done ++ round.draw ∷ []) (answers_of so_far.done ++ e.answers)) (IsHonestSince (answers_in (E ++ e ∷ []))) i later
+          honest_there = known-map (HasDrawn (draws_of so_far.done ++ round.draw ∷ []) (answers_of so_far.done ++ e.answers)) (IsHonestSince (answers_in (E ++ e ∷ []))) i later
               (λ s t h. subst (λ (l : List Answer). IsHonestSince l s t)
               (sym (answers-push so_far.done round_is) ∙ answers_are (so_far.done ++ round_is ∷ []) ∙ ap answers_in (epochs-push so_far.done round_is)) h.1)
               honest_epoch
