@@ -7,6 +7,7 @@ use Rattle.std.proofs.lemmas.List.{length-map, length-set}
 use Rattle.std.proofs.lemmas.List.Elements.{All-cons, All-head, All-nil, All-tail}
 use Rattle.std.proofs.lemmas.List.Sums.{sum_by-cons}
 use Rattle.std.proofs.lemmas.Option.{same_Some}
+use Rattle.dp_base.proofs.Lists.{all_set}
 use Rattle.dp_base.specs.declared.limits.TheConstants.{MAX_LIVE_THREADS, MAX_PAGES, MAX_THREADS, PAGE_NUMBERS}
 use Rattle.dp_base.specs.declared.page.Page.{Page}
 use Rattle.dp_base.specs.Field.{AreBytes}
@@ -19,11 +20,6 @@ use Rattle.rv_step.specs.Words.{HasBytes, HasSameShape, shape_of}
 use Rattle.checkpoint.specs.State.{IsEncodable, checkpoint_of}
 
 -- ---- lists with one item changed
-
-pub all_set : {X : Type 0} (P : X → Type 0) (xs : List X) (i : ℕ) (y : X) → AllByRecursion P xs → P y → AllByRecursion P (slice_set xs i y)
-all_set P [] i y all here = tt
-all_set P (x ∷ xs) zero y all here = (here, all.1)
-all_set P (x ∷ xs) (suc i) y all here = (all.0, all_set P xs i y all.1 here)
 
 pub all_at : {X : Type 0} (P : X → Type 0) (xs : List X) (i : ℕ) (x : X) → AllByRecursion P xs → slice_get xs i ≡ Some x → P x
 all_at P [] i x all is = absurd cc

@@ -15,10 +15,11 @@ use Rattle.rv_step.specs.Words.{HasWords}
 use Rattle.checkpoint.specs.State.{IsEncodable, checkpoint_of}
 use Rattle.checkpoint.proofs.Keeping.{bounded}
 use Rattle.checkpoint.proofs.PageLists.{contents, pages_rise}
-use Rattle.checkpoint.proofs.HartWords.{to_free, with_word, zero_hart_is}
+use Rattle.checkpoint.proofs.HartWords.{to_free, zero_hart_is}
+use Rattle.rv_step.proofs.Kept.{with_register_is}
 
 start_hart_is : (entry : ℕ) → IsWord entry → HasWords (start_hart entry)
-start_hart_is entry fits = with_word (record { pc = entry; x = replicate 31 0; held = None }) 2 STACK_POINTER (zero_hart_is entry fits) (omega arith)
+start_hart_is entry fits = with_register_is (record { pc = entry; x = replicate 31 0; held = None }) 2 STACK_POINTER (zero_hart_is entry fits) (omega arith)
 
 entry_is : (file : List ℕ) → AreBytes file → IsWord (e_entry file)
 unfolding field

@@ -25,7 +25,7 @@ use Rattle.guest_kernel.specs.declared.state.State.{State}
 use Rattle.guest_kernel.specs.Break.{may_move_break, page_from, with_break}
 use Rattle.guest_kernel.specs.Call.{Written, answered, begins_to_wait, bytes_written, called, cleared, end_of_exit, end_of_waiting, exits, exits_all, is_cleared, may_spawn, sets_break, silent, spawned_hart, spawns, waits, waits_by, wakes, written, written_by, EAGAIN, EINVAL, ENOSYS, called_alone, has_clock, has_read}
 use Rattle.turn_peek.specs.Arguments.{a0, a1, a2, a3, minus, moved, EFAULT}
-use Rattle.guest_kernel.proofs.Lists.{all_append, get_set, set_set}
+use Rattle.dp_base.proofs.Lists.{all_append, all_set, get_set, set_set}
 use Rattle.guest_kernel.proofs.Places.{place_of}
 use Rattle.guest_kernel.proofs.Turns.{called_alone_by_row, called_by_row}
 use Rattle.guest_kernel.specs.State.{counted, dropping, with_thread, without_reservation}
@@ -35,10 +35,11 @@ use Rattle.rv_step.specs.Effect.{Effect, goes, calls, traps, unreserved}
 use Rattle.rv_step.specs.Step.{effect}
 use Rattle.rv_step.specs.Words.{HasBytes, HasWords}
 use Rattle.checkpoint.specs.State.{IsEncodable, checkpoint_of}
-use Rattle.checkpoint.proofs.Keeping.{PagesFit, RestFits, all_at, all_set, bytes_of, live_set, pages_alike, pages_fit}
+use Rattle.checkpoint.proofs.Keeping.{PagesFit, RestFits, all_at, bytes_of, live_set, pages_alike, pages_fit}
 use Rattle.checkpoint.proofs.Lists.{each_woken, set_append, set_woken}
 use Rattle.checkpoint.proofs.PageLists.{contents, pages_rise, risen_pages}
-use Rattle.checkpoint.proofs.HartWords.{awake_is, next_is, of_free, register_is_word, spawned_is, to_free, with_word}
+use Rattle.checkpoint.proofs.HartWords.{awake_is, of_free, spawned_is, to_free}
+use Rattle.rv_step.proofs.Kept.{next_is, register_is, with_register_is}
 use Rattle.checkpoint.proofs.TurnLaws.{Fits, IsGood, Keeps, TurnLaws, effect_is_good, nonzero}
 use Rattle.rv_step.proofs.Memories.{put_bytes_bytes, put_bytes_shape}
 
@@ -133,7 +134,7 @@ module _ (laws : TurnLaws) (s : State) (tid : Tid) (hart : Hart) (clear : ℕ) (
       (record { heap = heap; brk = brk; end = end; traps = ap (λ n. traps_within n left.end) size ∙ trap; pages = pages })
 
   answer_is : (value : ℕ) → IsWord value → Fits s (counted (answered s tid hart clear value)) tid
-  answer_is value fits = went (counted (answered s tid hart clear value)) (next (with_register hart 10 value)) refl (next_is (with_register hart 10 value) (with_word hart 10 value hart_is fits)) refl heap_is end_is within_is pages_are
+  answer_is value fits = went (counted (answered s tid hart clear value)) (next (with_register hart 10 value)) refl (next_is (with_register hart 10 value) (with_register_is hart 10 value hart_is fits)) refl heap_is end_is within_is pages_are
 
   bytes_word : (count : ℕ) (bytes : Option (List ℕ)) → count ≤ MAX_CALL_BYTES → IsWord (bytes_written count bytes).answer
   bytes_word count None few = omega arith
@@ -162,7 +163,7 @@ module _ (laws : TurnLaws) (s : State) (tid : Tid) (hart : Hart) (clear : ℕ) (
   exit_traps n code threads = cond_both (list_any is_alive threads) _ _ (λ (e : End). traps_within n e ≡ true) (λ _. waiting_traps n threads) (λ _. refl)
 
   code_is : IsWord (a0 hart)
-  code_is = register_is_word hart 10 hart_is
+  code_is = register_is hart 10 hart_is
 
   gone : State
   gone = with_thread s tid (Gone (a0 hart))
@@ -230,7 +231,7 @@ module _ (laws : TurnLaws) (s : State) (tid : Tid) (hart : Hart) (clear : ℕ) (
       omega (arith, size, few)
 
   answered_hart : (value : ℕ) → IsWord value → HasWords (next (with_register hart 10 value))
-  answered_hart value fits = next_is (with_register hart 10 value) (with_word hart 10 value hart_is fits)
+  answered_hart value fits = next_is (with_register hart 10 value) (with_register_is hart 10 value hart_is fits)
 
   spawned_fits : Fits s (counted (answered (record s { threads = s.threads ++ Runs (spawned_hart (a0 hart) (a1 hart) (a2 hart)) (a3 hart) ∷ [] }) tid hart clear (length s.threads + 1))) tid
   spawned_fits =
@@ -245,7 +246,7 @@ module _ (laws : TurnLaws) (s : State) (tid : Tid) (hart : Hart) (clear : ℕ) (
       fits_by left (slice_set threads (tid.0 - 1) t) (dropped_running left threads h clear refl (omega (arith, size, inside)))
       (subst (AllByRecursion IsThread) (sym (set_append s.threads (new ∷ []) (tid.0 - 1) t inside))
       (all_append IsThread (slice_set s.threads (tid.0 - 1) t) (new ∷ []) (each_set t (to_free h words, old_is.1))
-      ((spawned_is (a0 hart) (a1 hart) (a2 hart) (register_is_word hart 10 hart_is) (register_is_word hart 11 hart_is) (register_is_word hart 12 hart_is), register_is_word hart 13 hart_is), tt)))
+      ((spawned_is (a0 hart) (a1 hart) (a2 hart) (register_is hart 10 hart_is) (register_is hart 11 hart_is) (register_is hart 12 hart_is), register_is hart 13 hart_is), tt)))
       (omega (arith, all, size))
       (record { heap = refl; brk = heap_is; end = end_is; traps = traps_more (length s.threads) (length (slice_set threads (tid.0 - 1) t)) s.end (omega (arith, all, size)) within_is; pages = pages_are })
 
@@ -271,7 +272,7 @@ module _ (laws : TurnLaws) (s : State) (tid : Tid) (hart : Hart) (clear : ℕ) (
 
   waits_is : Keeps s tid (silent (waits s tid hart clear) log)
   waits_is = cond_both (a0 hart % 4 == 0) _ _ (λ (left : State). Fits s (counted left) tid)
-      (λ _. waits_by_is (a0 hart) (a1 hart) (loaded Four (a0 hart) s.pages) (register_is_word hart 10 hart_is)) (λ _. answer_is (minus EINVAL) (omega arith))
+      (λ _. waits_by_is (a0 hart) (a1 hart) (loaded Four (a0 hart) s.pages) (register_is hart 10 hart_is)) (λ _. answer_is (minus EINVAL) (omega arith))
 
   min_left : (a b : ℕ) → min a b ≤ a
   min_left a b = omega arith
@@ -283,7 +284,7 @@ module _ (laws : TurnLaws) (s : State) (tid : Tid) (hart : Hart) (clear : ℕ) (
       let h = next (with_register hart 10 value) in
       let t = Runs (unreserved h) clear in
       let size : length threads ≡ length s.threads = laws.wake_length (a0 hart) (a1 hart) s.threads in
-      let small : IsWord (a1 hart) = register_is_word hart 11 hart_is in
+      let small : IsWord (a1 hart) = register_is hart 11 hart_is in
       let least = min_left (a1 hart) (count_by (waits_on (a0 hart)) s.threads) in
       let words = answered_hart value (omega (arith, small, least)) in
       let left = counted (wakes s tid hart clear) in
@@ -325,7 +326,7 @@ module _ (laws : TurnLaws) (s : State) (tid : Tid) (hart : Hart) (clear : ℕ) (
 
   called_alone_keeps : Keeps s tid (called_alone s tid hart clear log)
   called_alone_keeps = called_alone_by_row (Keeps s tid) s tid hart clear log
-      exits_is (went (counted (exits_all s tid hart clear)) (next hart) refl (next_is hart hart_is) refl heap_is (register_is_word hart 10 hart_is) refl pages_are)
+      exits_is (went (counted (exits_all s tid hart clear)) (next hart) refl (next_is hart hart_is) refl heap_is (register_is hart 10 hart_is) refl pages_are)
       (answer_is (written_by s.pages hart).answer (written_word s.pages (a0 hart) (a1 hart) (a2 hart))) spawns_is waits_is wakes_is (answer_is 0 (omega arith)) sets_break_is (answer_is tid.0 tid_is) (answer_is (minus ENOSYS) (omega arith))
 
   -- a read took bytes
@@ -333,7 +334,7 @@ module _ (laws : TurnLaws) (s : State) (tid : Tid) (hart : Hart) (clear : ℕ) (
   read_keeps bytes rest is_ few =
       let fits : AllByRecursion IsAnswer (Read bytes ∷ rest) = subst (AllByRecursion IsAnswer) is_ answers_are in
       went (counted (has_read s tid hart clear bytes)) (next (with_register hart 10 (length bytes))) refl
-      (next_is (with_register hart 10 (length bytes)) (with_word hart 10 (length bytes) hart_is (omega (arith, few)))) refl heap_is end_is within_is
+      (next_is (with_register hart 10 (length bytes)) (with_register_is hart 10 (length bytes) hart_is (omega (arith, few)))) refl heap_is end_is within_is
       (pages_alike s.pages (put_bytes (a1 hart) bytes s.pages) pages_are (put_bytes_bytes bytes (a1 hart) s.pages fits.0.1 bytes_are) (put_bytes_shape bytes (a1 hart) s.pages))
 
   -- the clock was read
@@ -343,7 +344,7 @@ module _ (laws : TurnLaws) (s : State) (tid : Tid) (hart : Hart) (clear : ℕ) (
       let small : reading < 2 ^ 64 = fits.0 in
       let h = with_register (with_register hart 10 (reading % 2 ^ 32)) 11 (reading / 2 ^ 32) in
       went (counted (has_clock s tid hart clear reading)) (next h) refl
-      (next_is h (with_word (with_register hart 10 (reading % 2 ^ 32)) 11 (reading / 2 ^ 32) (with_word hart 10 (reading % 2 ^ 32) hart_is (omega arith)) (omega (arith, small)))) refl heap_is end_is within_is pages_are
+      (next_is h (with_register_is (with_register hart 10 (reading % 2 ^ 32)) 11 (reading / 2 ^ 32) (with_register_is hart 10 (reading % 2 ^ 32) hart_is (omega arith)) (omega (arith, small)))) refl heap_is end_is within_is pages_are
 
   called_keeps : Keeps s tid (called s tid hart clear log)
   called_keeps = called_by_row (Keeps s tid) s tid hart clear log

@@ -12,6 +12,7 @@ use Rattle.byteorder.specs.Endian.{little_bytes}
 use Rattle.cow_pages.proofs.InPages.{writable_found}
 use Rattle.cow_pages.proofs.Places.{page_some, page_none}
 use Rattle.cow_pages.specs.InPage.{changed_at, is_writable, place_of, with_bytes, written}
+use Rattle.dp_base.proofs.Lists.{slice_set_same}
 use Rattle.dp_base.specs.Memory.{ArePages, IsPage, Memory, bytes_with, change_page, has_flag, put_byte, put_bytes, stored, with_byte}
 use Rattle.dp_base.specs.declared.access.Width.TheVariants.{Four}
 use Rattle.dp_base.specs.declared.page.Page.{Page}
@@ -93,11 +94,6 @@ answer_some memory a i place fits = writable_found memory a (slice_get memory i)
 
 pub answer_none : (memory : Memory) (a : ℕ) → None ≡ place_of memory (a / 4096) → a % 4096 ≤ 4092 → is_some (bytes_with 2 memory a 4) ≡ false
 answer_none memory a place fits = writable_found memory a None (page_none memory (a / 4096) place) fits
-
-slice_set_same : {X : Type 0} (xs : List X) (i : ℕ) (x : X) → slice_get xs i ≡ Some x → slice_set xs i x ≡ xs
-slice_set_same [] i x e = refl
-slice_set_same (y ∷ ys) zero x e = let h : y ≡ x = cc in ap (λ z. z ∷ ys) (sym h)
-slice_set_same (y ∷ ys) (suc i) x e = ap (λ zs. y ∷ zs) (slice_set_same ys i x e)
 
 stored_by : (a v : ℕ) (memory : Memory) (i : ℕ) (p : Page) (b : Bool) → put_bytes a (little_bytes 4 v) memory ≡ slice_set memory i (with_bytes (a % 4096) (little_bytes 4 v) p) → slice_get memory i ≡ Some p
     → (if b then put_bytes a (little_bytes 4 v) memory else memory) ≡ slice_set memory i (if b then with_bytes (a % 4096) (little_bytes 4 v) p else p)

@@ -4,3 +4,4 @@ pub mod Epochs
 pub mod Sizes
 pub mod Many
 pub mod Whole
+pub mod Lists

@@ -1,10 +1,11 @@
 -- What the writes of a begin leave on the disk, at every moment and behind them.
 use Rattle.std.proofs.Common.{◌≡◌, ◌≢◌, ◌⊎◌, inl, inr, ℕ, zero, suc, ◌+◌, ◌≤◌, Bool, true, false, List, [], ◌∷◌, ◌++◌, length, drop, get_or, Option, Some, None, refl, sym, ◌∙◌, ap, subst, arith, length-append}
+use Rattle.std.proofs.lemmas.List.{nil_from_length}
 use Rattle.dp_base.specs.declared.limits.TheConstants.{MAX_JOURNAL_BYTES}
 use Rattle.dp_base.specs.Field.{AreBytes}
 use Rattle.dp_base.specs.Journal.{IsGuest, open_gate, closed_gate, header, header_body}
 use Rattle.dp_base.proofs.Fields.{AreBytes-append, AreBytes-right}
-use Rattle.dp_base.proofs.Sizes.{AreBytes-header, length-header}
+use Rattle.dp_base.proofs.Sizes.{AreBytes-header, AreBytes-nil, length-header}
 use Rattle.disk_model.specs.History.{History, IsImage, IsSynced, Pending, nothing_pending, write_pending}
 use Rattle.disk_model.specs.Known.{IfKnown, IsLength, known_disk, overwritten}
 use Rattle.disk_model.proofs.Images.{image-one-byte, image-past-end, overwritten-end}
@@ -57,10 +58,6 @@ pub record IsPart (guest written : List ℕ) (s t : History) : Type 0 where
 nothing-begun : (guest : List ℕ) (s : History) → BeginMoments guest s s
 nothing-begun guest s is-guest synced empty = always-start (IsBeginning guest s) s (empty-reads guest s synced empty)
 
-no_bytes : (l : List ℕ) → 0 ≡ length l → l ≡ []
-no_bytes [] e = refl
-no_bytes (x ∷ xs) e = absurd (omega (arith, e))
-
 nothing_sent : (s : History) → SentNothing s s
 nothing_sent s = record { sent = refl; noted = refl }
 
@@ -68,7 +65,7 @@ nothing_sent s = record { sent = refl; noted = refl }
 pub found : (guest : List ℕ) (n : ℕ) (a b : Option History) → n ≡ 0 → b ≡ a → IsLength (known_disk a) n → IfKnown (IsPart guest []) a b
 found guest n None b zero_ same is = tt
 found guest n (Some s) b zero_ same is =
-    let empty = no_bytes s.disk (sym zero_ ∙ is) in
+    let empty = nil_from_length s.disk (sym (sym zero_ ∙ is)) in
     (s, same, record { empty = empty; disk = empty; synced = λ synced. synced; streams = nothing_sent s; moments = nothing-begun guest s })
 
 -- one write more
@@ -97,9 +94,6 @@ IsNotBegun guest s t = SentNothing s t × ((s.disk ≡ []) ⊎ (t ≡ s)) × Beg
 abbrev pub IsBegun : List ℕ → History → History → Type 0
 IsBegun guest s t = (s.disk ≡ []) × Stands guest [] t × SentNothing s t × BeginMoments guest s t
 
-no-bytes : AreBytes []
-no-bytes i = omega arith
-
 gate-is-byte : AreBytes (closed_gate ∷ [])
 gate-is-byte zero = omega arith
 gate-is-byte (suc i) = omega arith
@@ -110,7 +104,7 @@ not_looked guest s = (
   nothing_sent s,
   inr refl,
   nothing-begun guest s,
-  λ is-guest synced empty. ap reads (ap (λ (p : Pending). p.synced) synced ∙ empty) ∙ no-journal-in-a-byte [] no-bytes (omega arith),
+  λ is-guest synced empty. ap reads (ap (λ (p : Pending). p.synced) synced ∙ empty) ∙ no-journal-in-a-byte [] AreBytes-nil (omega arith),
 )
 
 module _ (guest : List ℕ) where
@@ -118,7 +112,7 @@ module _ (guest : List ℕ) where
   first-moments ok s t u part w = moments_on guest [] 0 (closed_gate ∷ []) s t u part ok w (omega arith) (λ is-guest. torn-first guest)
 
   pub first_not_put : (s t u : History) → IsPart guest [] s t → IsWrittenThrough 0 (closed_gate ∷ []) false t u → IsNotBegun guest s u
-  first_not_put s t u part w = (then_nothing s t u part.streams w.streams, inl part.empty, first-moments false s t u part w, left_none guest [] 0 (closed_gate ∷ []) s t u part false w refl (λ is-guest. no-journal-in-a-byte [] no-bytes (omega arith)))
+  first_not_put s t u part w = (then_nothing s t u part.streams w.streams, inl part.empty, first-moments false s t u part w, left_none guest [] 0 (closed_gate ∷ []) s t u part false w refl (λ is-guest. no-journal-in-a-byte [] AreBytes-nil (omega arith)))
 
   pub first_put : (s t u : History) → IsPart guest [] s t → IsWrittenThrough 0 (closed_gate ∷ []) true t u → IsPart guest (closed_gate ∷ []) s u
   first_put s t u part w = part_on guest [] 0 (closed_gate ∷ []) s t u part true w (closed_gate ∷ [])

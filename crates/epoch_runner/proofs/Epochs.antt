@@ -22,7 +22,7 @@ use Rattle.epoch_runner.specs.declared.bounds.Bounds.{Bounds}
 use Rattle.epoch_runner.specs.Running.{HasIdled, IsRunOf}
 use Rattle.epoch_runner.specs.Schedule.{Course, IsScheduled, begins_from, begins_with, closed, course, ends, followed, next, progress, starting, step, takes_turn, turn_of, turned}
 use Rattle.epoch_runner.specs.SliceRun.{IsSliceRun, Traced, inside, next_slice}
-use Rattle.guest_kernel.proofs.Lists.{all_append}
+use Rattle.dp_base.proofs.Lists.{all_append}
 use Rattle.epoch_runner.proofs.AnswerLists.{few_encoded}
 use Rattle.epoch_runner.proofs.CourseRuns.{closed_empty, course_holds, scheduled_little_read, scheduled_run}
 use Rattle.epoch_runner.proofs.Courses.{course-alike, course-from}

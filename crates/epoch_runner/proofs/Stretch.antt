@@ -20,7 +20,7 @@ use Rattle.epoch_runner.specs.declared.bounds.Bounds.{Bounds}
 use Rattle.epoch_runner.specs.Answering.{answers_for, ready_at}
 use Rattle.epoch_runner.specs.Schedule.{course, followed, progress, step, turned}
 use Rattle.epoch_runner.specs.SliceRun.{IsMoved, Traced, inside}
-use Rattle.guest_kernel.proofs.Lists.{all_append}
+use Rattle.dp_base.proofs.Lists.{all_append}
 use Rattle.epoch_runner.proofs.AnswerLists.{read_length}
 use Rattle.epoch_runner.proofs.Courses.{course-step, one_course}
 use Rattle.epoch_runner.specs.KernelLaws.{TurnLaws}

@@ -24,7 +24,7 @@ use Rattle.epoch_runner.specs.declared.bounds.Bounds.{Bounds}
 use Rattle.epoch_runner.specs.Answering.{answer_to, answers_for, is_unanswered, read_of, ready_at}
 use Rattle.epoch_runner.specs.Schedule.{Course, IsScheduled, Next, closed, course, ends, followed, next, progress, starting, step, turn_of, turned}
 use Rattle.epoch_runner.specs.Supplying.{IsSuppliedBy}
-use Rattle.guest_kernel.proofs.Lists.{all_append}
+use Rattle.dp_base.proofs.Lists.{all_append}
 use Rattle.epoch_runner.proofs.AnswerLists.{clocks_append, read_append}
 use Rattle.epoch_runner.specs.KernelLaws.{ReadLaw, ReservationLaw, TurnLaws}
 use Rattle.epoch_runner.proofs.Nexts.{last_next, turn_next}

@@ -5,7 +5,7 @@ use Rattle.std.proofs.lemmas.Bool.{cond_both}
 use Rattle.dp_base.specs.declared.tid.Tid.{Tid}
 use Rattle.guest_state.specs.declared.thread.Thread.{Thread}
 use Rattle.guest_kernel.specs.Threads.{thread_at}
-use Rattle.guest_kernel.proofs.Lists.{get_set, slice_set_same}
+use Rattle.dp_base.proofs.Lists.{get_set, slice_set_same}
 
 -- the place of a thread that was made
 pub place_of : (threads : List Thread) (tid : Tid) (t : Thread) → thread_at threads tid ≡ Some t → slice_get threads (tid.0 - 1) ≡ Some t

@@ -11,6 +11,7 @@ use Rattle.dp_base.specs.declared.tid.Tid.{Tid}
 use Rattle.guest_state.specs.declared.thread.Thread.{Thread}
 use Rattle.guest_state.specs.declared.thread.Thread.TheVariants.{Gone}
 use Rattle.guest_state.specs.Checkpoint.{is_alive, live}
+use Rattle.guest_state.proofs.Scanning.{at_most_one}
 use Rattle.dp_base.specs.declared.limits.TheConstants.{MAX_LIVE_THREADS, MAX_THREADS}
 use Rattle.guest_kernel.proofs.Waking.{length-woken, live-woken}
 use Rattle.guest_kernel.specs.Threads.{AreFew, awake, is_running, runs_at, runs_by, thread_at, waits_on, woken}
@@ -144,10 +145,6 @@ evolves_none threads = record { gone = keeps_all threads; few = λ f. f; grows =
 
 pub evolves_then : (a b c : List Thread) → Evolves a b → Evolves b c → Evolves a c
 evolves_then a b c first second = record { gone = keeps_then a b c first.gone second.gone; few = λ f. second.few (first.few f); grows = omega (arith, first.grows, second.grows) }
-
-at_most_one : (b : Bool) → cond b 1 0 ≤ 1
-at_most_one true = omega arith
-at_most_one false = omega arith
 
 live_set : (threads : List Thread) (i : ℕ) (old new : Thread) → slice_get threads i ≡ Some old → is_alive old ≡ true → live (slice_set threads i new) ≤ live threads
 live_set threads i old new there alive =

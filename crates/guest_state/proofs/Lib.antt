@@ -2,4 +2,4 @@ pub mod Steps
 pub mod Codes
 pub mod CheckpointCode
 pub mod Many
-mod Scanning
+pub mod Scanning

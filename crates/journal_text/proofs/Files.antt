@@ -10,6 +10,7 @@ use Rattle.dp_base.specs.declared.limits.TheConstants.{MAX_JOURNAL_BYTES}
 use Rattle.dp_base.specs.Field.{AreBytes}
 use Rattle.dp_base.specs.Journal.{IsGuest, closed_gate, header, header_at, record_of}
 use Rattle.dp_base.proofs.Fields.{AreBytes-take}
+use Rattle.dp_base.proofs.Lists.{all_append}
 use Rattle.dp_base.proofs.Records.{header_code}
 use Rattle.dp_base.proofs.Sizes.{length-header}
 use Rattle.journal_text.specs.Reading.{IsMadeOf, IsTail, Reading, Tail, end, ending, first_bytes, journal_of, reading_of, reads, reads_in, tail_at}
@@ -137,10 +138,6 @@ at_rest guest records is are few =
 
 -- ---- what is appended
 
-all_and : (records : List Record) (r : Record) → AllByRecursion IsRecord records → IsRecord r → AllByRecursion IsRecord (records ++ r ∷ [])
-all_and [] r are is = (is, tt)
-all_and (x ∷ records) r are is = (are.0, all_and records r are.1 is)
-
 appended_is : (guest : List ℕ) (records : List Record) (r : Record)
     → (header guest ++ flat_map record_bytes records) ++ (record_bytes r ++ closed_gate ∷ []) ≡ journal_of guest (records ++ r ∷ [])
 appended_is guest records r =
@@ -167,7 +164,7 @@ appended bytes guest records place r are e is few =
     let both : length (prefix ++ new) ≡ length (journal_of guest longer) = ap length (appended_is guest records r) in
     let total : length (journal_of guest longer) ≡ place + length (record_bytes r) + 1 = sym both ∙ length-append prefix new ∙ omega (arith, place_is, new_size) in
     let last : length (journal_of guest longer) - 1 ≡ place + length (record_bytes r) = omega (arith, total) in
-    ap reads joined ∙ at_rest guest longer m.guest (all_and records r m.records is) (omega (arith, total, few)) ∙ ap (λ (p : ℕ). Some (ending guest longer p)) last
+    ap reads joined ∙ at_rest guest longer m.guest (all_append IsRecord records (r ∷ []) m.records (is, tt)) (omega (arith, total, few)) ∙ ap (λ (p : ℕ). Some (ending guest longer p)) last
 
 -- ---- what is cut
 

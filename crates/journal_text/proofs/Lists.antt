@@ -1,18 +1,15 @@
 -- The records one after another.
 use Rattle.std.proofs.Common.{◌≡◌, ℕ, zero, suc, ◌<◌, ◌≤◌, List, [], ◌∷◌, ◌++◌, length, refl, sym, ap, subst, ◌∙◌, append_assoc, arith}
 use Rattle.std.specs.List.{flat_map, AllByRecursion}
+use Rattle.std.proofs.lemmas.List.{nil_from_length}
 use Rattle.dp_base.specs.Field.{AreBytes}
 use Rattle.journal_text.specs.Records.{IsRecord, Next, Record, bad, ended, found, list_from, listed, next_at, record_bytes, records_at}
 use Rattle.journal_text.proofs.Records.{next_fewer, next_found, next_nothing, next_taken}
 
 -- ---- as many as there are
 
-no_bytes : (bytes : List ℕ) → length bytes ≤ 0 → bytes ≡ []
-no_bytes [] e = refl
-no_bytes (b ∷ bytes) e = absurd (omega arith)
-
 at_no_bytes : (bytes : List ℕ) → length bytes ≤ 0 → next_at bytes ≡ ended
-at_no_bytes bytes few = ap next_at (no_bytes bytes few) ∙ next_nothing
+at_no_bytes bytes few = ap next_at (nil_from_length bytes (omega (arith, few))) ∙ next_nothing
 
 listed_alike : (f g : List ℕ → List Record × List ℕ) (bytes : List ℕ) (next : Next) → ((r : Record) (rest : List ℕ) → next ≡ found r rest → f rest ≡ g rest) → listed f bytes next ≡ listed g bytes next
 listed_alike f g bytes ended same = refl

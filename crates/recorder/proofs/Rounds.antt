@@ -40,7 +40,7 @@ use Rattle.journal_text.specs.Reading.{journal_of}
 use Rattle.journal_text.specs.Records.{IsRecord, Record, epoch}
 use Rattle.recorder.specs.Moments.{EachMoment, HoldsAt, answers_in}
 use Rattle.recorder.specs.Telling.{HasTold, IsTold, report_at}
-use Rattle.guest_kernel.proofs.Lists.{all_append}
+use Rattle.dp_base.proofs.Lists.{all_append}
 use Rattle.recorder.proofs.Moments.{AlwaysPartly, answers_are, append_left, appends_partly, are_records, commits_partly, each_moment, known-both, noted-too}
 use Rattle.recorder.proofs.RunLists.{AreAnswers, answers-push, answers_are-push, draws-push, each-push, epochs-push, records-push, supply-push}
 use Rattle.recorder.proofs.SoFar.{CanGoOn, HasDrawnRound, SoFar, room_kept, still_placed}

@@ -16,7 +16,7 @@ use Rattle.guest_kernel.specs.Slices.{Stop, chain, either, onto}
 use Rattle.recorder.specs.declared.options.Options.{Options}
 use Rattle.recorder.specs.Recording.{IsNext, EachIsNext, Run, first_after, first_behind, records_of}
 use Rattle.journal_text.specs.Records.{epoch}
-use Rattle.guest_kernel.proofs.Lists.{all_append}
+use Rattle.dp_base.proofs.Lists.{all_append}
 
 pub no_epochs : (start : State) → chain start [] ≡ Ok (start, [])
 unfolding chain

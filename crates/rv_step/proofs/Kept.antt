@@ -14,6 +14,7 @@ use Rattle.dp_base.specs.declared.access.Width.TheVariants.{One, Two, Four}
 use Rattle.dp_base.specs.Memory.{Memory, after_amo, amo_word, fetched, is_below_signed, loaded, may_store, stored}
 use Rattle.dp_base.proofs.Fields.{bind_some}
 use Rattle.dp_base.proofs.Epochs.{only_if}
+use Rattle.dp_base.proofs.Lists.{all_set}
 use Rattle.std.proofs.lemmas.Option.{same_Some}
 use Rattle.guest_state.specs.declared.hart.Hart.{Hart}
 use Rattle.guest_state.specs.Register.{next, register, with_register, wrapped}
@@ -38,18 +39,13 @@ words_at [] i all = omega arith
 words_at (x ∷ xs) zero all = all.0
 words_at (x ∷ xs) (suc i) all = words_at xs i all.1
 
-words_set : (xs : List ℕ) (i y : ℕ) → AllByRecursion IsWord xs → IsWord y → AllByRecursion IsWord (slice_set xs i y)
-words_set [] i y all here = tt
-words_set (x ∷ xs) zero y all here = (here, all.1)
-words_set (x ∷ xs) (suc i) y all here = (all.0, words_set xs i y all.1 here)
-
-register_is : (h : Hart) (n : ℕ) → HasWords h → IsWord (register h n)
+pub register_is : (h : Hart) (n : ℕ) → HasWords h → IsWord (register h n)
 register_is h n is = cond_both (n == 0) 0 (slice_index h.x (n - 1)) IsWord (λ _. omega arith) (λ _. words_at h.x (n - 1) is.registers)
 
-with_register_is : (h : Hart) (d v : ℕ) → HasWords h → IsWord v → HasWords (with_register h d v)
+pub with_register_is : (h : Hart) (d v : ℕ) → HasWords h → IsWord v → HasWords (with_register h d v)
 with_register_is h d v is fits =
     cond_both (d == 0) h (record h { x = slice_set h.x (d - 1) v }) HasWords (λ _. is)
-    (λ _. record { pc = is.pc; count = length-set h.x (d - 1) v ∙ is.count; registers = words_set h.x (d - 1) v is.registers fits })
+    (λ _. record { pc = is.pc; count = length-set h.x (d - 1) v ∙ is.count; registers = all_set IsWord h.x (d - 1) v is.registers fits })
 
 at_pc_is : (h : Hart) (pc : ℕ) → HasWords h → IsWord pc → HasWords (record h { pc = pc })
 at_pc_is h pc is fits = record { pc = fits; count = is.count; registers = is.registers }
@@ -57,7 +53,7 @@ at_pc_is h pc is fits = record { pc = fits; count = is.count; registers = is.reg
 wrapped_is : (n : ℕ) → IsWord (wrapped n)
 wrapped_is n = omega arith
 
-next_is : (h : Hart) → HasWords h → HasWords (next h)
+pub next_is : (h : Hart) → HasWords h → HasWords (next h)
 next_is h is = at_pc_is h (wrapped (h.pc + 4)) is (wrapped_is (h.pc + 4))
 
 reserving_is : (h : Hart) (at : ℕ) → HasWords h → HasWords (reserving at h)

@@ -4,4 +4,4 @@ mod Encodings
 mod Decodings
 mod Frames
 pub mod Memories
-mod Kept
+pub mod Kept

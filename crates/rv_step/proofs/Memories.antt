@@ -17,7 +17,7 @@ use Rattle.dp_base.specs.Field.{AreBytes, ◌>>=◌}
 use Rattle.dp_base.specs.Memory.{Memory, byte_in, byte_with, bytes_with, change_page, fetched, has_flag, loaded, may_store, page_at, put_bytes, put_byte, stored, width_bytes, with_byte}
 use Rattle.dp_base.proofs.Epochs.{chosen, only_if}
 use Rattle.dp_base.proofs.Fields.{bind_some}
-use Rattle.dp_base.proofs.Sizes.{AreBytes-little_bytes}
+use Rattle.dp_base.proofs.Sizes.{AreBytes-cons, AreBytes-little_bytes}
 use Rattle.rv_step.specs.Frame.{IsStoredAt}
 use Rattle.guest_state.specs.Checkpoint.{IsWord}
 use Rattle.rv_step.specs.Words.{HasBytes, HasSameShape, shape_of}
@@ -99,17 +99,13 @@ byte_with_is flag m address b all is =
     let g = only_if (has_flag flag p.0) (Some (slice_index p.0.bytes (address % PAGE_BYTES))) b p.2 in
     subst (λ (n : ℕ). n < 256) (same_Some _ _ g.1) (find_is IsOfBytes (λ q. q.number == address / PAGE_BYTES) m p.0 all p.1 (address % PAGE_BYTES))
 
-bytes_joined : (b : ℕ) (others : List ℕ) → b < 256 → AreBytes others → AreBytes (b ∷ others)
-bytes_joined b others fits more zero = fits
-bytes_joined b others fits more (suc i) = more i
-
 bytes_with_are : (flag : ℕ) (m : Memory) (address count : ℕ) (bytes : List ℕ) → HasBytes m → bytes_with flag m address count ≡ Some bytes → AreBytes bytes
 unfolding bytes_with
 bytes_with_are flag m address zero bytes all is = subst AreBytes (same_Some _ _ is) (λ i. omega arith)
 bytes_with_are flag m address (suc count) bytes all is =
     let first = bind_some (byte_with flag m address) (λ b. bytes_with flag m (address + 1) count >>= λ others. Some (b ∷ others)) bytes is in
     let others = bind_some (bytes_with flag m (address + 1) count) (λ others. Some (first.0 ∷ others)) bytes first.2 in
-    subst AreBytes (same_Some _ _ others.2) (bytes_joined first.0 others.0 (byte_with_is flag m address first.0 all first.1) (bytes_with_are flag m (address + 1) count others.0 all others.1))
+    subst AreBytes (same_Some _ _ others.2) (AreBytes-cons first.0 others.0 (byte_with_is flag m address first.0 all first.1) (bytes_with_are flag m (address + 1) count others.0 all others.1))
 
 number_fits : (count value : ℕ) (o : Option (List ℕ)) → ((bytes : List ℕ) → o ≡ Some bytes → AreBytes bytes) → option_map (little_number count) o ≡ Some value → value < 256 ^ count
 number_fits count value None known e = absurd cc

@@ -21,3 +21,8 @@ get_set (z ∷ zs) (suc i) x y is = get_set zs i x y is
 pub all_append : {X : Type 0} (P : X → Type 0) (xs ys : List X) → AllByRecursion P xs → AllByRecursion P ys → AllByRecursion P (xs ++ ys)
 all_append P [] ys none are = are
 all_append P (x ∷ xs) ys these are = (these.0, all_append P xs ys these.1 are)
+
+pub all_set : {X : Type 0} (P : X → Type 0) (xs : List X) (i : ℕ) (y : X) → AllByRecursion P xs → P y → AllByRecursion P (slice_set xs i y)
+all_set P [] i y all here = tt
+all_set P (x ∷ xs) zero y all here = (here, all.1)
+all_set P (x ∷ xs) (suc i) y all here = (all.0, all_set P xs i y all.1 here)
