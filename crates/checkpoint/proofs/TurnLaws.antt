@@ -1,6 +1,6 @@
 -- What is used of a turn, and what has to hold behind it.
-use Rattle.std.proofs.Common.{◌≡◌, ℕ, zero, suc, ◌^◌, ◌<◌, ◌≤◌, false, cond, List, length, count_by, take, slice_get, Some, Result, Ok, Err, arith}
-use Rattle.std.specs.Prelude.{◌==◌, ◌&&◌, nat_lt}
+use Rattle.std.proofs.Common.{◌≡◌, ℕ, ◌^◌, ◌<◌, ◌≤◌, cond, List, length, count_by, take, slice_get, Some, Result, Ok, Err}
+use Rattle.std.specs.Prelude.{◌&&◌, nat_lt}
 use Rattle.std.specs.List.{AllByRecursion}
 use Rattle.dp_base.specs.declared.access.Width.{Width}
 use Rattle.dp_base.specs.declared.answer.Answer.{Answer}
@@ -47,10 +47,6 @@ pub effect_is_good : (laws : TurnLaws) (h : Hart) (m : Memory) (e : Effect) → 
 effect_is_good laws h m (goes after left) is bytes e = (laws.hart h after m left is bytes e, laws.bytes h after m left is bytes e, laws.shape h after m left e)
 effect_is_good laws h m calls is bytes e = tt
 effect_is_good laws h m (traps cause value) is bytes e = (laws.cause h m cause value e, laws.value h m cause value is bytes e)
-
-pub nonzero : (n : ℕ) → (n == 0) ≡ false → 0 < n
-nonzero zero e = absurd cc
-nonzero (suc n) e = omega arith
 
 -- what has to hold behind a turn, once the reservation is dropped: but for the threads' number
 pub record Fits (s left : State) (tid : Tid) : Type 0 where

@@ -26,7 +26,7 @@ use Rattle.guest_kernel.specs.Break.{may_move_break, page_from, with_break}
 use Rattle.guest_kernel.specs.Call.{Written, answered, begins_to_wait, bytes_written, called, cleared, end_of_exit, end_of_waiting, exits, exits_all, is_cleared, may_spawn, sets_break, silent, spawned_hart, spawns, waits, waits_by, wakes, written, written_by, EAGAIN, EINVAL, ENOSYS, called_alone, has_clock, has_read}
 use Rattle.turn_peek.specs.Arguments.{a0, a1, a2, a3, minus, moved, EFAULT}
 use Rattle.dp_base.proofs.Lists.{all_append, all_set, get_set, set_set}
-use Rattle.guest_kernel.proofs.Places.{place_of}
+use Rattle.guest_kernel.proofs.Places.{nonzero, place_of}
 use Rattle.guest_kernel.proofs.Turns.{called_alone_by_row, called_by_row}
 use Rattle.guest_kernel.specs.State.{counted, dropping, with_thread, without_reservation}
 use Rattle.guest_kernel.specs.Threads.{AreFew, is_running, thread_at, waits_on, woken}
@@ -40,7 +40,7 @@ use Rattle.checkpoint.proofs.Lists.{each_woken, set_append, set_woken}
 use Rattle.checkpoint.proofs.PageLists.{contents, pages_rise, risen_pages}
 use Rattle.checkpoint.proofs.HartWords.{awake_is, of_free, spawned_is, to_free}
 use Rattle.rv_step.proofs.Kept.{next_is, register_is, with_register_is}
-use Rattle.checkpoint.proofs.TurnLaws.{Fits, IsGood, Keeps, TurnLaws, effect_is_good, nonzero}
+use Rattle.checkpoint.proofs.TurnLaws.{Fits, IsGood, Keeps, TurnLaws, effect_is_good}
 use Rattle.rv_step.proofs.Memories.{put_bytes_bytes, put_bytes_shape}
 
 -- the state before the turn, whose thread runs

@@ -6,7 +6,7 @@ use Rattle.std.specs.List.Sorted.{IsStrictlyIncreasing}
 use Rattle.std.proofs.lemmas.Bool.{ltb-true}
 use Rattle.std.proofs.lemmas.List.{length-set}
 use Rattle.std.proofs.lemmas.List.Elements.{All-set, All-get_or}
-use Rattle.std.proofs.lemmas.Option.{slice_get_cases, slice_get_within, get_or_from_slice_get}
+use Rattle.std.proofs.lemmas.Option.{cond_some, get_or_from_slice_get, slice_get_cases, slice_get_within}
 use Rattle.std.proofs.Math.Seq.{map-set_same}
 use Rattle.byteorder.specs.Endian.{little_bytes}
 use Rattle.cow_pages.proofs.InPages.{writable_found}
@@ -61,12 +61,8 @@ unfolding change_page
 change_first number f [] i p first at = absurd cc
 change_first number f (q ∷ qs) i p first at = first_at number f q qs i p (q.number == number) first at (λ j. change_first number f qs j p)
 
-first_by : (m len i : ℕ) (b : Bool) → cond b (Some m) None ≡ Some i → m ≡ i
-first_by m len i true e = cc
-first_by m len i false e = absurd cc
-
 place_first : (memory : Memory) (number i : ℕ) → place_of memory number ≡ Some i → position_or_len (λ (q : Page). q.number == number) memory ≡ i
-place_first memory number i e = first_by _ 0 i (nat_lt (position_or_len (λ (q : Page). q.number == number) memory) (length memory)) e
+place_first memory number i e = (cond_some (nat_lt (position_or_len (λ (q : Page). q.number == number) memory) (length memory)) _ i e).1
 
 -- a byte put into a page
 put_byte_in : (a b n o : ℕ) (memory : Memory) → a / 4096 ≡ n → a % 4096 ≡ o → put_byte a b memory ≡ change_page n (with_byte o b) memory

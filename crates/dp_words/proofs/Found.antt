@@ -12,6 +12,7 @@ use Rattle.clap.specs.Words.{HasMatchesOf, subcommand_rows_of}
 use Rattle.clap.specs.declared.parser.matches.ArgMatches.{ArgMatches}
 use Rattle.clap.specs.declared.error.kind.ErrorKind.{ErrorKind}
 use Rattle.clap.specs.declared.error.kind.ErrorKind.TheVariants as kinds
+use Rattle.std.proofs.lemmas.Bool.{and_parts}
 use Rattle.dp_words.specs.declared.parsing.WordsFault.{WordsFault}
 use Rattle.dp_words.specs.declared.parsing.WordsFault.TheVariants as faults
 use Rattle.dp_words.specs.Fault.{fault_of as fault_by}
@@ -19,7 +20,7 @@ use Rattle.clap.proofs.OnLiterals.{clap_on_literals}
 use Rattle.dp_words.specs.CommandLine.{command_line, record_words, replay_words}
 use Rattle.dp_words.specs.Found.{HasValues, IsFound}
 use Rattle.dp_words.proofs.Passing.{is_settled, takes_ok}
-use Rattle.dp_words.proofs.Kept.{Each, IsPlainWord, split}
+use Rattle.dp_words.proofs.Kept.{Each, IsPlainWord}
 use Rattle.dp_words.proofs.Present.{HasFirstIfWanted, level_wanted}
 
 -- ---- the command line, as clap builds it
@@ -100,11 +101,11 @@ found words ok =
     let rest = argument_words command_line words in
     let stop = stop_after line.top.rules (names_of line) rest in
     let end = (walk line.top.rules (names_of line) nothing_held rest).held in
-    let parts = split (entered_passes line stop) _ (split (is_simple command_line) _ ok).1 in
-    let walks = split (walk_passes line.top (names_of line) (walk_from nothing_held) rest) _ parts.1 in
-    let settles = split (settle_passes line.top.rules line.top.args_override_self end) _ walks.1 in
-    let valid = split (list_all default_passes line.top.rules) _ settles.1 in
-    let wanted = split (not line.top.subcommand_required || is_some (entered line stop)) _ (split (not line.top.arg_required_else_help || (is_some (entered line stop) || list_any (λ r. explicit_source r.source) (finished line.top.rules end))) _ valid.1).1 in
+    let parts = and_parts (entered_passes line stop) _ (and_parts (is_simple command_line) _ ok).1 in
+    let walks = and_parts (walk_passes line.top (names_of line) (walk_from nothing_held) rest) _ parts.1 in
+    let settles = and_parts (settle_passes line.top.rules line.top.args_override_self end) _ walks.1 in
+    let valid = and_parts (list_all default_passes line.top.rules) _ settles.1 in
+    let wanted = and_parts (not line.top.subcommand_required || is_some (entered line stop)) _ (and_parts (not line.top.arg_required_else_help || (is_some (entered line stop) || list_any (λ r. explicit_source r.source) (finished line.top.rules end))) _ valid.1).1 in
     entered_found stop parts.0 wanted.0
 
 -- ---- a parse of our command line

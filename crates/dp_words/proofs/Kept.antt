@@ -1,6 +1,6 @@
 -- What a parse that passes keeps of each word: values, and only such as its parser takes.
 use Rattle.std.proofs.Common.{◌≡◌, ◌∙◌, ◌&&◌, ◌||◌, ◌++◌, ◌≤◌, ℕ, Bool, cond, true, false, not, zero, suc, refl, sym, ap, subst, arith, List, [], ◌∷◌, length, drop, nat_le, nat_lt, Option, Some, None, is_some, true≢false, unwrap_or}
-use Rattle.std.proofs.lemmas.Bool.{leb-true, lt-ltb, ltb-true, ne_eqb}
+use Rattle.std.proofs.lemmas.Bool.{and_parts, leb-true, lt-ltb, ltb-true, ne_eqb}
 use Rattle.std.proofs.lemmas.List.{length-append}
 use Rattle.std.proofs.lemmas.List.Folds.{list_all-append}
 use Rattle.std.proofs.lemmas.Slice.Eq.{bytes_eq-Decides}
@@ -34,10 +34,6 @@ found_each P p (y ∷ ys) x all e = go (p y) (found_each P p ys x all.1) e
     go true later e = subst P (ap (λ o. unwrap_or o y) e) all.0
     go false later e = later e
 
-pub split : (a b : Bool) → (a && b) ≡ true → (a ≡ true) × (b ≡ true)
-split true b e = (refl, e)
-split false b e = absurd (true≢false (sym e))
-
 pub otherwise : (a b : Bool) → a ≡ false → (a || b) ≡ true → b ≡ true
 otherwise true b fails e = absurd (true≢false fails)
 otherwise false b fails e = e
@@ -69,7 +65,7 @@ module _ (c : List Rule) where
   without_fits id (r ∷ rs) fit = go (bytes_eq r.id id) (without_fits id rs)
     where
       parts : (row_fits c r ≡ true) × (list_all (row_fits c) rs ≡ true)
-      parts = split _ _ fit
+      parts = and_parts _ _ fit
 
       go : (b : Bool) → (rows_fit c rs → rows_fit c (without id rs)) → rows_fit c (cond b rs (r ∷ without id rs))
       go true later = parts.1
@@ -77,8 +73,8 @@ module _ (c : List Rule) where
 
   more_fit : (a : Rule) (old new : List Text) → fits a old ≡ true → fits a new ≡ true → fits a (old ++ new) ≡ true
   more_fit a old new f g =
-      let x = split (nat_lt 0 (length old)) _ f in
-      let y = split (nat_lt 0 (length new)) _ g in
+      let x = and_parts (nat_lt 0 (length old)) _ f in
+      let y = and_parts (nat_lt 0 (length new)) _ g in
       let longer : nat_lt 0 (length (old ++ new)) ≡ true = lt-ltb _ _ (omega (arith, ltb-true _ _ x.0, length-append old new)) in
       and _ _ longer (list_all-append (value_passes a) old new ∙ and _ _ x.1 y.1)
 
@@ -91,7 +87,7 @@ module _ (c : List Rule) where
   added_fit a how s values (r ∷ rs) only f fit = go (bytes_eq r.id a.id) refl (added_fit a how s values rs only f)
     where
       parts : (row_fits c r ≡ true) × (list_all (row_fits c) rs ≡ true)
-      parts = split _ _ fit
+      parts = and_parts _ _ fit
 
       go : (b : Bool) → bytes_eq r.id a.id ≡ b → (rows_fit c rs → rows_fit c (with_values a.id how s values rs))
           → rows_fit c (cond b (more_values s values r ++ rs) (r ∷ with_values a.id how s values rs))
@@ -108,8 +104,8 @@ module _ (c : List Rule) where
   used_fits : (again : Bool) (a : Rule) (vs : List Text) (rows : List Row) → IsPlainWord c a → use_passes again a vs rows ≡ true → rows_fit c rows
       → rows_fit c (used a vs rows)
   used_fits again a vs rows word passes fit =
-      let counted = split (nat_le (unwrap_or_range a.range).start_inclusive (length vs)) _ passes in
-      go (action_of a) word.sets word.has_values (split _ _ counted.1).1 (leb-true _ _ counted.0)
+      let counted = and_parts (nat_le (unwrap_or_range a.range).start_inclusive (length vs)) _ passes in
+      go (action_of a) word.sets word.has_values (and_parts _ _ counted.1).1 (leb-true _ _ counted.0)
     where
       some_given : (vs : List Text) (least : ℕ) → nat_lt 0 least ≡ true → least ≤ length vs → nat_lt 0 (length (values_or_missing a vs)) ≡ true
       some_given [] least pos le =
@@ -122,7 +118,7 @@ module _ (c : List Rule) where
           → rows_fit c (used_as x a.id (reading_by a) (values_or_missing a vs) rows)
       go action.Set sets least ok count =
           added_fit a (reading_by a) CommandLine (values_or_missing a vs) (without a.id rows) word.only
-          (and _ _ (some_given vs _ least count) (split _ _ ok).1) (without_fits a.id rows fit)
+          (and _ _ (some_given vs _ least count) (and_parts _ _ ok).1) (without_fits a.id rows fit)
       go action.SetTrue sets least ok count = absurd (true≢false (sym sets))
       go action.SetFalse sets least ok count = absurd (true≢false (sym sets))
       go action.Append sets least ok count = absurd (true≢false (sym sets))
@@ -141,7 +137,7 @@ module _ (c : List Rule) where
       go false [] ok = fit
       go false (v ∷ vs) ok =
           let given = otherwise _ (not (is_request (action_of a)) && values_pass a (v ∷ vs)) (ne_eqb (length (v ∷ vs)) 0 (λ e. omega (arith, e))) ok in
-          added_fit a (reading_by a) DefaultValue (v ∷ vs) rows word.only (and _ _ (lt-ltb 0 (length (v ∷ vs)) (omega arith)) (split _ _ given).1) fit
+          added_fit a (reading_by a) DefaultValue (v ∷ vs) rows word.only (and _ _ (lt-ltb 0 (length (v ∷ vs)) (omega arith)) (and_parts _ _ given).1) fit
 
   -- ---- the walk
 
@@ -162,7 +158,7 @@ module _ (c : List Rule) where
     reacted_fit : (a : Rule) (vs : List Text) (h : Held) → IsPlainWord c a → react_passes c again a vs h ≡ true → rows_fit c h.rows
         → rows_fit c (reacted c a vs h).rows
     reacted_fit a vs h word passes fit =
-        let parts = split (settle_passes c again h) _ passes in
+        let parts = and_parts (settle_passes c again h) _ passes in
         used_fits again a vs (settled c h).rows word parts.1 (settled_fit h parts.0 fit)
 
     option_fits : (a : Rule) (v : Option Text) (h : Held) → IsPlainWord c a → option_passes c again a v h ≡ true → rows_fit c h.rows
@@ -195,7 +191,7 @@ module _ (c : List Rule) where
             → rows_fit c (cond b (option_met c a (attached_value rest) h) (f (reacted c a [] h))).0.rows
         go true ok = option_fits a (attached_value rest) h (known a refl) ok fit
         go false ok =
-            let parts = split (react_passes c again a [] h) _ ok in
+            let parts = and_parts (react_passes c again a [] h) _ ok in
             later (reacted c a [] h) parts.1 (reacted_fit a [] h (known a refl) parts.0 fit)
 
     step_fits : (o : Option ℕ) (flags : Text) (skip : ℕ) (so_far : Outcome) (h : Held) (f : Text → ℕ → Outcome → Held → Held × Outcome)
@@ -296,7 +292,7 @@ module _ (s : Shape) (names : Names) (words : Each (IsPlainWord s.rules) s.rules
           → rows_fit s.rules (walked_from s.rules names o w word).held.rows
       go (Some p) ok = fit
       go None ok =
-          let parts = split (word_passes s names w.is_trailing w.waiting word w.held) _ ok in
+          let parts = and_parts (word_passes s names w.is_trailing w.waiting word w.held) _ ok in
           after_fits word w met.0 met.1 parts.1 (word_fits w.is_trailing w.waiting w.position word w.held parts.0 fit)
 
   pub walk_fits : (w : Walk) (text : List Text) → walk_passes s names w text ≡ true → rows_fit s.rules w.held.rows
@@ -304,12 +300,12 @@ module _ (s : Shape) (names : Names) (words : Each (IsPlainWord s.rules) s.rules
   unfolding walk_passes
   walk_fits w [] ok fit = fit
   walk_fits w (word ∷ rest) ok fit =
-      let parts = split (turn_passes s names w word) _ ok in
+      let parts = and_parts (turn_passes s names w word) _ ok in
       walk_fits (walked s.rules names w word) rest parts.1 (walked_fits w word parts.0 fit)
 
   pub defaults_fit : (rules : List Rule) (rows : List Row) → Each (IsPlainWord s.rules) rules → list_all default_passes rules ≡ true → rows_fit s.rules rows
       → rows_fit s.rules (fold with_default rows rules)
   defaults_fit [] rows each ok fit = fit
   defaults_fit (a ∷ rules) rows each ok fit =
-      let parts = split (default_passes a) _ ok in
+      let parts = and_parts (default_passes a) _ ok in
       defaults_fit rules (with_default rows a) each.1 parts.1 (default_fits s.rules a rows each.0 parts.0 fit)

@@ -1,7 +1,7 @@
 -- Words at which clap finds no fault are words that the command takes, where its defaults pass and no word has a rule on
 -- another.
 use Rattle.std.proofs.Common.{◌≡◌, ◌∙◌, ◌&&◌, ◌||◌, ◌==◌, ℕ, Bool, cond, codes, true, false, not, zero, suc, refl, sym, ap, arith, List, [], ◌∷◌, length, drop, nat_le, nat_lt, Option, Some, None, is_some, true≢false, unwrap_or}
-use Rattle.std.proofs.lemmas.Bool.{eqb-true, le-leb, ltb-false}
+use Rattle.std.proofs.lemmas.Bool.{and_parts, eqb-true, le-leb, ltb-false}
 use Rattle.std.specs.Prelude.{encode_utf8, slice_get}
 use Rattle.std.specs.List.{find, list_all, list_any}
 use Rattle.std.specs.Option.{option_map_or}
@@ -246,14 +246,10 @@ level_ok s names h words has below ready none =
     let end = (walk s.rules names h words).held in
     let rest = second below _ (second _ _ none) in
     let checks = second (settle_fault s.rules s.args_override_self end) _ rest in
-    let parts = split (list_all default_passes s.rules) _ ready in
+    let parts = and_parts (list_all default_passes s.rules) _ ready in
     and _ _ (walk_ok s names (walk_from h) words (first _ _ none))
     (and _ _ (settle_ok s.rules s.args_override_self end (first _ _ rest))
     (and _ _ parts.0 (valid_ok s (finished s.rules end) has parts.1 (second _ _ checks))))
-  where
-    split : (a b : Bool) → (a && b) ≡ true → (a ≡ true) × (b ≡ true)
-    split true b e = (refl, e)
-    split false b e = absurd (true≢false (sym e))
 
 -- ---- the whole
 

@@ -12,7 +12,8 @@ use Rattle.clap.specs.Takes.{default_passes, is_given, level_passes, settle_pass
 use Rattle.clap.specs.declared.builder.value_parser.Reading.{Reading}
 use Rattle.clap.specs.declared.parser.matches.ValueSource.{ValueSource}
 use Rattle.clap.specs.declared.parser.matches.ValueSource.TheVariants.{DefaultValue}
-use Rattle.dp_words.proofs.Kept.{Each, IsPlainWord, defaults_fit, fits, otherwise, row_fits, rows_fit, settled_fit, split, walk_fits}
+use Rattle.std.proofs.lemmas.Bool.{and_parts}
+use Rattle.dp_words.proofs.Kept.{Each, IsPlainWord, defaults_fit, fits, otherwise, row_fits, rows_fit, settled_fit, walk_fits}
 
 -- ---- rows that are there
 
@@ -75,7 +76,7 @@ each_required : (rules : List Rule) (rows : List Row) → list_all (λ a. not a.
     → Each (λ a. a.required ≡ true → has_row a.id rows ≡ true) rules
 each_required [] rows ok = tt
 each_required (a ∷ rules) rows ok =
-    let parts = split (not a.required || is_given a.id rows) _ ok in
+    let parts = and_parts (not a.required || is_given a.id rows) _ ok in
     (λ required. given_row a.id rows (otherwise _ _ (ap not required) parts.0), each_required rules rows parts.1)
 
 -- ---- the text of a word
@@ -89,11 +90,11 @@ first_fits c a [] only fit has = absurd (true≢false (sym has))
 first_fits c a (r ∷ rs) only fit has = go (bytes_eq r.id a.id) refl has (first_fits c a rs only parts.1)
   where
     parts : (row_fits c r ≡ true) × (list_all (row_fits c) rs ≡ true)
-    parts = split _ _ fit
+    parts = and_parts _ _ fit
 
     first : (vs : List Text) → fits a vs ≡ true → (is_some (slice_get vs 0) ≡ true) × (value_passes a (unwrap_or (slice_get vs 0) []) ≡ true)
     first [] ok = absurd (true≢false (sym ok))
-    first (v ∷ vs) ok = (refl, (split _ _ (split (nat_lt 0 (length (v ∷ vs))) _ ok).1).0)
+    first (v ∷ vs) ok = (refl, (and_parts _ _ (and_parts (nat_lt 0 (length (v ∷ vs))) _ ok).1).0)
 
     go : (b : Bool) → bytes_eq r.id a.id ≡ b → (b || has_row a.id rs) ≡ true → (has_row a.id rs ≡ true → HasFirst a rs)
         → (is_some (option_and_then (λ r. slice_get r.values 0) (cond b (Some r) (find (λ r. bytes_eq r.id a.id) rs))) ≡ true)
@@ -120,14 +121,14 @@ pub level_wanted : (s : Shape) (names : Names) (text : List Text) (has : Bool) �
     → level_passes s names nothing_held text has ≡ true → Each (HasFirstIfWanted (rows_after s.rules names text)) s.rules
 level_wanted s names text has own negates ok =
     let end = (walk s.rules names nothing_held text).held in
-    let walks = split (walk_passes s names (walk_from nothing_held) text) _ ok in
-    let settles = split (settle_passes s.rules s.args_override_self end) _ walks.1 in
-    let defaults = split (list_all default_passes s.rules) _ settles.1 in
+    let walks = and_parts (walk_passes s names (walk_from nothing_held) text) _ ok in
+    let settles = and_parts (settle_passes s.rules s.args_override_self end) _ walks.1 in
+    let defaults = and_parts (list_all default_passes s.rules) _ settles.1 in
     let walked_fit = walk_fits s names own (walk_from nothing_held) text walks.0 refl in
     let settled_fit = settled_fit s.rules s.args_override_self own end settles.0 walked_fit in
     let fit = defaults_fit s names own s.rules (settled s.rules end).rows own defaults.0 settled_fit in
-    let valid = split (not s.arg_required_else_help || (has || list_any (λ r. explicit_source r.source) (finished s.rules end))) _ defaults.1 in
-    let given = split (list_all (λ a. a.is_free) s.rules) _ (split (not s.subcommand_required || has) _ valid.1).1 in
+    let valid = and_parts (not s.arg_required_else_help || (has || list_any (λ r. explicit_source r.source) (finished s.rules end))) _ defaults.1 in
+    let given = and_parts (list_all (λ a. a.is_free) s.rules) _ (and_parts (not s.subcommand_required || has) _ valid.1).1 in
     let all_given = otherwise (s.subcommand_negates_reqs && has) _ (ap (λ b. b && has) negates) given.1 in
     each_wanted s.rules s.rules (finished s.rules end) own fit (each_default s.rules (settled s.rules end).rows)
     (each_required s.rules (finished s.rules end) all_given)

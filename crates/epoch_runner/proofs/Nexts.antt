@@ -12,6 +12,7 @@ use Rattle.dp_base.specs.declared.limits.TheConstants.{EPOCH_END_BYTES}
 use Rattle.dp_base.specs.declared.tid.Tid.{Tid}
 use Rattle.guest_state.specs.declared.thread.Thread.{Thread}
 use Rattle.guest_state.specs.declared.thread.Thread.TheVariants.{Gone}
+use Rattle.guest_state.proofs.Many.{none_mapped}
 use Rattle.guest_kernel.specs.declared.state.State.{State}
 use Rattle.guest_kernel.specs.State.{has_ended}
 use Rattle.guest_kernel.specs.Threads.{thread_at}
@@ -61,10 +62,6 @@ none_from f i (x ∷ xs) none =
     others : (b : Bool) → cond b (Some i) (position_from f (i + 1) xs) ≡ None → position_from f (i + 1) xs ≡ None
     others true e = absurd cc
     others false e = e
-
-none_mapped : {X Y : Type 0} (f : X → Y) (o : Option X) → option_map f o ≡ None → o ≡ None
-none_mapped f None e = refl
-none_mapped f (Some x) e = absurd cc
 
 -- where a thread passes a test there is one from 1 on
 pub some_lowest : (f : Thread → Bool) (threads : List Thread) → list_any f threads ≡ true → lowest_from f 1 threads ≡ None → ⊥

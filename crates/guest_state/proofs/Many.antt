@@ -38,3 +38,7 @@ given f o x r is clause = cc
 
 pub not_given : {A B : Type 0} (f : A → B) (o : Option A) (r : Option B) → o ≡ None → option_map f o ≡ r → r ≡ None
 not_given f o r is clause = cc
+
+pub none_mapped : {A B : Type 0} (f : A → B) (o : Option A) → option_map f o ≡ None → o ≡ None
+none_mapped f None e = refl
+none_mapped f (Some x) e = absurd cc

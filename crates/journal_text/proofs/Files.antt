@@ -13,6 +13,7 @@ use Rattle.dp_base.proofs.Fields.{AreBytes-take}
 use Rattle.dp_base.proofs.Lists.{all_append}
 use Rattle.dp_base.proofs.Records.{header_code}
 use Rattle.dp_base.proofs.Sizes.{length-header}
+use Rattle.guest_state.proofs.Many.{none_mapped}
 use Rattle.journal_text.specs.Reading.{IsMadeOf, IsTail, Reading, Tail, end, ending, first_bytes, journal_of, reading_of, reads, reads_in, tail_at}
 use Rattle.journal_text.specs.Records.{IsRecord, Next, Record, bad, body_of, ended, fitting_at, found, list_from, next_at, next_of, record_bytes}
 use Rattle.journal_text.proofs.Records.{fitting_found, fitting_taken, next_behind_closed, next_none, next_of_body, next_some, none_next}
@@ -23,10 +24,6 @@ use Rattle.journal_text.proofs.Lists.{Stops, list_found, list_of, list_stops, li
 mapped : {A B : Type 0} (f : A → B) (o : Option A) (y : B) → option_map f o ≡ Some y → (x : A) × (o ≡ Some x) × (f x ≡ y)
 mapped f (Some x) y e = (x, refl, cc)
 mapped f None y e = absurd cc
-
-mapped_none : {A B : Type 0} (f : A → B) (o : Option A) → option_map f o ≡ None → o ≡ None
-mapped_none f (Some x) e = absurd cc
-mapped_none f None e = refl
 
 tail_taken : (next : Next) (place number : ℕ) → Stops next → IsTail next place number (tail_at next place number)
 tail_taken ended place number stops = refl
@@ -97,7 +94,7 @@ pub no_journal : (bytes : List ℕ) → (reads bytes ≡ None) ↔ (header_at (f
 unfolding reads
 no_journal bytes =
     let f : List ℕ × List ℕ → Reading = λ h. reading_of h.0 (length (first_bytes bytes)) (list_from h.1) in
-    (λ e. mapped_none f (header_at (first_bytes bytes)) e, λ e. ap (option_map f) e)
+    (λ e. none_mapped f (header_at (first_bytes bytes)) e, λ e. ap (option_map f) e)
 
 pub reads_behind : (bytes guest behind : List ℕ) → header_at (first_bytes bytes) ≡ Some (guest, behind) → reads bytes ≡ Some (reading_of guest (length (first_bytes bytes)) (list_from behind))
 unfolding reads

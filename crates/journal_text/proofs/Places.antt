@@ -9,6 +9,7 @@ use Rattle.dp_base.specs.Field.{AreBytes}
 use Rattle.dp_base.specs.Journal.{Epoch, epoch_body_at, record_of}
 use Rattle.dp_base.proofs.Fields.{AreBytes-drop, AreBytes-take}
 use Rattle.guest_state.specs.Checkpoint.{Checkpoint}
+use Rattle.guest_state.proofs.Many.{given, not_given}
 use Rattle.journal_text.specs.Reading.{first_bytes}
 use Rattle.journal_text.specs.Records.{Record, bad, body_of, ended, epoch, first_of, fitting_at, found, mark, mark_in, next_at, next_of, record_in}
 use Rattle.journal_text.proofs.Records.{fitting_taken, next_none, next_nothing, next_some, record_taken}
@@ -38,13 +39,6 @@ took file at body rest are inside fits =
       bytes = t.2;
     }
 
--- what a call gave, as the definition says it
-given : {A B : Type 0} (f : A → B) (o : Option A) (x : A) (r : Option B) → o ≡ Some x → option_map f o ≡ r → r ≡ Some (f x)
-given f o x r is clause = sym clause ∙ ap (option_map f) is
-
-given_none : {A B : Type 0} (f : A → B) (o : Option A) (r : Option B) → o ≡ None → option_map f o ≡ r → r ≡ None
-given_none f o r is clause = sym clause ∙ ap (option_map f) is
-
 -- a slice from a place on
 all_behind : (file : List ℕ) (at : ℕ) → take (length file - at) (drop at file) ≡ drop at file
 all_behind file at = take_all (length file - at) (drop at file) (omega (arith, length-drop at file))
@@ -57,7 +51,7 @@ took_by f o x bytes file at are file_is inside clause is =
 
 pub none_by : {A : Type 0} (f : A → List ℕ × List ℕ) (o : Option A) (bytes file : List ℕ) (at : ℕ) → file ≡ first_bytes bytes → option_map f o ≡ fitting_at (take (length file - at) (drop at file)) → o ≡ None → next_at (drop at (first_bytes bytes)) ≡ ended
 none_by f o bytes file at file_is clause is =
-    next_none (drop at (first_bytes bytes)) (subst (λ (b : List ℕ). fitting_at (drop at b) ≡ None) file_is (given_none f o (fitting_at (drop at file)) is (clause ∙ ap fitting_at (all_behind file at))))
+    next_none (drop at (first_bytes bytes)) (subst (λ (b : List ℕ). fitting_at (drop at b) ≡ None) file_is (not_given f o (fitting_at (drop at file)) is (clause ∙ ap fitting_at (all_behind file at))))
 
 -- ---- a record
 

@@ -9,6 +9,7 @@ use Rattle.disk_model.specs.Input.{Input, ReadClock, is_at_end, taken}
 use Rattle.guest_kernel.specs.Answers.{bytes_read}
 use Rattle.supply.specs.Windows.{bytes_left}
 use Rattle.supply.specs.declared.TheConstants.{MAX_ROOM}
+use Rattle.supply.proofs.Joined.{none-left}
 use Rattle.recorder.specs.Drawing.{Draw, Drew, DrewAll, HasDrawn, TookIf}
 use Rattle.recorder.proofs.Drawings.{TakeLaws}
 
@@ -65,12 +66,6 @@ module _ (laws : TakeLaws) where
   cancel [] ys zs is = is
   cancel (x ∷ xs) ys zs is = let rest : xs ++ ys ≡ xs ++ zs = cc in cancel xs ys zs rest
 
-  none_left : (left : List (List ℕ)) → is_at_end left ≡ true → bytes_left left ≡ []
-  unfolding bytes_left
-  none_left [] is = refl
-  none_left ([] ∷ rest) is = refl
-  none_left ((b ∷ more) ∷ rest) is = absurd cc
-
   module _ (draws : List Draw) (answers : List Answer) (i j : Input) (drawn : HasDrawn draws answers i j) where
     given_left : drawn.1.0 ++ bytes_left j.left ≡ bytes_left i.left
     given_left =
@@ -87,5 +82,5 @@ module _ (laws : TakeLaws) where
     at_end first before after is =
         let there = left_all draws i j drawn.0 in
         let ends = drawn.1.2.ends before after is in
-        let none : bytes_left j.left ≡ [] = none_left j.left (there.seen first ends.1) in
+        let none : bytes_left j.left ≡ [] = none-left j.left (there.seen first ends.1) in
         ends.0 ∙ sym (append-nil drawn.1.0) ∙ ap (λ (l : List ℕ). drawn.1.0 ++ l) (sym none) ∙ given_left

@@ -32,7 +32,7 @@ joined-left room (suc n) i =
     ∙ ap (λ (l : List ℕ). taken room i.left ++ l) (joined-left room n (took room i))
     ∙ one-take room i.left
 
-none-left : (left : List (List ℕ)) → is_at_end left ≡ true → bytes_left left ≡ []
+pub none-left : (left : List (List ℕ)) → is_at_end left ≡ true → bytes_left left ≡ []
 unfolding bytes_left
 none-left [] end = refl
 none-left ([] ∷ rest) end = refl
