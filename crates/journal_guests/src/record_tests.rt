@@ -2,7 +2,7 @@
 use super::mark_of_start;
 use std::alloc::Global;
 use std::test::Fail;
-use test_files::{EXITS, replaced};
+use test_files::{EXITS, WRITES, replaced};
 use test_journals::{Kind, records_of, seen};
 
 // Whether a body is of this kind and the journal ends behind its record. It is a bad record's else.
@@ -21,6 +21,14 @@ fn is_record(alloc: Global, body: &[u8], wanted: Kind) -> Result<bool, Fail> {
 // Whether a mark's body with some bytes replaced is a mark's.
 fn is_mark(alloc: Global, body: &[u8], at: usize, count: usize, by: &[u8]) -> Result<bool, Fail> {
     is_record(alloc, &replaced(alloc, body, at, count, by)?, Kind::Mark)
+}
+
+// The tables below count on it: 1 byte of kind, and 69,879 of the state.
+#[test]
+fn length_of_a_start(rt: HostRuntime) -> Result<(), Fail> {
+    assert_eq!(rt; mark_of_start(rt.alloc(), &EXITS)?.len(), 69_880);
+    assert_eq!(rt; mark_of_start(rt.alloc(), &WRITES)?.len(), 69_880);
+    Ok(())
 }
 
 // In each table a row is an offset in the body, how many bytes are replaced, by what, and whether it is a mark then.
