@@ -1,10 +1,11 @@
 //! The outside as it is: a journal's file with standard output and standard error, standard input with the system's clock,
 //! and files by name.
 //!
-//! Promises: each form meets its trait. Of content it tells nothing, so what is proved is that a call fails only where its own
-//! count of faults rises, or is at its greatest value, that no count falls, and that no count is touched by a call of another
-//! kind. What the system does is trusted, and tested. A read or a write that a signal interrupts is tried again, at most
-//! `MAX_TRIES` times in all. Stands on `disk_model` for the traits.
+//! Promises: each form meets its trait: a call fails only where its own count of faults rises, or is at its greatest value, no
+//! count falls, and no count is touched by a call of another kind. A reader or a writer whose bytes are known gives, or takes, the
+//! next of them. Of what the system's own files, streams and clock hold nothing is known: what the system does is trusted, and
+//! tested. A read or a write that a signal interrupts is tried again, at most `MAX_TRIES` times in all. Stands on `disk_model` for
+//! the traits.
 //!
 //! ```text
 //! let mut files = RealFiles::new(rt);

@@ -1,5 +1,5 @@
 // The system's files by name.
-ghost use Rattle.std.specs.Prelude.{◌≡◌, ◌≤◌, IfOk, length};
+ghost use Rattle.std.specs.Prelude.{◌≡◌, ◌≤◌, IfOk, IfSome, length, take};
 
 use crate::fault_count::FaultCount;
 use crate::transfer::fill;
@@ -55,6 +55,7 @@ impl Files for RealFiles {
 // The bytes that a reader gives up to its end, or the first of them, at most so many.
 fn first_bytes<R: Read>(alloc: Global, reader: &mut R, most: usize) -> Result<Vec<u8>, FetchFault>
     ensures few { IfOk result (λ bytes. length bytes.items ≤ most) }
+    ensures bytes { IfOk result (λ bytes. IfSome (R.remaining reader.old) (λ known. bytes.items ≡ take most known)) }
 {
     let mut bytes = vec![in alloc; 0u8; most]?;
     match fill(reader, &mut bytes) {

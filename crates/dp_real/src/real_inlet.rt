@@ -1,5 +1,6 @@
 // Standard input, and the system's clock.
-ghost use Rattle.std.specs.Prelude.{◌≡◌, ◌≤◌, ◌-◌, ◌^◌, ◌<◌, Ok, IfOk, IsErr, IsTrue, OnOk, false, length, drop, min};
+ghost use Rattle.std.specs.Prelude.{◌≡◌, ◌≤◌, ◌-◌, ◌^◌, ◌<◌, ◌⊎◌, Ok, IfOk, IsErr, IsTrue, OnErr, OnOk, false, length, drop, min, take};
+ghost use Rattle.std.specs.Io.KnownBytes.{Consumes, IsAtEnd, Keeps};
 ghost use Rattle.std.specs.Duration.{as_nanos};
 ghost use Rattle.disk_model.specs.Counts.{Rose};
 
@@ -62,7 +63,10 @@ impl<R: Read> Inlet for RealInlet<R> {
         ensures cause { IsErr result → Rose self.old.input_faults.faults self.new.input_faults.faults }
         ensures count { self.old.input_faults.faults ≤ self.new.input_faults.faults }
         ensures none { OnOk result (self.new.input_faults.faults ≡ self.old.input_faults.faults) }
+        ensures bytes { IfOk result (λ n. Consumes (R.remaining self.old.reader) (R.remaining self.new.reader) (take n buf.new)) }
+        ensures kept { OnErr result (Keeps (R.remaining self.old.reader) (R.remaining self.new.reader)) }
         ensures end { IfOk result (λ n. n ≡ 0 → 0 < length buf.old → IsTrue self.new.ended) }
+        ensures known_end { IfOk result (λ n. n ≡ 0 → 0 < length buf.old → IsTrue self.old.ended ⊎ IsAtEnd (R.remaining self.new.reader)) }
         ensures ended { IsTrue self.old.ended → (result ≡ Ok 0) × (self.new ≡ self.old) }
     {
         if self.ended || buf.is_empty() {
