@@ -7,35 +7,14 @@
 
 mod machine;
 mod row;
+#[cfg(test)]
+mod tests;
+mod verdict;
 
+use crate::verdict::{Verdict, judge};
 use dp_base::OutOfMemory;
-use std::alloc::Global;
 use std::io::{self, BufRead, BufReader};
 use std::process::ExitCode;
-
-// What a line of the input came to.
-#[derive(Clone, Copy, Debug, PartialEq, Eq)]
-enum Verdict {
-    Agrees,
-    Differs,
-    Unreadable,
-    // A comment, or nothing.
-    NoRow,
-}
-
-fn judge(alloc: Global, line: &str) -> Result<Verdict, OutOfMemory> {
-    if line.is_empty() || line.starts_with('#') {
-        return Ok(Verdict::NoRow);
-    }
-    let Some(row) = row::parse(line) else {
-        return Ok(Verdict::Unreadable);
-    };
-    if machine::agrees(alloc, &row)? {
-        Ok(Verdict::Agrees)
-    } else {
-        Ok(Verdict::Differs)
-    }
-}
 
 // Whether all rows agree.
 fn compare<R: Input + Print + AllocGlobal>(rt: &R) -> io::Result<bool> {

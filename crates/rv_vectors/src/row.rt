@@ -1,9 +1,6 @@
 // A row of the vectors, as it is read.
-ghost use Rattle.std.specs.Prelude.{◌≡◌, ◌≢◌, ◌⊎◌, IfSome, Some, codes, replicate};
-ghost use Rattle.std.specs.Int.{w32, from_be_bytes};
-ghost use Rattle.std.specs.Option.{option_map};
-ghost use Rattle.std.specs.Result.{result_ok};
-ghost use Rattle.hex.specs.Hex.{decode_sized};
+ghost use Rattle.std.specs.Prelude.{◌≡◌, option_map};
+ghost use Rattle.rv_vectors.specs.Reading.{after_from, before_at, distance, field_at, number, number_at, row_of, sixteen, sixteen_at};
 
 use hex::FromHex;
 
@@ -33,59 +30,103 @@ pub struct Row {
     pub after: After,
 }
 
-/// Returns the row that a line has, or `None` if it has none: a name, nine fields, and nothing behind them.
-pub fn parse(line: &str) -> Option<Row> {
-    let mut fields = line.split_whitespace();
-    let _name = fields.next()?;
-    let word = number(fields.next()?)?;
-    let before = Before {
-        x5: number(fields.next()?)?,
-        x6: number(fields.next()?)?,
-        bytes: sixteen(fields.next()?)?,
-    };
-    let after = After {
-        x5: number(fields.next()?)?,
-        x6: number(fields.next()?)?,
-        x7: number(fields.next()?)?,
-        distance: distance(fields.next()?)?,
-        bytes: sixteen(fields.next()?)?,
-    };
-    match fields.next() {
-        Some(_) => None,
-        None => Some(Row {
-            word,
-            before,
-            after,
-        }),
-    }
+/// Returns the row that a line has, or `None` if it has none: a name and nine fields, with one space between two of them.
+#[tactic(auto, unfolding(crate::specs::Reading::row_of))]
+pub fn parse(line: &str) -> Option<Row>
+    ensures { result ≡ row_of line.now }
+{
+    let (_name, rest) = field_at(line)?;
+    let (word, rest) = number_at(rest)?;
+    let (before, rest) = before_at(rest)?;
+    let after = after_from(rest)?;
+    Some(Row {
+        word,
+        before,
+        after,
+    })
+}
+
+#[tactic(auto, unfolding(crate::specs::Reading::before_at))]
+fn before_at(text: &str) -> Option<(Before, &str)>
+    ensures { option_map (λ x. (x.0, x.1.now)) result ≡ before_at text.now }
+{
+    let (x5, rest) = number_at(text)?;
+    let (x6, rest) = number_at(rest)?;
+    let (bytes, rest) = sixteen_at(rest)?;
+    Some((Before { x5, x6, bytes }, rest))
+}
+
+#[tactic(auto, unfolding(crate::specs::Reading::after_from))]
+fn after_from(text: &str) -> Option<After>
+    ensures { result ≡ after_from text.now }
+{
+    let (x5, rest) = number_at(text)?;
+    let (x6, rest) = number_at(rest)?;
+    let (x7, rest) = number_at(rest)?;
+    let (far, rest) = field_at(rest)?;
+    let distance = distance(far)?;
+    let bytes = sixteen(rest)?;
+    Some(After {
+        x5,
+        x6,
+        x7,
+        distance,
+        bytes,
+    })
+}
+
+#[tactic(auto, unfolding(crate::specs::Reading::number_at))]
+fn number_at(text: &str) -> Option<(u32, &str)>
+    ensures { option_map (λ x. (x.0, x.1.now)) result ≡ number_at text.now }
+{
+    let (field, rest) = field_at(text)?;
+    let value = number(field)?;
+    Some((value, rest))
+}
+
+#[tactic(auto, unfolding(crate::specs::Reading::sixteen_at))]
+fn sixteen_at(text: &str) -> Option<([u8; 16], &str)>
+    ensures { option_map (λ x. (x.0, x.1.now)) result ≡ sixteen_at text.now }
+{
+    let (field, rest) = field_at(text)?;
+    let bytes = sixteen(field)?;
+    Some((bytes, rest))
+}
+
+// A field up to the first space, and what stands behind that space.
+#[tactic(auto, unfolding(crate::specs::Reading::field_at))]
+fn field_at(text: &str) -> Option<(&str, &str)>
+    ensures { option_map (λ x. (x.0.now, x.1.now)) result ≡ field_at text.now }
+{
+    text.split_once(' ')
 }
 
 // Eight hexadecimal digits.
-fn number(text: &str) -> Option<u32>
-    ensures { result ≡ option_map (from_be_bytes w32) (result_ok (decode_sized text.now 4)) }
+#[tactic(auto, unfolding(crate::specs::Reading::number))]
+fn number(field: &str) -> Option<u32>
+    ensures { result ≡ number field.now }
 {
-    let bytes = <[u8; 4] as FromHex>::from_hex(text).ok()?;
+    let bytes = <[u8; 4] as FromHex>::from_hex(field).ok()?;
     Some(u32::from_be_bytes(bytes))
 }
 
 // Sixteen bytes, or `-` for zeros.
-fn sixteen(text: &str) -> Option<[u8; 16]>
-    ensures zeros { text.now ≡ codes "-" → result ≡ Some (replicate 16 0) }
-    ensures digits { text.now ≢ codes "-" → result ≡ result_ok (decode_sized text.now 16) }
+#[tactic(auto, unfolding(crate::specs::Reading::sixteen))]
+fn sixteen(field: &str) -> Option<[u8; 16]>
+    ensures { result ≡ sixteen field.now }
 {
-    if text == "-" {
+    if field == "-" {
         return Some([0; 16]);
     }
-    <[u8; 16] as FromHex>::from_hex(text).ok()
+    <[u8; 16] as FromHex>::from_hex(field).ok()
 }
 
 // How far pc went, by the digit that says whether it jumped.
-fn distance(text: &str) -> Option<u32>
-    ensures next { text.now ≡ codes "0" → result ≡ Some 4 }
-    ensures jump { text.now ≡ codes "1" → result ≡ Some 16 }
-    ensures other { IfSome result (λ d. (text.now ≡ codes "0") ⊎ (text.now ≡ codes "1")) }
+#[tactic(auto, unfolding(crate::specs::Reading::distance))]
+fn distance(field: &str) -> Option<u32>
+    ensures { result ≡ distance field.now }
 {
-    match text {
+    match field {
         "0" => Some(4),
         "1" => Some(16),
         _ => None,

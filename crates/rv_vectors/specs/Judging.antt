@@ -1,0 +1,15 @@
+-- What becomes of a line of the vectors. This program's own.
+use Rattle.std.specs.Prelude.{◌≡◌, ◌≢◌, ◌⊎◌, ℕ, List, [], ◌∷◌, Bool, true, Some, ◌==◌}
+use Rattle.rv_vectors.specs.declared.row.Row.{Row}
+use Rattle.rv_vectors.specs.declared.verdict.Verdict.{Verdict}
+use Rattle.rv_vectors.specs.declared.verdict.Verdict.TheVariants.{Agrees, Differs}
+use Rattle.rv_vectors.specs.Running.{outcome}
+
+-- a line of nothing, or one that begins with #
+abbrev pub is_rowless : List ℕ → Bool
+is_rowless [] = true
+is_rowless (first ∷ rest) = first == 0x23
+
+abbrev pub IsVerdictOn : Row → Verdict → Type 0
+IsVerdictOn row verdict =
+    ((verdict ≡ Agrees) × (outcome row.word row.before ≡ Some row.after)) ⊎ ((verdict ≡ Differs) × (outcome row.word row.before ≢ Some row.after))
