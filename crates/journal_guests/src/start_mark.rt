@@ -1,7 +1,8 @@
 // The mark of a guest's start.
-ghost use Rattle.std.specs.Prelude.{◌≡◌, ◌∷◌, IfOk};
+ghost use Rattle.std.specs.Prelude.{◌≡◌, ◌⊎◌, ◌∷◌, IfErr, IfOk};
 ghost use Rattle.journal_text.specs.declared.next.TheConstants.{MARK_KIND};
-ghost use Rattle.guest_kernel.specs.Start.{start_state};
+ghost use Rattle.elf_image.specs.Faults.{image_fault, number_of};
+ghost use Rattle.guest_kernel.specs.Start.{IsGuestFile, start_state};
 ghost use Rattle.checkpoint.specs.State.{state_bytes};
 
 use checkpoint::encode;
@@ -14,9 +15,11 @@ use std::alloc::Global;
 /// The body of a mark of the state in which a guest starts.
 ///
 /// # Errors
-/// Why the file isn't a guest's, or no memory.
+/// The first fault that applies to the file, or no memory.
 pub fn mark_of_start(alloc: Global, guest: &[u8]) -> Result<Vec<u8>, ImageFault>
-    ensures { IfOk result (λ body. body.items ≡ MARK_KIND ∷ state_bytes (start_state guest.now)) }
+    ensures body { IfOk result (λ body. body.items ≡ MARK_KIND ∷ state_bytes (start_state guest.now)) }
+    ensures accepted { IfOk result (λ body. IsGuestFile guest.now) }
+    ensures refused { IfErr result (λ fault. (fault ≡ ImageFault.OutOfMemory) ⊎ (image_fault guest.now ≡ number_of fault)) }
 {
     checkpoint::laws::a_start_state_is_encodable();
     let state = start_from_file(alloc, guest)?;
