@@ -1,4 +1,5 @@
-// Lines of each kind: the rows of qemu's run, and the same with one value changed or one field more or less.
+// Lines of each kind: a row of qemu's run, and the same with one value changed or one field more or less.
+use crate::compare;
 use crate::verdict::{Verdict, judge};
 use std::test::Fail;
 
@@ -115,6 +116,43 @@ const CASES: [(&str, Verdict); 27] = [
 fn lines_of_each_kind(rt: HostRuntime) -> Result<(), Fail> {
     for (line, verdict) in CASES {
         assert_eq!(rt; judge(rt.alloc(), line)?, verdict, "{line:?}");
+    }
+    Ok(())
+}
+
+// Rows, a comment and an empty line, of which the third differs and the sixth can't be read.
+const ROWS: &[u8] = b"\
+# x
+ADD 006283b3 00000001 00000000 - 00000001 00000000 00000001 0 -
+ADD 006283b3 00000001 00000000 - 00000001 00000000 00000002 0 -
+
+ADD 006283b3 00000800 522c6c89 - 00000800 522c6c89 522c7489 0 -
+ADD 006283b3
+";
+
+const SAID: &[u8] = b"\
+line 3 differs: ADD 006283b3 00000001 00000000 - 00000001 00000000 00000002 0 -
+line 6 can't be read: ADD 006283b3
+2 rows agree
+";
+
+#[test]
+fn rows_are_named(rt: HostRuntime) -> Result<(), Fail> {
+    let cases: [(&[u8], bool, &[u8]); 5] = [
+        (ROWS, false, SAID),
+        (b"", true, b"0 rows agree\n"),
+        (b"# x\n\n", true, b"0 rows agree\n"),
+        (b"x", false, b"line 1 can't be read: x\n0 rows agree\n"),
+        (
+            b"SUB 406283b3 00000001 00000001 - 00000001 00000001 00000001 0 -",
+            false,
+            b"line 1 differs: SUB 406283b3 00000001 00000001 - 00000001 00000001 00000001 0 -\n0 rows agree\n",
+        ),
+    ];
+    for (rows, all, said) in cases {
+        let mut written = Vec::new(rt.alloc());
+        assert_eq!(rt; compare(rt.alloc(), rows, &mut written)?, all);
+        assert_eq!(rt; written.as_slice(), said);
     }
     Ok(())
 }
