@@ -1,7 +1,8 @@
 // Files of guests, refused and accepted, recorded and replayed.
 use crate::changed_bytes::all_replaced;
+use crate::command::ran;
 use crate::replay_tests::{REPLAY, plays_as, recorded};
-use crate::run_tests::{RECORD, ran};
+use crate::run_tests::RECORD;
 use disk_mem::MemWorld;
 use disk_model::Stream;
 use dp_report::Status;
@@ -27,7 +28,7 @@ const TWO_SEGMENTS: [u8; 151] = [
 // The status of a recording of a file on a disk whose first call would fail, where it makes none, and sends this alone.
 fn recording_refused(rt: &HostRuntime, file: &[u8], line: &[u8]) -> Result<Status, Fail> {
     let failing = disk_of(rt.alloc(), b"", Failing::From(1))?;
-    let (after, status) = ran(rt, &RECORD, file, Failing::Never, failing)?;
+    let (after, status) = ran(rt, &RECORD, file, Failing::Never, &[], failing)?;
     let silent = after.disk_calls() == 0 && after.sent(Stream::Out).is_empty();
     if !silent || after.sent(Stream::Note) != line {
         return Err("the line of the fault alone".into());

@@ -1,7 +1,7 @@
 // Replays on memory forms: of recordings, and where calls fail.
 ghost use Rattle.std.specs.Prelude.{◌<◌};
 
-use crate::run_tests::ran;
+use crate::command::ran;
 use disk_mem::{Call, MemWorld};
 use disk_model::Stream;
 use dp_report::Status;
@@ -69,7 +69,7 @@ fn replays_as(
     sent: &[u8],
     noted: &[u8],
 ) -> Result<(Status, u8), Fail> {
-    let (after, status) = ran(rt, words, &[], Failing::Never, world)?;
+    let (after, status) = ran(rt, words, &[], Failing::Never, &[], world)?;
     is_right(&after, journal, sent, noted)?;
     Ok((status, status.number()))
 }
@@ -93,7 +93,7 @@ pub(crate) fn recorded(
     guest: &[u8],
 ) -> Result<(MemWorld, Status), Fail> {
     let empty = world_with(rt.alloc(), b"", Failing::Never, Failing::Never, 4096)?;
-    ran(rt, words, guest, Failing::Never, empty)
+    ran(rt, words, guest, Failing::Never, &[], empty)
 }
 
 // Of a journal, where some calls fail, and an emit takes so many bytes at most.
@@ -157,7 +157,7 @@ fn emit_fails(
 fn calls_of_writes(rt: &HostRuntime) -> Result<(usize, u64), Fail> {
     let journal = journal_of(rt.alloc(), &WRITES, &[NINE_STEPS])?;
     let world = world_with(rt.alloc(), &journal, Failing::Never, Failing::Never, 4096)?;
-    let (after, _) = ran(rt, REPLAY, &[], Failing::Never, world)?;
+    let (after, _) = ran(rt, REPLAY, &[], Failing::Never, &[], world)?;
     Ok((journal.len(), after.disk_calls()))
 }
 
@@ -277,7 +277,7 @@ fn replay_of(rt: &HostRuntime, first: &MemWorld) -> Result<(Status, bool, bool),
         Failing::Never,
         4096,
     )?;
-    let (second, status) = ran(rt, REPLAY, &[], Failing::Never, world)?;
+    let (second, status) = ran(rt, REPLAY, &[], Failing::Never, &[], world)?;
     let (same_sent, same_noted) = sent_again(first, &second)?;
     Ok((status, same_sent, same_noted))
 }

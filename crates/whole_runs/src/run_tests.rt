@@ -1,11 +1,12 @@
 // The top call on memory forms.
+use crate::command::ran;
 use disk_mem::MemWorld;
 use disk_model::Stream;
-use dp_top::{Status, run};
+use dp_top::Status;
 use std::alloc::Global;
 use std::test::Fail;
 use test_files::{EXITS, WRITES};
-use test_worlds::{Failing, disk_of, file_named, inlet_of, texts_of, world_of};
+use test_worlds::{Failing, disk_of, world_of};
 
 // The header before the guest, and what stands behind it: one epoch of one slice, thread 1 for 3 steps, and the closed
 // gate.
@@ -24,21 +25,6 @@ pub const NOTE_OF_EXITS: &[u8] =
 
 const USAGE: &[u8] =
     b"usage: dpcli record GUEST JOURNAL [options], replay JOURNAL [--workers N], inspect JOURNAL, selftest N\n";
-
-/// What a run with these words comes to, where `g` is this guest and the world has this disk.
-pub(crate) fn ran(
-    rt: &HostRuntime,
-    words: &[&str],
-    guest: &[u8],
-    fetch: Failing,
-    world: MemWorld,
-) -> Result<(MemWorld, Status), Fail> {
-    let alloc = rt.alloc();
-    let texts = texts_of(alloc, words)?;
-    let mut files = file_named(alloc, "g", guest, fetch)?;
-    let mut inlet = inlet_of(alloc, &[], &[], Failing::Never)?;
-    Ok(run(rt, alloc, &texts, &mut files, &mut inlet, world))
-}
 
 /// The journal of `EXITS` that has one epoch, of 126 bytes.
 pub(crate) fn journal_of_exits(alloc: Global) -> Result<Vec<u8>, Fail> {
@@ -84,14 +70,14 @@ fn came_to(
     note: &[u8],
 ) -> Result<Came, Fail> {
     let empty = world_of(rt.alloc(), disk, sink, 4096)?;
-    let (after, status) = ran(rt, words, guest, Failing::Never, empty)?;
+    let (after, status) = ran(rt, words, guest, Failing::Never, &[], empty)?;
     Ok(look_at(&after, status, out, note))
 }
 
 // A recording of a guest on a disk that has these bytes.
 fn recorded_on(rt: &HostRuntime, guest: &[u8], disk: &[u8]) -> Result<(MemWorld, Status), Fail> {
     let used = disk_of(rt.alloc(), disk, Failing::Never)?;
-    ran(rt, &RECORD, guest, Failing::Never, used)
+    ran(rt, &RECORD, guest, Failing::Never, &[], used)
 }
 
 // Whether a recording leaves these bytes on a disk that had these first.
@@ -166,7 +152,7 @@ fn refused_as(
     note: &[u8],
 ) -> Result<((Status, u8), u64, bool), Fail> {
     let failing = world_of(rt.alloc(), Failing::From(1), sink, 4096)?;
-    let (after, status) = ran(rt, words, &[], Failing::From(fetch), failing)?;
+    let (after, status) = ran(rt, words, &[], Failing::From(fetch), &[], failing)?;
     let came = look_at(&after, status, b"", note);
     Ok((came.status, came.disk_calls, came.is_note))
 }

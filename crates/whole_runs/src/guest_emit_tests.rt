@@ -1,10 +1,9 @@
 // Each emit fails in turn, by itself and with all behind it, of a guest that reads its input and of one with two threads.
 use crate::stopped::{Faults, Left, what_is_left};
 use dp_report::Status;
-use input_guests::FILTER;
+use guest_runs::{FILTER, PRODUCER_AND_CONSUMER};
 use std::test::Fail;
 use test_worlds::Failing;
-use thread_guests::PRODUCER_AND_CONSUMER;
 
 fn failing(sink: Failing, piece: u32) -> Faults {
     Faults {

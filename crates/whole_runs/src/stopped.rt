@@ -1,14 +1,15 @@
 // Recordings that stop at a call, and replays of what a crash leaves of them.
 ghost use Rattle.std.specs.Prelude.{◌<◌};
 
+use crate::command::ran;
+use crate::replay_tests::REPLAY;
 use disk_mem::MemWorld;
 use disk_model::Stream;
 use dp_report::Status;
-use dp_top::run;
 use std::alloc::Global;
 use std::test::Fail;
 use test_files::file_of;
-use test_worlds::{Failing, disk_of, file_named, inlet_of, texts_of, world_of};
+use test_worlds::{Failing, disk_of, world_of};
 
 // Which calls of a recording fail, and how many bytes one emit takes at most.
 #[derive(Drop)]
@@ -16,21 +17,6 @@ pub(crate) struct Faults {
     pub disk: Failing,
     pub sink: Failing,
     pub piece: u32,
-}
-
-// A run by these words, where `g` is the file of these words and the input has these pieces.
-fn ran(
-    rt: &HostRuntime,
-    asked: &[&str],
-    words: &[u32],
-    pieces: &[&[u8]],
-    world: MemWorld,
-) -> Result<(MemWorld, Status), Fail> {
-    let alloc = rt.alloc();
-    let texts = texts_of(alloc, asked)?;
-    let mut files = file_named(alloc, "g", &file_of(alloc, words)?, Failing::Never)?;
-    let mut inlet = inlet_of(alloc, pieces, &[], Failing::Never)?;
-    Ok(run(rt, alloc, &texts, &mut files, &mut inlet, world))
 }
 
 // What a recording came to, what it sent, and what a crash leaves behind it: the image of each pick, without what is pending, as it
@@ -63,8 +49,9 @@ pub(crate) fn recording(
     faults: Faults,
 ) -> Result<Stopped, Fail> {
     let alloc = rt.alloc();
+    let file = file_of(alloc, words)?;
     let world = world_of(alloc, faults.disk, faults.sink, faults.piece.max(1))?;
-    let (after, status) = ran(rt, asked, words, pieces, world)?;
+    let (after, status) = ran(rt, asked, &file, Failing::Never, pieces, world)?;
     images_of(alloc, &after, status)
 }
 
@@ -88,7 +75,7 @@ fn look_at(alloc: Global, world: &MemWorld, status: Status) -> Result<Played, Fa
 pub(crate) fn replay(rt: &HostRuntime, image: &[u8]) -> Result<Played, Fail> {
     let alloc = rt.alloc();
     let world = disk_of(alloc, image, Failing::Never)?;
-    let (after, status) = ran(rt, &["dpcli", "replay", "j"], &[], &[], world)?;
+    let (after, status) = ran(rt, REPLAY, &[], Failing::Never, &[], world)?;
     look_at(alloc, &after, status)
 }
 

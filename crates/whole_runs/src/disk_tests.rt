@@ -5,11 +5,10 @@
 // then its gate is opened: the first by the calls 9 to 12, each other one by the next four. Its output is sent behind that.
 use crate::stopped::{Faults, Left, NO_JOURNAL, Plays, what_is_left};
 use dp_report::Status;
-use input_guests::FILTER;
+use guest_runs::{FILTER, PRODUCER_AND_CONSUMER};
 use std::test::Fail;
 use test_files::WRITES_WORDS;
 use test_worlds::Failing;
-use thread_guests::PRODUCER_AND_CONSUMER;
 
 // Of so many epochs: the calls up to the last.
 fn calls_of(epochs: u8) -> u64 {

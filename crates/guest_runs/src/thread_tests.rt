@@ -1,56 +1,8 @@
 // Guests of several threads, recorded in several epochs and slices, and replayed. The values come from a model apart from ours, which
 // runs the words by the ISA's text and the schedule's rules.
 use super::*;
-use disk_mem::MemWorld;
-use disk_model::Stream;
-use dp_report::Status;
-use dp_top::run;
+use crate::recorded::{STEPS, ok, recorded};
 use std::test::Fail;
-use test_files::file_of;
-use test_worlds::{Failing, disk_of, file_named, inlet_of, texts_of};
-
-// A run with these words, where `g` is this file.
-pub(crate) fn ran(
-    rt: &HostRuntime,
-    words: &[&str],
-    file: &[u8],
-    world: MemWorld,
-) -> Result<(MemWorld, Status), Fail> {
-    let alloc = rt.alloc();
-    let texts = texts_of(alloc, words)?;
-    let mut files = file_named(alloc, "g", file, Failing::Never)?;
-    let mut inlet = inlet_of(alloc, &[], &[], Failing::Never)?;
-    Ok(run(rt, alloc, &texts, &mut files, &mut inlet, world))
-}
-
-// What a recording came to and how long its journal is, where it sends this on Out and this on Note, and where its replay sends the
-// same.
-pub(crate) fn recorded(
-    rt: &HostRuntime,
-    words: &[u32],
-    epoch: &str,
-    slice: &str,
-    out: &[u8],
-    note: &[u8],
-) -> Result<(Status, Status, usize), Fail> {
-    let alloc = rt.alloc();
-    let file = file_of(alloc, words)?;
-    let asked = [
-        "dpcli", "record", "g", "j", "--epoch", epoch, "--slice", slice,
-    ];
-    let empty = disk_of(alloc, b"", Failing::Never)?;
-    let (after, status) = ran(rt, &asked, &file, empty)?;
-    if after.sent(Stream::Out) != out || after.sent(Stream::Note) != note {
-        return Err("the recording's output and its note".into());
-    }
-    let len = after.bytes().len();
-    let disk = disk_of(alloc, after.bytes(), Failing::Never)?;
-    let (replayed, answer) = ran(rt, &["dpcli", "replay", "j"], &[], disk)?;
-    if replayed.sent(Stream::Out) != out || replayed.sent(Stream::Note) != note {
-        return Err("the replay's output and its note".into());
-    }
-    Ok((status, answer, len))
-}
 
 #[test]
 fn two_adders(rt: HostRuntime) -> Result<(), Fail> {
@@ -88,12 +40,8 @@ fn two_adders(rt: HostRuntime) -> Result<(), Fail> {
         ),
     ];
     for (epoch, slice, len, note) in cases {
-        let came = recorded(&rt, &ADDERS, epoch, slice, b"8\n", note)?;
-        assert_eq!(rt;
-            came,
-            (Status::Ok, Status::Ok, len),
-            "epoch {epoch} slice {slice}"
-        );
+        let came = recorded(&rt, &ADDERS, &[], &[], (epoch, slice), b"8\n", note)?;
+        assert_eq!(rt; came, ok(len, 0), "epoch {epoch} slice {slice}");
     }
     Ok(())
 }
@@ -134,12 +82,16 @@ fn a_producer_and_a_consumer(rt: HostRuntime) -> Result<(), Fail> {
         ),
     ];
     for (epoch, slice, len, note) in cases {
-        let came = recorded(&rt, &PRODUCER_AND_CONSUMER, epoch, slice, b"abc\n", note)?;
-        assert_eq!(rt;
-            came,
-            (Status::Ok, Status::Ok, len),
-            "epoch {epoch} slice {slice}"
-        );
+        let came = recorded(
+            &rt,
+            &PRODUCER_AND_CONSUMER,
+            &[],
+            &[],
+            (epoch, slice),
+            b"abc\n",
+            note,
+        )?;
+        assert_eq!(rt; came, ok(len, 0), "epoch {epoch} slice {slice}");
     }
     Ok(())
 }
@@ -174,12 +126,8 @@ fn a_deadlock(rt: HostRuntime) -> Result<(), Fail> {
         ),
     ];
     for (epoch, slice, len, note) in cases {
-        let came = recorded(&rt, &DEADLOCKED, epoch, slice, b"x\n", note)?;
-        assert_eq!(rt;
-            came,
-            (Status::Ok, Status::Ok, len),
-            "epoch {epoch} slice {slice}"
-        );
+        let came = recorded(&rt, &DEADLOCKED, &[], &[], (epoch, slice), b"x\n", note)?;
+        assert_eq!(rt; came, ok(len, 0), "epoch {epoch} slice {slice}");
     }
     Ok(())
 }
@@ -188,7 +136,7 @@ fn a_deadlock(rt: HostRuntime) -> Result<(), Fail> {
 fn a_wait_that_nobody_ends(rt: HostRuntime) -> Result<(), Fail> {
     let note =
         b"epochs 1 squashes 0 steps 3 sent 0 end deadlock state 1601e67ec84ac914eba86160b97697b9bd23ec162f55374b236a88d9e8bc977a\n";
-    let came = recorded(&rt, &WAITS_ALONE, "20000", "1000", b"", note)?;
-    assert_eq!(rt; came, (Status::Ok, Status::Ok, 126));
+    let came = recorded(&rt, &WAITS_ALONE, &[], &[], STEPS, b"", note)?;
+    assert_eq!(rt; came, ok(126, 0));
     Ok(())
 }

@@ -1,8 +1,5 @@
-//! Guests of several threads, in machine words: what a guest's file has behind its headers, from the entry on. Each shares words
-//! on the first page of its stack, from 7FFF0000 (hexadecimal) on.
-//!
-//! They are recorded and replayed by the tests of this crate, whose values come from a model of the machine apart from ours.
-#![tactic(auto)]
+// Guests of several threads, in machine words: what a guest's file has behind its headers, from the entry on. Each shares words
+// on the first page of its stack, from 7FFF0000 (hexadecimal) on.
 
 /// Two threads that add 1 four times each to one word, under a lock of LR, SC, futex_wait and futex_wake. Thread 1 waits for
 /// thread 2 by its clear word, and writes the sum as a digit and a line feed.
@@ -173,6 +170,3 @@ pub const DEADLOCKED: [u32; 30] = [
 
 /// A thread that waits on the word at its stack pointer, which is as it expects, and that nobody wakes.
 pub const WAITS_ALONE: [u32; 3] = [0x0001_0513, 0x0050_0893, 0x0000_0073];
-
-#[cfg(test)]
-mod tests;

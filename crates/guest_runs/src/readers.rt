@@ -1,8 +1,5 @@
-//! Guests that read input and call for the clock, in machine words: what a guest's file has behind its headers, from the entry on.
-//! They read to the stack, or to its first pages, from 7FFF0000 (hexadecimal) on.
-//!
-//! They are recorded and replayed by the tests of this crate, whose values come from a model of the machine apart from ours.
-#![tactic(auto)]
+// Guests that read input and call for the clock, in machine words. They read to the stack, or to its first pages, from 7FFF0000
+// (hexadecimal) on.
 
 /// Reads ten bytes, reads ten bytes again, and exits with the second answer.
 pub const READS_TWICE: [u32; 8] = [
@@ -184,16 +181,3 @@ pub const THREE_READINGS: [u32; 16] = [
     0x0010_0893,
     0x0000_0073,
 ];
-
-#[cfg(test)]
-mod clock_tests;
-#[cfg(test)]
-mod fault_tests;
-#[cfg(test)]
-mod filter_tests;
-#[cfg(test)]
-mod journal_tests;
-#[cfg(test)]
-mod read_tests;
-#[cfg(test)]
-mod recorded;
