@@ -1,4 +1,5 @@
-// Reads and writes that go on where a signal interrupts them, or where only a part was done.
+// Reads and writes that go on where a signal interrupts them, or where only a part was done. What is said of bytes holds where they
+// are known: of a system's own file they aren't.
 ghost use Rattle.std.specs.Prelude.{◌≡◌, ◌<◌, ◌≤◌, IfOk, OnErr, OnOk, length, drop, take};
 ghost use Rattle.std.specs.Io.KnownBytes.{Appends, Consumes, IsAtEnd, ReadConsumes, WriteAppends};
 ghost use Rattle.dp_real.specs.Transfer.{AppendsStart, ConsumesStart};
@@ -30,6 +31,8 @@ pub fn read_some<R: Read>(reader: &mut R, buf: &mut [u8]) -> Result<usize, Faile
 /// The same, of at most 65,536 bytes. The buffer stays as it is behind those that were given, and whole if the read fails.
 pub fn read_start<R: Read>(reader: &mut R, buf: &mut [u8]) -> Result<usize, Failed>
     ensures within { IfOk result (λ n. n ≤ length buf.old) }
+    ensures piece { IfOk result (λ n. n ≤ 65536) }
+    ensures kept { OnErr result (buf.new ≡ buf.old) }
     ensures rest { IfOk result (λ n. drop n buf.new ≡ drop n buf.old) }
     ensures bytes { ReadConsumes (R.remaining reader.old) (R.remaining reader.new) result buf.new }
 {
@@ -42,7 +45,7 @@ pub fn read_start<R: Read>(reader: &mut R, buf: &mut [u8]) -> Result<usize, Fail
 }
 
 /// Reads until the buffer is full or the reader is at its end. Returns how many bytes were given. If a read fails, those that were
-/// given before it stand at the start of the buffer.
+/// given before it, fewer than the buffer's, stand at its start.
 pub fn fill<R: Read>(reader: &mut R, buf: &mut [u8]) -> Result<usize, Failed>
     ensures within { IfOk result (λ n. n ≤ length buf.old) }
     ensures bytes { IfOk result (λ n. Consumes (R.remaining reader.old) (R.remaining reader.new) (take n buf.new)) }
@@ -80,7 +83,7 @@ pub fn write_some<W: Write>(writer: &mut W, bytes: &[u8]) -> Result<usize, Faile
     Err(Failed)
 }
 
-/// Writes all of the bytes. If a write fails, the first of them were written, or none.
+/// Writes all of the bytes. If a write fails, the first of them were written, or none, and not all.
 pub fn write_whole<W: Write>(writer: &mut W, bytes: &[u8]) -> Result<(), Failed>
     ensures whole { OnOk result (Appends (W.contents writer.old) (W.contents writer.new) bytes.now) }
     ensures part { OnErr result (AppendsStart (W.contents writer.old) (W.contents writer.new) bytes.now) }

@@ -1,4 +1,4 @@
--- What becomes of a line of the vectors. This program's own.
+-- Which lines of the vectors are no rows, and what becomes of a row. This program's own.
 use Rattle.std.specs.Prelude.{◌≡◌, ◌≢◌, ◌⊎◌, ℕ, List, [], ◌∷◌, Bool, true, Some, ◌==◌}
 use Rattle.rv_vectors.specs.declared.row.Row.{Row}
 use Rattle.rv_vectors.specs.declared.verdict.Verdict.{Verdict}
@@ -10,6 +10,7 @@ abbrev pub is_rowless : List ℕ → Bool
 is_rowless [] = true
 is_rowless (first ∷ rest) = first == 0x23
 
+-- it agrees exactly where its instruction does what it says, which no trap and no call does
 abbrev pub IsVerdictOn : Row → Verdict → Type 0
 IsVerdictOn row verdict =
     ((verdict ≡ Agrees) × (outcome row.word row.before ≡ Some row.after)) ⊎ ((verdict ≡ Differs) × (outcome row.word row.before ≢ Some row.after))

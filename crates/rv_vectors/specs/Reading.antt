@@ -26,7 +26,7 @@ number field = option_map (from_be_bytes w32) (result_ok (decode_sized field 4))
 unfoldable pub sixteen : List ℕ → Option (List ℕ)
 sixteen field = if bytes_eq field (codes "-") then Some (replicate 16 0) else result_ok (decode_sized field 16)
 
--- how far pc went, by the digit that says whether it jumped
+-- how far pc went: 1 for sixteen bytes, 0 for four
 unfoldable pub distance : List ℕ → Option ℕ
 distance field = if bytes_eq field (codes "0") then Some 4 else if bytes_eq field (codes "1") then Some 16 else None
 

@@ -21,7 +21,7 @@ blank = record { pc = PC; x = replicate 31 0; held = None }
 abbrev pub first_hart : Before → Hart
 first_hart before = with_register (with_register (with_register blank 5 before.x5) 6 before.x6) 7 X7
 
--- the bytes of the data page, up to the sixteen
+-- the bytes of the data page, up to the last of the sixteen
 abbrev pub contents : List ℕ → List ℕ
 contents sixteen = replicate 0xf8 0 ++ sixteen
 

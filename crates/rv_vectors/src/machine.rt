@@ -64,7 +64,7 @@ fn hart_of(before: &Before) -> Hart
     hart
 }
 
-// The bytes of the data page, up to the sixteen.
+// The bytes of the data page, up to the last of the sixteen.
 fn contents(sixteen: &[u8; 16]) -> [u8; 0x108]
     ensures bytes { result ≡ contents sixteen.now }
     ensures size { length result ≡ 0x108 }

@@ -121,7 +121,7 @@ fn sixteen(field: &str) -> Option<[u8; 16]>
     <[u8; 16] as FromHex>::from_hex(field).ok()
 }
 
-// How far pc went, by the digit that says whether it jumped.
+// How far pc went: 1 for sixteen bytes, 0 for four.
 #[tactic(auto, unfolding(crate::specs::Reading::distance))]
 fn distance(field: &str) -> Option<u32>
     ensures { result ≡ distance field.now }

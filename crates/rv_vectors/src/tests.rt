@@ -3,11 +3,16 @@ use crate::compare;
 use crate::verdict::{Verdict, judge};
 use std::test::Fail;
 
-const CASES: [(&str, Verdict); 27] = [
+const CASES: [(&str, Verdict); 29] = [
     ("", Verdict::NoRow),
     ("#", Verdict::NoRow),
     (
         "# ADD 006283b3 00000001 00000000 - 00000001 00000000 00000001 0 -",
+        Verdict::NoRow,
+    ),
+    // a comment whose fields would be a row
+    (
+        "#ADD 006283b3 00000800 522c6c89 - 00000800 522c6c89 522c7489 0 -",
         Verdict::NoRow,
     ),
     // ADD, and each value of it changed
@@ -54,6 +59,10 @@ const CASES: [(&str, Verdict); 27] = [
     ),
     (
         " 006283b3 00000800 522C6C89 - 00000800 522c6c89 522c7489 0 -",
+        Verdict::Agrees,
+    ),
+    (
+        "A\tB 006283b3 00000800 522c6c89 - 00000800 522c6c89 522c7489 0 -",
         Verdict::Agrees,
     ),
     // bytes before it that aren't behind it

@@ -14,11 +14,11 @@ use std::alloc::Global;
 pub enum Verdict {
     /// Its instruction does what the row says.
     Agrees,
-    /// Its instruction does something else.
+    /// Its instruction does something else, which may be a trap or a call, or its word is none.
     Differs,
-    /// It is no row.
+    /// It should be a row, and has none.
     Unreadable,
-    /// A comment, or nothing.
+    /// It is empty, or a comment, which begins with `#`.
     NoRow,
 }
 
