@@ -7,9 +7,6 @@ use Rattle.dp_base.specs.declared.out_of_memory.OutOfMemory.{OutOfMemory}
 use Rattle.checkpoint.specs.Sink.{Adds}
 
 module _ {S : Type 0} (holds : S → List ℕ → Type 0) where
-  pub adds_nothing : (a : S) → Adds holds a a (Ok tt) []
-  adds_nothing a before held = subst (holds a) (sym (append-nil before)) held
-
   pub adds_then : (a b c : S) (x y : List ℕ) → Adds holds a b (Ok tt) x → Adds holds b c (Ok tt) y → Adds holds a c (Ok tt) (x ++ y)
   adds_then a b c x y first second before held = subst (holds c) (append_assoc before x y) (second (before ++ x) (first before held))
 

@@ -221,9 +221,6 @@ module _ (laws : TurnLaws) (s : State) (tid : Tid) (hart : Hart) (clear : ℕ) (
   traps_more n m (ends.Trap t cause value) more within =
       let parts = and_parts _ _ within in and_from _ _ parts.0 (le-leb t.0 m (let few = leb-true t.0 n parts.1 in omega (arith, few, more)))
 
-  spawned : Thread
-  spawned = Runs (spawned_hart (a0 hart) (a1 hart) (a2 hart)) (a3 hart)
-
   few_threads : length s.threads ≤ 1024
   few_threads =
       let size = length-set s.threads (tid.0 - 1) (Runs (unreserved hart) clear) in

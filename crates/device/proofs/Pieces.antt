@@ -1,5 +1,5 @@
 -- Several texts, sent one behind another.
-use Rattle.std.proofs.Common.{◌≡◌, ◌<◌, ◌≤◌, ℕ, ◌+◌, min, Bool, true, false, List, [], ◌∷◌, ◌++◌, length, take, drop, map, Bor, refl, sym, ◌∙◌, ap, subst, append_assoc, arith}
+use Rattle.std.proofs.Common.{◌≡◌, ◌<◌, ℕ, ◌+◌, min, Bool, true, false, List, [], ◌∷◌, ◌++◌, length, take, drop, map, Bor, refl, sym, ◌∙◌, ap, subst, append_assoc, arith}
 use Rattle.std.specs.Prelude.{get_or}
 use Rattle.std.specs.List.{concat}
 use Rattle.std.proofs.Math.Seq.{take-append-add}
@@ -11,7 +11,6 @@ use Rattle.disk_model.specs.History.{History, IsImage, Pending}
 use Rattle.disk_model.proofs.Moments.{always-then, always-weaker}
 use Rattle.disk_model.specs.Steps.{stream_of}
 use Rattle.device.specs.Sending.{IsOutSent, IsSending, IsSent, Sent, joined, other}
-use Rattle.device.proofs.Sends.{none_sent}
 
 -- a prefix of a text, with the number of its bytes
 prefix_same : (n : ℕ) (a more : List ℕ) → take (min n (length a)) (a ++ more) ≡ take n a
@@ -40,9 +39,6 @@ module _ (to : Stream) where
   behind_whole a b n s t one whole image sent is = (subst (λ (p : Pending). IsImage p image) one.pending is.0, out_behind to a b s t sent whole one.same is.1)
 
   -- ---- the texts
-
-  pub nothing_sent : (s : History) → Sent to [] true s s
-  nothing_sent s = (0, none_sent to [] s, λ ok. omega arith)
 
   -- a whole text, and then another
   pub both_sent : (a b : List ℕ) (ok : Bool) (s t u : History) → Sent to a true s t → Sent to b ok t u → Sent to (a ++ b) ok s u
@@ -99,6 +95,3 @@ module _ (pieces : List (Bor (List ℕ))) where
       let up_to : Sent to (joined (take (i + 1) pieces)) false s u = subst (λ (l : List ℕ). Sent to l false s u) (sym (joined_more i d within))
       (both_sent to (joined (take i pieces)) (get_or pieces i d).now false s t u so_far piece) in
       subst (λ (l : List ℕ). Sent to l false s u) (sym (joined-cut (i + 1))) (prefix_sent to (joined (take (i + 1) pieces)) (joined (drop (i + 1) pieces)) s u up_to)
-
-  pub all_sent : (to : Stream) (i : ℕ) → length pieces ≤ i → (s t : History) → Sent to (joined (take i pieces)) true s t → Sent to (joined pieces) true s t
-  all_sent to i past s t is = subst (λ (l : List (Bor (List ℕ))). Sent to (joined l) true s t) (take_all i pieces past) is

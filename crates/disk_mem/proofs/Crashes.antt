@@ -26,10 +26,6 @@ or-true : (b : Bool) (x : ℕ) → (if b || true then 1 else x) ≡ 1
 or-true true x = refl
 or-true false x = refl
 
-or-false : (b : Bool) (x : ℕ) → (if b || false then 1 else x) ≡ (if b then 1 else x)
-or-false true x = refl
-or-false false x = refl
-
 -- an offset in the range
 in-range : (at count : ℕ) (p : Pending) (i : ℕ) → at ≤ i → i < at + count → byte_or_one (write_pending at count p) i ≡ 1
 in-range at count p i from to =

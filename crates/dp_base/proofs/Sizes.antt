@@ -48,12 +48,6 @@ AreBytes-header guest fits =
     (AreBytes-cons 0x31 (length_prefixed guest) (omega arith) size))) in
     AreBytes-cons open_gate (header_body guest) (omega arith) word
 
-pub AreBytes-record_of : (body : List ℕ) → IsBody body → AreBytes (record_of body)
-AreBytes-record_of body fits = AreBytes-cons open_gate (length_prefixed body) (omega arith) (AreBytes-length_prefixed 4 body fits.2)
-
-pub AreBytes-frame : (body : List ℕ) → IsBody body → AreBytes (frame body)
-AreBytes-frame body fits = AreBytes-append (length_prefixed body) (closed_gate ∷ []) (AreBytes-length_prefixed 4 body fits.2) (AreBytes-cons closed_gate [] (omega arith) AreBytes-nil)
-
 AreBytes-slice : (s : Slice) → IsSlice s → AreBytes (slice s)
 AreBytes-slice s fits = AreBytes-append (little_bytes 2 s.tid.0) (little_bytes 4 s.steps) (AreBytes-little_bytes 2 s.tid.0) (AreBytes-little_bytes 4 s.steps)
 

@@ -1,5 +1,5 @@
 -- The bytes of a page, place by place.
-use Rattle.std.proofs.Common.{◌≡◌, ℕ, zero, suc, ◌+◌, ◌-◌, ◌*◌, ◌<◌, Bool, true, false, cond, List, [], ◌∷◌, length, map, drop, get_or, slice_index_or, Option, Some, refl, sym, ◌∙◌, arith}
+use Rattle.std.proofs.Common.{◌≡◌, ℕ, zero, suc, ◌+◌, ◌-◌, ◌*◌, ◌<◌, List, [], ◌∷◌, length, map, drop, get_or, slice_index_or, Option, Some, refl, sym, ◌∙◌, arith}
 use Rattle.std.specs.List.{AllByRecursion, find, range_with_len}
 use Rattle.std.specs.Option.{option_map, unwrap_or}
 use Rattle.std.proofs.lemmas.Bool.{cond_both}
@@ -31,16 +31,6 @@ unfolding page_bytes
 page_listed segments number page size each = listed (λ address. unwrap_or (byte_at segments address) 0) page (PAGE_BYTES * number) PAGE_BYTES size each
 
 -- ---- the first segment wins
-
--- where one more segment is written over what others gave
-pub byte_over : (s : Segment) (others : List Segment) (address under : ℕ) → under ≡ unwrap_or (byte_at others address) 0
-    → cond (has_byte s address) (slice_index_or s.bytes (address - s.addr) 0) under ≡ unwrap_or (byte_at (s ∷ others) address) 0
-byte_over s others address under is = over (has_byte s address)
-  where
-    over : (b : Bool) → cond b (slice_index_or s.bytes (address - s.addr) 0) under
-        ≡ unwrap_or (option_map (λ (t : Segment). slice_index_or t.bytes (address - t.addr) 0) (cond b (Some s) (find (λ t. has_byte t address) others))) 0
-    over true = refl
-    over false = is
 
 -- ---- what a file gives is bytes
 

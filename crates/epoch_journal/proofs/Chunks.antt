@@ -1,5 +1,5 @@
 -- A disk that is read chunk by chunk.
-use Rattle.std.proofs.Common.{◌≡◌, ℕ, ◌+◌, ◌-◌, ◌<◌, ◌≤◌, Bool, true, false, cond, ltb, List, [], ◌++◌, length, take, drop, Option, Some, None, refl, sym, ap, ◌∙◌, append_assoc, arith}
+use Rattle.std.proofs.Common.{◌≡◌, ℕ, ◌+◌, ◌-◌, ◌<◌, ◌≤◌, Bool, true, false, cond, ltb, List, ◌++◌, length, take, drop, Option, Some, None, refl, sym, ap, ◌∙◌, append_assoc, arith}
 use Rattle.std.specs.Prelude.{IsTrue}
 use Rattle.std.proofs.Math.Seq.{take-add}
 use Rattle.std.proofs.lemmas.Bool.{ltb-false}
@@ -28,14 +28,6 @@ all_read (Some disk) bytes true so_far few enough = so_far.0 ∙ ap (λ (n : ℕ
 all_read (Some disk) bytes false so_far few enough =
     let none = so_far.1 refl in
     so_far.0 ∙ take_all (length bytes) disk none ∙ sym (take_all MAX_JOURNAL_BYTES disk (omega (arith, none, few)))
-
-pub so_far_of : (known : Option (List ℕ)) (bytes : List ℕ) (more : Bool) → IsReadOn known bytes more → IsReadSoFar known bytes
-so_far_of None bytes more on = tt
-so_far_of (Some disk) bytes more on = on.0
-
-pub begun_read : (known : Option (List ℕ)) → IsReadOn known [] true
-begun_read None = tt
-begun_read (Some disk) = (refl, λ never. absurd cc)
 
 -- less is left, or it was the last time
 pub smaller : (most before after : ℕ) (more : Bool) → before ≤ most → after ≤ most → before ≤ after → (IsTrue more → before < after) → most - after + cond more 1 0 < most - before + 1

@@ -2,7 +2,7 @@
 use Rattle.std.proofs.Common.{◌≡◌, ◌⊎◌, inl, inr, ◌+◌, ◌-◌, ◌<◌, ◌≤◌, ℕ, Bool, true, false, cond, not, ◌&&◌, ◌||◌, List, length, Some, refl, sym, ap, ◌∙◌, arith}
 use Rattle.std.specs.Prelude.{◌==◌, min, nat_le, nat_lt}
 use Rattle.std.specs.List.{AllByRecursion, list_any}
-use Rattle.std.proofs.lemmas.Bool.{and_cases, and_from, both_ways, lt-ltb, and_left, and_parts, and_right, cases_lt, cond-true, eq-eqb, le-leb, le-ltb, lt-leb, ltb-false, ltb-true, ne_eqb, not-true, not_from_false, not_from_true, or_left, or_right}
+use Rattle.std.proofs.lemmas.Bool.{and_cases, and_from, both_ways, lt-ltb, and_left, and_right, cases_lt, cond-true, eq-eqb, le-leb, le-ltb, lt-leb, ltb-false, ne_eqb, not_from_false, not_from_true, or_left, or_right}
 use Rattle.dp_base.specs.declared.limits.TheConstants.{EPOCH_END_BYTES}
 use Rattle.dp_base.specs.declared.slice.Slice.{Slice}
 use Rattle.dp_base.specs.declared.tid.Tid.{Tid}
@@ -79,13 +79,6 @@ pub record IsOpen (s : State) (w : Supplied) (tid : Tid) (t : Traced) : Type 0 w
   pub ready : ready_at s w tid ≡ true
   pub little : length t.output < EPOCH_END_BYTES
   pub little_read : length (bytes_read t.answers) < EPOCH_END_BYTES
-
-pub open_by : (s : State) (w : Supplied) (tid : Tid) (t : Traced) → goes_on s w tid t ≡ true → IsOpen s w tid t
-open_by s w tid t is =
-    let three = and_parts (not (has_ended s.end) && ready_at s w tid && nat_lt (length t.output) EPOCH_END_BYTES) (nat_lt (length (bytes_read t.answers)) EPOCH_END_BYTES) is in
-    let two = and_parts (not (has_ended s.end) && ready_at s w tid) (nat_lt (length t.output) EPOCH_END_BYTES) three.0 in
-    let one = and_parts (not (has_ended s.end)) (ready_at s w tid) two.0 in
-    record { alive = not-true (has_ended s.end) one.0; ready = one.1; little = ltb-true _ _ two.1; little_read = ltb-true _ _ three.1 }
 
 by_open : (s : State) (w : Supplied) (tid : Tid) (t : Traced) → IsOpen s w tid t → goes_on s w tid t ≡ true
 by_open s w tid t is =

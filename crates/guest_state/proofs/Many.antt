@@ -28,10 +28,6 @@ module _ {X Z : Type 0} (item : List ℕ → Option (X × List ℕ)) where
   unfolding many_at
   all_read g bytes = refl
 
-pub map_id : {A : Type 0} (o : Option A) → o ≡ option_map (λ (x : A). x) o
-map_id None = refl
-map_id (Some x) = refl
-
 -- what a reader's clause says of a value that it gave
 pub given : {A B : Type 0} (f : A → B) (o : Option A) (x : A) (r : Option B) → o ≡ Some x → option_map f o ≡ r → r ≡ Some (f x)
 given f o x r is clause = cc

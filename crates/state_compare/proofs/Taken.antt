@@ -1,6 +1,5 @@
 -- Lists that are the same as far as they were compared.
-use Rattle.std.proofs.Common.{◌≡◌, ℕ, zero, suc, ◌+◌, ◌≤◌, List, [], ◌∷◌, length, take, slice_get, Some, sym, ap, ◌∙◌, arith}
-use Rattle.std.proofs.lemmas.List.{take_all}
+use Rattle.std.proofs.Common.{◌≡◌, ℕ, zero, suc, ◌+◌, List, [], ◌∷◌, take, slice_get, Some, sym, ap, ◌∙◌, arith}
 use Rattle.std.proofs.lemmas.Option.{same_Some}
 
 suc_is : (i : ℕ) → suc i + 1 ≡ suc (i + 1)
@@ -23,9 +22,3 @@ take-more {X} (a ∷ xs) (b ∷ ys) (suc i) x y at_x at_y same so_far =
 
     same_others : (a b : X) (us vs : List X) → a ∷ us ≡ b ∷ vs → us ≡ vs
     same_others a b us vs e = cc
-
-pub take-whole : {X : Type 0} (xs ys : List X) (n : ℕ) → length xs ≤ n → length ys ≤ n → take n xs ≡ take n ys → xs ≡ ys
-take-whole xs ys n few_x few_y same = sym (take_all n xs few_x) ∙ same ∙ take_all n ys few_y
-
-pub same_at : {X : Type 0} (xs ys : List X) (i : ℕ) (x y : X) → slice_get xs i ≡ Some x → slice_get ys i ≡ Some y → xs ≡ ys → x ≡ y
-same_at {X} xs ys i x y at_x at_y same = same_Some _ _ (sym at_x ∙ ap (λ (l : List X). slice_get l i) same ∙ at_y)
