@@ -5,6 +5,7 @@ use Rattle.std.proofs.lemmas.List.{append-nil}
 use Rattle.std.proofs.lemmas.Option.{same_Some}
 use Rattle.std.specs.Prelude.{Bool, true, false, is_ok, IsErr}
 use Rattle.std.specs.declared.alloc.Global.{Global}
+use Rattle.dp_base.specs.Field.{AreBytes}
 use Rattle.disk_model.specs.Counts.{Rose}
 use Rattle.disk_model.specs.declared.files.TheConstants.{MAX_FETCH_BYTES}
 use Rattle.disk_model.specs.Directory.{File, IsFetched}
@@ -56,12 +57,13 @@ not_attached guest start options i j before after first kept same = (
 
 -- the guest that was fetched was recorded
 pub came_by : (name : List ℕ) (options : Options) (files : Option (List File)) (i j : Option Input) (before after : Option History) (guest loaded there : List ℕ) (state : State) (answer : Result Report RecordFault) (status : Status)
-    → IsFetched files name guest → loaded ≡ guest → there ≡ guest → IsGuestFile loaded → state ≡ start_state loaded
+    → AreBytes there → IsFetched files name guest → loaded ≡ guest → there ≡ guest → IsGuestFile loaded → state ≡ start_state loaded
     → status ≡ status_of answer → Recorded there state options i j before after answer → EachMoment there state i j before after → CameTo name options files i j before after status
-came_by name options files i j before after guest loaded there state answer status fetched loaded_is there_is accepted state_is status_is recorded moments =
+came_by name options files i j before after guest loaded there state answer status of_bytes fetched loaded_is there_is accepted state_is status_is recorded moments =
     let started : state ≡ start_state guest = state_is ∙ ap start_state loaded_is in
     let as_ : RecordedAs name options files i j before after answer = record {
       bytes = guest;
+      of_bytes = subst AreBytes there_is of_bytes;
       fetched = fetched;
       accepted = subst IsGuestFile loaded_is accepted;
       recorded = subst (λ (s : State). Recorded guest s options i j before after answer) started (subst (λ (g : List ℕ). Recorded g state options i j before after answer) there_is recorded);

@@ -2,6 +2,7 @@
 use Rattle.std.specs.Prelude.{◌≡◌, ◌⊎◌, ℕ, Bool, false, List, [], Option, Some, None, Result, Ok, Err, String}
 use Rattle.std.specs.declared.alloc.Global.{Global}
 use Rattle.device.specs.Sending.{Sent}
+use Rattle.dp_base.specs.Field.{AreBytes}
 use Rattle.disk_model.specs.declared.world.Stream.TheVariants.{Note}
 use Rattle.disk_model.specs.Directory.{File, IsFetched}
 use Rattle.disk_model.specs.History.{History}
@@ -25,9 +26,10 @@ use Rattle.journal_text.specs.Reading.{reads}
 use Rattle.dp_top.specs.Answer.{status_of_replay}
 use Rattle.dp_top.specs.Asking.{Asked, AskedReplay}
 
--- The file of this name is a guest, and its recording with these options came to this.
+-- The file of this name, which is of bytes, is a guest, and its recording with these options came to this.
 pub record RecordedAs (name : List ℕ) (options : Options) (files : Option (List File)) (i j : Option Input) (before after : Option History) (answer : Result Report RecordFault) : Type 0 where
   pub bytes : List ℕ
+  pub of_bytes : AreBytes bytes
   pub fetched : IsFetched files name bytes
   pub accepted : IsGuestFile bytes
   pub recorded : Recorded bytes (start_state bytes) options i j before after answer

@@ -1,5 +1,6 @@
 // A recording into a journal that is attached first.
 ghost use Rattle.std.specs.Prelude.{◌≡◌, ◌≤◌, Result};
+ghost use Rattle.dp_base.specs.Field.{AreBytes};
 ghost use Rattle.disk_model.specs.Counts.{Rose};
 ghost use Rattle.dp_report.specs.declared.report.Report.{Report};
 ghost use Rattle.guest_kernel.specs.Start.{IsGuestFile, start_state};
@@ -28,6 +29,7 @@ pub fn record_guest<R, I: Inlet, W: World>(
 ) -> (W, Status)
     requires guest { IsGuestFile guest.now }
     requires starts { start ≡ start_state guest.now }
+    ensures bytes { AreBytes guest.now }
     ensures recorded { (answer : Result Report RecordFault) × (result.1 ≡ status_of answer)
         × Recorded guest.now start options (I.input inlet.old) (I.input inlet.new) (W.history world) (W.history result.0) answer }
     ensures moments { EachMoment guest.now start (I.input inlet.old) (I.input inlet.new) (W.history world) (W.history result.0) }

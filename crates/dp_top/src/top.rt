@@ -38,7 +38,8 @@ pub fn run<R, F: Files, I: Inlet, W: World>(
     inlet: &mut I,
     world: W,
 ) -> (W, Status)
-    // What stands, by the status, and what was sent on Note. The line is cut off only where a count rises once more.
+    // What stands, by the status, and what was sent on Note. The line is cut off only where an emit has failed, and at `OutputFault` one more
+    // than the answer's.
     ensures ran { (told : Bool) × (faults : ℕ)
         × Ran words.now (F.directory files.old) (I.input inlet.old) (I.input inlet.new) (W.history world) (W.history result.0) result.1 told
         × (W.sink_faults world ≤ faults) × (faults ≤ W.sink_faults result.0)
