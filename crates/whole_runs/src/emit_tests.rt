@@ -2,7 +2,7 @@
 //
 // The sixth epoch's output has 3 bytes, and the report's line has 117. All of an epoch is on the disk for good before a byte of it
 // is sent, so each image is the same.
-use crate::stopped::{Faults, Plays, is_prefix, plays, recording};
+use crate::stopped::{Faults, Plays, plays, recording};
 use dp_report::Status;
 use std::test::Fail;
 use test_files::WRITES_WORDS;
@@ -46,7 +46,7 @@ fn emits_failing(rt: &HostRuntime, sink: Failing, piece: u32, whole: &[u8]) -> R
         status: seen.status,
         sent: seen.sent.len(),
         len,
-        are_first: is_prefix(&seen.sent, b"hi\n")
+        are_first: b"hi\n".starts_with(&seen.sent)
             && seen.kept.as_slice() == journal.as_slice()
             && seen.read.as_slice() == journal.as_slice()
             && seen.marked.as_slice() == journal.as_slice(),

@@ -2,7 +2,7 @@
 //
 // Of nine epochs of one step: the header's 133 bytes, nine records of 20, and a closed gate. A mark of this guest has a body of 69,880
 // bytes, and its record 5 more.
-use crate::stopped::{Faults, NO_JOURNAL, Plays, is_prefix, plays, recording, replay};
+use crate::stopped::{Faults, NO_JOURNAL, Plays, plays, recording, replay};
 use dp_report::Status;
 use std::alloc::Global;
 use std::test::Fail;
@@ -122,7 +122,7 @@ fn a_mark_of_another_place_cut_short(rt: HostRuntime) -> Result<(), Fail> {
             (Status::BadMark(3), 0),
             "cut to {len}"
         );
-        assert!(rt; is_prefix(b"dpcli: record 3 is a wrong mark\n", &came.noted));
+        assert!(rt; came.noted.starts_with(b"dpcli: record 3 is a wrong mark\n"));
     }
     Ok(())
 }

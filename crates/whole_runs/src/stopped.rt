@@ -79,13 +79,9 @@ pub(crate) fn replay(rt: &HostRuntime, image: &[u8]) -> Result<Played, Fail> {
     look_at(alloc, &after, status)
 }
 
-pub(crate) fn is_prefix(front: &[u8], all: &[u8]) -> bool {
-    front.iter().zip(all).all(|(a, b)| a == b) && front.len() <= all.len()
-}
-
 // The number of epochs in a report's line, of one digit.
 fn epochs_in(noted: &[u8]) -> Result<u8, Fail> {
-    if !is_prefix(b"epochs ", noted) {
+    if !noted.starts_with(b"epochs ") {
         return Err("no report".into());
     }
     let digit = noted.get(7).copied().unwrap_or(0);
@@ -108,7 +104,7 @@ pub(crate) fn plays(
     whole: &[u8],
 ) -> Result<Plays, Fail> {
     let seen = replay(rt, image)?;
-    if !is_prefix(said, &seen.sent) || !is_prefix(&seen.sent, whole) {
+    if !seen.sent.starts_with(said) || !whole.starts_with(&seen.sent) {
         return Err("what was sent, the replay's output, and the whole output".into());
     }
     if seen.status == Status::NoJournal {
