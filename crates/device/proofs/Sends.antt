@@ -1,5 +1,5 @@
 -- One part after another is sent, and one piece after another.
-use Rattle.std.proofs.Common.{◌≡◌, inl, inr, ℕ, ◌+◌, ◌-◌, length-drop, false, List, ◌++◌, length, take, drop, refl, sym, ◌∙◌, ap, subst, append_assoc, arith, Ok, Err}
+use Rattle.std.proofs.Common.{◌≡◌, inl, inr, ℕ, ◌+◌, ◌-◌, length-drop, true, false, List, [], ◌∷◌, ◌++◌, length, take, drop, refl, sym, ◌∙◌, ap, subst, append_assoc, arith, Ok, Err}
 use Rattle.std.proofs.Math.Seq.{take-add}
 use Rattle.std.proofs.lemmas.List.{append-nil, take_all}
 use Rattle.disk_model.specs.declared.world.Failed.{Failed}
@@ -10,7 +10,7 @@ use Rattle.disk_model.specs.Moments.{Always, Then}
 use Rattle.disk_model.specs.Steps.{Emitted, emitted}
 use Rattle.disk_model.proofs.Moments.{always-one, always-start, always-then, got-nothing}
 use Rattle.disk_model.specs.Steps.{stream_of}
-use Rattle.device.specs.Sending.{IsOutSent, IsSending, IsSent, Sent}
+use Rattle.device.specs.Sending.{AreEmits, IsOutSent, IsSending, IsSent, SendCalls, Sent, left_of}
 
 -- before the first part
 out-unsent : (to : Stream) (bytes before sent : List ℕ) → sent ≡ before → IsOutSent to bytes before sent
@@ -70,3 +70,24 @@ module _ (bytes : List ℕ) where
   pub not_all_sent : (to : Stream) (n : ℕ) (fault : Failed) (s t u : History) → IsSent to bytes n s t → Emitted to (rest n) (Err fault) t u → Sent to bytes false s u
   not_all_sent to n fault s t u a (inl e) = (n, subst (λ (v : History). IsSent to bytes n s v) (sym e) a, λ never. absurd cc)
   not_all_sent to n fault s t u a (inr e) = (n + e.0, sent_on to n e.0 s t u a e.1, λ never. absurd cc)
+
+-- ---- the calls
+
+-- so many were sent by emits
+pub record IsSentByEmits (to : Stream) (bytes : List ℕ) (n : ℕ) (s t : History) : Type 0 where
+  pub counts : List ℕ
+  pub emits : AreEmits to bytes 0 counts n s t
+
+pub none_emitted : (to : Stream) (bytes : List ℕ) (s : History) → IsSentByEmits to bytes 0 s s
+none_emitted to bytes s = record { counts = []; emits = (refl, refl) }
+
+emits-push : (to : Stream) (bytes : List ℕ) (first n k : ℕ) (counts : List ℕ) (s t u : History) → AreEmits to bytes first counts n s t → Emitted to (left_of bytes n) (Ok k) t u → AreEmits to bytes first (counts ++ k ∷ []) (n + k) s u
+emits-push to bytes first n k [] s t u emits one =
+    (u, subst (λ (h : History). Emitted to (left_of bytes first) (Ok k) h u) emits.1 (subst (λ (m : ℕ). Emitted to (left_of bytes m) (Ok k) t u) emits.0 one), (ap (λ (m : ℕ). m + k) emits.0, refl))
+emits-push to bytes first n k (x ∷ counts) s t u emits one = (emits.0, emits.1, emits-push to bytes (first + x) n k counts emits.0 t u emits.2 one)
+
+pub emitted_more : (to : Stream) (bytes : List ℕ) (n k : ℕ) (s t u : History) → IsSentByEmits to bytes n s t → Emitted to (left_of bytes n) (Ok k) t u → IsSentByEmits to bytes (n + k) s u
+emitted_more to bytes n k s t u a one = record { counts = a.counts ++ k ∷ []; emits = emits-push to bytes 0 n k a.counts s t u a.emits one }
+
+pub emit_failed : (to : Stream) (bytes : List ℕ) (n : ℕ) (why : Failed) (s t u : History) → IsSentByEmits to bytes n s t → Emitted to (left_of bytes n) (Err why) t u → SendCalls to bytes false s u
+emit_failed to bytes n why s t u a one = (a.counts, n, t, a.emits, why, one)

@@ -1,8 +1,9 @@
 -- What a write that is followed by a sync leaves. This project's own.
-use Rattle.std.specs.Prelude.{◌≡◌, ◌≤◌, ℕ, Bool, true, false, List, length}
+use Rattle.std.specs.Prelude.{◌≡◌, ◌⊎◌, ◌≤◌, ℕ, Bool, true, false, List, length}
 use Rattle.disk_model.specs.History.{History, IsImage, IsSynced, write_pending}
 use Rattle.disk_model.specs.Known.{overwritten}
 use Rattle.disk_model.specs.Moments.{Always}
+use Rattle.disk_model.specs.Steps.{Synced, Wrote}
 
 -- nothing was sent
 pub record SentNothing (before after : History) : Type 0 where
@@ -21,3 +22,8 @@ pub record IsWrittenThrough (at : ℕ) (bytes : List ℕ) (ok : Bool) (before af
   pub synced : ok ≡ true → IsSynced after
   pub kept : ok ≡ false → after.pending.synced ≡ before.pending.synced
   pub moments : IsSynced before → at ≤ length before.disk → Always (IsTorn at (length bytes) before) before after
+
+-- The two calls that it makes: a write, and behind one that succeeded a sync.
+abbrev pub WroteAndSynced : (at : ℕ) → List ℕ → Bool → History → History → Type 0
+WroteAndSynced at bytes true before after = (mid : History) × Wrote at bytes true before mid × Synced true mid after
+WroteAndSynced at bytes false before after = Wrote at bytes false before after ⊎ ((mid : History) × Wrote at bytes true before mid × Synced false mid after)

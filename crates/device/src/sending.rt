@@ -1,7 +1,7 @@
 ghost use Rattle.std.specs.Prelude.{◌≡◌, ◌≤◌, IsErr, OnOk, is_ok};
 ghost use Rattle.disk_model.specs.Counts.{Rose};
 ghost use Rattle.disk_model.specs.Known.{IfKnown};
-ghost use Rattle.device.specs.Sending.{Sent, joined};
+ghost use Rattle.device.specs.Sending.{SendCalls, Sent, joined};
 
 use disk_model::{Failed, Stream, World};
 
@@ -13,6 +13,7 @@ use disk_model::{Failed, Stream, World};
 /// `Failed` if the stream failed. Any prefix of the bytes may have been sent, and nothing else was.
 pub fn send_all<W: World>(world: &mut W, to: Stream, bytes: &[u8]) -> Result<(), Failed>
     ensures history { IfKnown (Sent to bytes.now (is_ok result)) (W.history world.old) (W.history world.new) }
+    ensures calls { IfKnown (SendCalls to bytes.now (is_ok result)) (W.history world.old) (W.history world.new) }
     ensures none { OnOk result (W.sink_faults world.new ≡ W.sink_faults world.old) }
     ensures cause { IsErr result → Rose (W.sink_faults world.old) (W.sink_faults world.new) }
     ensures count { W.sink_faults world.old ≤ W.sink_faults world.new }

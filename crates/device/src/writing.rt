@@ -1,7 +1,7 @@
 ghost use Rattle.std.specs.Prelude.{◌≡◌, ◌≤◌, IsErr, OnOk, is_ok};
 ghost use Rattle.disk_model.specs.Counts.{Rose};
 ghost use Rattle.disk_model.specs.Known.{IfKnown};
-ghost use Rattle.device.specs.Writing.{IsWrittenThrough};
+ghost use Rattle.device.specs.Writing.{IsWrittenThrough, WroteAndSynced};
 
 use disk_model::{Failed, World};
 
@@ -15,6 +15,7 @@ use disk_model::{Failed, World};
 /// there.
 pub fn write_through<W: World>(world: &mut W, at: u64, bytes: &[u8]) -> Result<(), Failed>
     ensures history { IfKnown (IsWrittenThrough at bytes.now (is_ok result)) (W.history world.old) (W.history world.new) }
+    ensures calls { IfKnown (WroteAndSynced at bytes.now (is_ok result)) (W.history world.old) (W.history world.new) }
     ensures none { OnOk result (W.disk_faults world.new ≡ W.disk_faults world.old) }
     ensures cause { IsErr result → Rose (W.disk_faults world.old) (W.disk_faults world.new) }
     ensures count { W.disk_faults world.old ≤ W.disk_faults world.new }

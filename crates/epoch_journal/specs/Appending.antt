@@ -1,10 +1,10 @@
 -- What `append` comes to, by its answer. This project's own.
-use Rattle.std.specs.Prelude.{◌≡◌, ◌<◌, ◌≤◌, ◌+◌, ℕ, Bool, true, false, List, [], ◌∷◌, ◌++◌, length, Result, Ok, Err, ⊤}
+use Rattle.std.specs.Prelude.{◌≡◌, ◌⊎◌, ◌<◌, ◌≤◌, ◌+◌, ◌-◌, ℕ, Bool, true, false, List, [], ◌∷◌, ◌++◌, length, Result, Ok, Err, ⊤}
 use Rattle.std.specs.List.{AllByRecursion}
 use Rattle.dp_base.specs.declared.limits.TheConstants.{MAX_JOURNAL_BYTES}
 use Rattle.dp_base.specs.Encoding.{IsPrefixOf}
-use Rattle.dp_base.specs.Journal.{IsGuest, frame}
-use Rattle.device.specs.Writing.{SentNothing}
+use Rattle.dp_base.specs.Journal.{IsGuest, frame, open_gate}
+use Rattle.device.specs.Writing.{SentNothing, WroteAndSynced}
 use Rattle.disk_model.specs.History.{History}
 use Rattle.disk_model.specs.Moments.{Always}
 use Rattle.epoch_journal.specs.declared.append.AppendFault.{AppendFault}
@@ -66,3 +66,19 @@ MakesNoCall (Err appends.DiskFault) = ⊥
 abbrev pub FrameWritten : (end : ℕ) → (added : List ℕ) → Bool → History → History → Type 0
 FrameWritten end added ok before after = SentNothing before after × RecordLeft end added ok before after
     × (end + length added ≤ MAX_JOURNAL_BYTES → RecordMoments end added before after)
+
+-- ---- its calls
+
+-- The four calls: a frame is written behind the gate at the end, and synced; the gate is opened, and that is synced.
+abbrev pub RecordCalls : (end : ℕ) → (added : List ℕ) → Bool → History → History → Type 0
+RecordCalls end added true before after =
+    (mid : History) × WroteAndSynced end added true before mid × WroteAndSynced (end - 1) (open_gate ∷ []) true mid after
+RecordCalls end added false before after =
+    WroteAndSynced end added false before after
+    ⊎ ((mid : History) × WroteAndSynced end added true before mid × WroteAndSynced (end - 1) (open_gate ∷ []) false mid after)
+
+abbrev pub AppendCalls : Journal → (added : List ℕ) → Result (Unit {0}) AppendFault → History → History → Type 0
+AppendCalls j added (Ok done) before after = RecordCalls j.end added true before after
+AppendCalls j added (Err (appends.Failed last)) before after = after ≡ before
+AppendCalls j added (Err (appends.Full end need)) before after = after ≡ before
+AppendCalls j added (Err appends.DiskFault) before after = RecordCalls j.end added false before after

@@ -3,7 +3,7 @@ ghost use Rattle.std.specs.Prelude.{◌≡◌, ◌<◌, ◌≤◌, IsErr, IsErrO
 ghost use Rattle.dp_base.specs.declared.limits.TheConstants.{MAX_JOURNAL_BYTES};
 ghost use Rattle.disk_model.specs.Counts.{Rose};
 ghost use Rattle.disk_model.specs.Known.{IfKnown};
-ghost use Rattle.epoch_journal.specs.Appending.{Appended, FrameWritten, HasAppended, MakesNoCall};
+ghost use Rattle.epoch_journal.specs.Appending.{AppendCalls, Appended, FrameWritten, HasAppended, MakesNoCall, RecordCalls};
 
 use crate::journal::Journal;
 use device::write_through;
@@ -32,6 +32,7 @@ impl Journal {
     /// also be another byte that isn't the open gate.
     pub fn append<W: World>(&mut self, world: &mut W, added: &Frame) -> Result<(), AppendFault>
         ensures history { IfKnown (Appended self.old added.now result) (W.history world.old) (W.history world.new) }
+        ensures calls { IfKnown (AppendCalls self.old added.now result) (W.history world.old) (W.history world.new) }
         ensures numbers { HasAppended self.old (length added.now) self.new result }
         ensures room { self.old.room ≤ MAX_JOURNAL_BYTES }
         ensures untouched { MakesNoCall result → world.new ≡ world.old }
@@ -67,6 +68,7 @@ impl Journal {
 fn write_record<W: World>(world: &mut W, end: u64, frame: &[u8]) -> Result<(), Failed>
     requires { 0 < end }
     ensures history { IfKnown (FrameWritten end frame.now (is_ok result)) (W.history world.old) (W.history world.new) }
+    ensures calls { IfKnown (RecordCalls end frame.now (is_ok result)) (W.history world.old) (W.history world.new) }
     ensures cause { IsErr result → Rose (W.disk_faults world.old) (W.disk_faults world.new) }
     ensures none { OnOk result (W.disk_faults world.new ≡ W.disk_faults world.old) }
     ensures count { W.disk_faults world.old ≤ W.disk_faults world.new }

@@ -1,14 +1,15 @@
 -- What a commit of one epoch comes to, by its answer. This project's own.
-use Rattle.std.specs.Prelude.{◌≡◌, ◌⊎◌, ℕ, List, [], ◌∷◌, ◌++◌, Result, Ok, Err}
+use Rattle.std.specs.Prelude.{◌≡◌, ◌⊎◌, ℕ, true, false, List, [], ◌∷◌, ◌++◌, Result, Ok, Err}
 use Rattle.std.specs.List.{AllByRecursion}
 use Rattle.dp_base.specs.Encoding.{IsPrefixOf}
 use Rattle.dp_base.specs.Journal.{IsGuest}
-use Rattle.device.specs.Sending.{IsPrefixSent}
+use Rattle.device.specs.Sending.{IsPrefixSent, SendCalls}
+use Rattle.disk_model.specs.declared.world.Stream.TheVariants.{Out}
 use Rattle.device.specs.Writing.{SentNothing}
 use Rattle.disk_model.specs.History.{History}
 use Rattle.disk_model.specs.Moments.{Always}
 use Rattle.epoch_journal.specs.declared.append.AppendFault.TheVariants as appends
-use Rattle.epoch_journal.specs.Appending.{HasAppended, IsAppend, RecordMoments}
+use Rattle.epoch_journal.specs.Appending.{HasAppended, IsAppend, RecordCalls, RecordMoments}
 use Rattle.epoch_journal.specs.Images.{IsBeforeOrAfter, Reads}
 use Rattle.epoch_journal.specs.Standing.{Journal, Stands}
 use Rattle.journal_text.specs.Records.{IsRecord, Record}
@@ -55,3 +56,11 @@ MetNoOther (Err commits.OutputFault) disk disk_after sink sink_after = disk_afte
 MetNoOther (Err (commits.Full end need)) disk disk_after sink sink_after = (disk_after ≡ disk) × (sink_after ≡ sink)
 MetNoOther (Err (commits.Failed last)) disk disk_after sink sink_after = (disk_after ≡ disk) × (sink_after ≡ sink)
 MetNoOther (Err commits.DiskFault) disk disk_after sink sink_after = sink_after ≡ sink
+
+-- the calls that it makes of the world: those of the append, and behind them those that send the output
+abbrev pub CommitCalls : Journal → (added output : List ℕ) → Result (Unit {0}) CommitFault → History → History → Type 0
+CommitCalls j added output (Ok done) before after = (mid : History) × RecordCalls j.end added true before mid × SendCalls Out output true mid after
+CommitCalls j added output (Err commits.OutputFault) before after = (mid : History) × RecordCalls j.end added true before mid × SendCalls Out output false mid after
+CommitCalls j added output (Err (commits.Full end need)) before after = after ≡ before
+CommitCalls j added output (Err (commits.Failed last)) before after = after ≡ before
+CommitCalls j added output (Err commits.DiskFault) before after = RecordCalls j.end added false before after

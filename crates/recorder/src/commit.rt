@@ -2,7 +2,7 @@
 ghost use Rattle.std.specs.Prelude.{◌≡◌, ◌≤◌, IsErrOf, length};
 ghost use Rattle.disk_model.specs.Counts.{Rose};
 ghost use Rattle.disk_model.specs.Known.{IfKnown};
-ghost use Rattle.recorder.specs.Committing.{Committed, HasCommitted, MetNoOther};
+ghost use Rattle.recorder.specs.Committing.{CommitCalls, Committed, HasCommitted, MetNoOther};
 
 use crate::ready::Ready;
 use device::send_all;
@@ -32,6 +32,8 @@ pub fn commit_epoch<W: World>(
     ready: &Ready,
 ) -> Result<(), CommitFault>
     ensures history { IfKnown (Committed journal.old ready.now.frame ready.now.out result)
+        (W.history world.old) (W.history world.new) }
+    ensures calls { IfKnown (CommitCalls journal.old ready.now.frame ready.now.out result)
         (W.history world.old) (W.history world.new) }
     ensures numbers { HasCommitted journal.old (length ready.now.frame) journal.new result }
     ensures others { MetNoOther result (W.disk_faults world.old) (W.disk_faults world.new)
