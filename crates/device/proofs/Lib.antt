@@ -1,3 +1,4 @@
 pub mod Sends
 pub mod Pieces
+pub mod Notes
 mod Writes

@@ -19,4 +19,6 @@ mod step;
 #[cfg(test)]
 mod worked_calls;
 #[cfg(test)]
+mod worked_crashes;
+#[cfg(test)]
 mod world_tests;

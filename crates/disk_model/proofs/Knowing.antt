@@ -1,5 +1,6 @@
 -- How what is known of a world, or of an input, goes on over several calls.
-use Rattle.std.proofs.Common.{◌≡◌, Option, Some, None, subst}
+use Rattle.std.proofs.Common.{◌≡◌, Option, Some, None, subst, sym, ◌∙◌}
+use Rattle.std.proofs.lemmas.Option.{same_Some}
 use Rattle.disk_model.specs.Known.{IfKnown}
 
 abbrev Step : Type 0 → Type 1
@@ -21,3 +22,8 @@ known-then {A} R S T (Some s) b c f h k =
 pub known-same : {A : Type 0} (R : Step A) (a b : Option A) → b ≡ a → ((s : A) → R s s) → IfKnown R a b
 known-same R None b same f = tt
 known-same R (Some s) b same f = (s, same, f s)
+
+-- two steps that are known at once
+pub known-both : {A : Type 0} (R S : Step A) (a b : Option A) → IfKnown R a b → IfKnown S a b → IfKnown (λ s t. R s t × S s t) a b
+known-both R S None b h k = tt
+known-both {A} R S (Some s) b h k = (h.0, h.1, (h.2, subst (λ (t : A). S s t) (sym (same_Some _ _ (sym h.1 ∙ k.1))) k.2))

@@ -1,10 +1,26 @@
 -- Lines of several pieces, as they are emitted and as the table writes them.
-use Rattle.std.proofs.Common.{◌≡◌, Bool, List, ℕ, [], ◌++◌, Option, subst, sym, ◌∙◌, ap, append_assoc}
+use Rattle.std.proofs.Common.{◌≡◌, Bool, true, List, ℕ, [], ◌++◌, Option, refl, subst, sym, ◌∙◌, ap, append_assoc, arith}
 use Rattle.std.proofs.lemmas.List.{append-nil}
 use Rattle.disk_model.specs.declared.world.Stream.TheVariants.{Note}
 use Rattle.disk_model.specs.History.{History}
 use Rattle.disk_model.specs.Known.{IfKnown}
-use Rattle.device.specs.Sending.{Sent}
+use Rattle.disk_model.proofs.Knowing.{known-same}
+use Rattle.disk_model.proofs.Moments.{always-start, got-nothing}
+use Rattle.device.specs.Sending.{IsSending, Sent}
+
+-- no line
+pub none_noted : (h : Option History) → IfKnown (Sent Note [] true) h h
+none_noted h = known-same (Sent Note [] true) h h refl (λ s. (
+  0,
+  record {
+    disk = refl;
+    pending = refl;
+    grown = sym (append-nil s.noted);
+    same = refl;
+    moments = always-start (IsSending Note [] s) s (λ image sent may. (may.on_disk, may.got ∙ got-nothing s.sent may.taken));
+  },
+  λ _. omega arith,
+))
 
 module _ (a b c : List ℕ) where
   three_joined : a ++ (b ++ (c ++ [])) ≡ (a ++ b) ++ c

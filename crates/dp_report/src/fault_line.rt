@@ -11,20 +11,21 @@ use device::send_pieces;
 use disk_model::{Stream, World};
 use itoa::Buffer;
 
-/// Emits the status's line on Note, its newline included, and nothing at `Ok`. Takes no memory.
+/// Emits the status's line on Note, its newline included. At `Ok` there is no line, and no call is made. Takes no memory.
 ///
 /// # Errors
 ///
 /// `OutputFault` if an emit failed. Any prefix of the line may have been sent, and nothing else was.
 pub fn emit_fault<W: World>(world: &mut W, status: &Status) -> Result<(), OutputFault>
     ensures history { IfKnown (Sent Note (status_line status.now) (is_ok result)) (W.history world.old) (W.history world.new) }
+    ensures nothing { status.now ≡ Status.Ok → world.new ≡ world.old }
     ensures cause { IsErr result → Rose (W.sink_faults world.old) (W.sink_faults world.new) }
     ensures count { W.sink_faults world.old ≤ W.sink_faults world.new }
     ensures disk { W.disk_faults world.new ≡ W.disk_faults world.old }
 {
     let mut digits = Buffer::new();
     match *status {
-        Status::Ok => note(world, &[]),
+        Status::Ok => Ok(()),
         Status::Usage => note(
             world,
             &[

@@ -3,17 +3,17 @@ use Rattle.std.proofs.Common.{◌≡◌, ◌⊎◌, ◌<◌, inl, inr, arith, �
 use Rattle.std.proofs.lemmas.List.{append-nil}
 use Rattle.std.specs.declared.alloc.Global.{Global}
 use Rattle.device.specs.Sending.{Sent}
+use Rattle.device.proofs.Notes.{noted-too}
 use Rattle.disk_model.specs.declared.world.Stream.TheVariants.{Note}
 use Rattle.disk_model.specs.Directory.{File}
 use Rattle.disk_model.specs.History.{History, IsSynced}
 use Rattle.disk_model.specs.Input.{Input}
 use Rattle.disk_model.specs.Known.{IfKnown}
 use Rattle.disk_model.specs.Moments.{Always}
-use Rattle.disk_model.proofs.Knowing.{known-map, known-same, known-then}
+use Rattle.disk_model.proofs.Knowing.{known-both, known-map, known-same, known-then}
 use Rattle.disk_model.proofs.Moments.{always-start, always-weaker, got-nothing}
 use Rattle.dp_report.specs.declared.report.Report.{Report}
 use Rattle.dp_report.specs.declared.status.Status.{Status}
-use Rattle.dp_report.specs.declared.status.Status.TheVariants as statuses
 use Rattle.dp_report.specs.Texts.{status_line}
 use Rattle.guest_kernel.specs.declared.state.State.{State}
 use Rattle.guest_kernel.specs.Start.{start_state}
@@ -22,7 +22,7 @@ use Rattle.recorder.specs.declared.record_fault.RecordFault.{RecordFault}
 use Rattle.recorder.specs.declared.record_fault.RecordFault.TheVariants as faults
 use Rattle.recorder.specs.Moments.{EachMoment, HoldsAt}
 use Rattle.recorder.specs.Recording.{Recorded}
-use Rattle.recorder.proofs.Moments.{blank_reads, known-both, noted-too, nothing_begun}
+use Rattle.recorder.proofs.Moments.{blank_reads, nothing_begun}
 use Rattle.dp_top.specs.Asking.{Asked}
 use Rattle.dp_top.specs.Moments.{EveryMoment, IsStill, StandsFor, StillThroughout}
 use Rattle.dp_top.specs.Running.{CameTo, Did, RecordedAs}
@@ -53,13 +53,14 @@ found_or_same guest start options i j before after (Ok report) (r, ended, said, 
 found_or_same guest start options i j before after (Err (faults.StepLimit n)) (r, going, is, most, room, drawn, known) = known-map _ _ _ _ (λ s t k. inl k.empty) known
 found_or_same guest start options i j before after (Err faults.InputFault) (r, going, due, room, drawn, known) = known-map _ _ _ _ (λ s t k. inl k.empty) known
 found_or_same guest start options i j before after (Err (faults.JournalFull end need)) (inl (zero_, needs, full, same, known)) = known-map _ _ _ _ (λ s t k. inl k.0) known
-found_or_same guest start options i j before after (Err (faults.JournalFull end need)) (inr (r, going, room, d, due, next_, there, output, is_next, end_is, need_is, full, drawn, known)) =
+found_or_same guest start options i j before after (Err (faults.JournalFull end need)) (inr (r, next_, room, end_is, need_is, full, drawn, known)) =
     known-map _ _ _ _ (λ s t k. inl k.empty) known
 found_or_same guest start options i j before after (Err faults.OutOfMemory) (inl (same, known)) = known-map _ _ _ _ (λ s t k. inl k.0) known
 found_or_same guest start options i j before after (Err faults.OutOfMemory) (inr (r, may_go, room, drawn, known)) = known-map _ _ _ _ (λ s t k. inl k.empty) known
 found_or_same guest start options i j before after (Err (faults.JournalInUse len)) (some, same, known) = known-map _ _ _ _ (λ s t k. inr k.1) known
-found_or_same guest start options i j before after (Err faults.DiskFault) (r, room, drawn, known) = known-map _ _ _ _ (λ s t k. k.untouched) known
-found_or_same guest start options i j before after (Err faults.OutputFault) (inl (r, last, due, there, output, is_next, room, drawn, known)) = known-map _ _ _ _ (λ s t k. inl k.empty) known
+found_or_same guest start options i j before after (Err faults.DiskFault) (inl (same, known)) = known-map _ _ _ _ (λ s t k. k.untouched) known
+found_or_same guest start options i j before after (Err faults.DiskFault) (inr (r, next_, room, drawn, known)) = known-map _ _ _ _ (λ s t k. inl k.empty) known
+found_or_same guest start options i j before after (Err faults.OutputFault) (inl (r, next_, room, drawn, known)) = known-map _ _ _ _ (λ s t k. inl k.1.empty) known
 found_or_same guest start options i j before after (Err faults.OutputFault) (inr (r, ended, room, drawn, known)) = known-map _ _ _ _ (λ s t k. inl k.1.empty) known
 
 module _ (name : List ℕ) (options : Options) (files : Option (List File)) (i j : Option Input) (before after : Option History) where
@@ -81,22 +82,9 @@ module _ (name : List ℕ) (options : Options) (files : Option (List File)) (i j
       untouched s t some (inr same) = subst (λ (h : History). Always (IsStill s) s h) (sym same) (still_start s)
 
   came_moments : (status : Status) → CameTo name options files i j before after status → IfKnown (EveryMoment name files i j) before after
-  came_moments statuses.Ok came = recorded_moments (Ok came.0) came.1
-  came_moments statuses.GuestFault came = idle name files i j before after came.1
-  came_moments (statuses.BadImage fault) came = idle name files i j before after came.4
-  came_moments statuses.InputFault came = recorded_moments (Err faults.InputFault) came
-  came_moments statuses.DiskFault came = recorded_moments (Err faults.DiskFault) came
-  came_moments statuses.OutputFault came = recorded_moments (Err faults.OutputFault) came
-  came_moments (statuses.JournalInUse len) came = recorded_moments (Err (faults.JournalInUse len)) came
-  came_moments (statuses.StepLimit steps) came = recorded_moments (Err (faults.StepLimit steps)) came
-  came_moments (statuses.JournalFull end need) came = recorded_moments (Err (faults.JournalFull end need)) came
-  came_moments statuses.OutOfMemory (inl same) = idle name files i j before after same.1
-  came_moments statuses.OutOfMemory (inr as_) = recorded_moments (Err faults.OutOfMemory) as_
-  came_moments statuses.Usage came = absurd came
-  came_moments (statuses.BadJournal number) came = absurd came
-  came_moments (statuses.BadEpoch number) came = absurd came
-  came_moments statuses.NoJournal came = absurd came
-  came_moments (statuses.BadMark number) came = absurd came
+  came_moments status (inl came) = idle name files i j before after came.2
+  came_moments status (inr (inl came)) = idle name files i j before after came.6
+  came_moments status (inr (inr (answer, is, as_))) = recorded_moments answer as_
 
 -- ---- a command
 

@@ -1,7 +1,6 @@
 -- What a status says, by the answer of the recording.
 use Rattle.std.proofs.Common.{◌≡◌, ◌<◌, ◌≤◌, inl, inr, arith, ℕ, List, [], length, take, Option, Some, None, Result, Ok, Err, String, refl, sym, ap, subst, ◌∙◌}
 use Rattle.std.proofs.lemmas.Bool.{cases_lt}
-use Rattle.std.proofs.lemmas.List.{append-nil}
 use Rattle.std.proofs.lemmas.Option.{same_Some}
 use Rattle.std.specs.Prelude.{Bool, true, false, is_ok, IsErr}
 use Rattle.std.specs.declared.alloc.Global.{Global}
@@ -19,14 +18,10 @@ use Rattle.recorder.specs.declared.options.Options.{Options}
 use Rattle.dp_report.specs.declared.report.Report.{Report}
 use Rattle.recorder.specs.declared.record_fault.RecordFault.{RecordFault}
 use Rattle.recorder.specs.declared.record_fault.RecordFault.TheVariants as faults
+use Rattle.recorder.specs.Faults.{MetNoOther}
 use Rattle.recorder.specs.Moments.{EachMoment}
-use Rattle.recorder.specs.Recording.{IsInUse, MayFollow, Recorded}
-use Rattle.recorder.proofs.Drawings.{has_drawn, none_drawn}
+use Rattle.recorder.specs.Recording.{IsInUse, Recorded}
 use Rattle.recorder.proofs.Moments.{nothing_left, nothing_synced}
-use Rattle.recorder.proofs.RunLists.{no_round}
-use Rattle.recorder.specs.Drawing.{HasDrawn}
-use Rattle.supply.specs.Supplied.{empty}
-use Rattle.supply.specs.declared.TheConstants.{MAX_ROOM}
 use Rattle.dp_report.specs.declared.status.Status.{Status}
 use Rattle.dp_report.specs.declared.status.Status.TheVariants as statuses
 use Rattle.dp_words.specs.declared.command.Command.{Command}
@@ -35,25 +30,11 @@ use Rattle.dp_top.specs.Answer.{status_of}
 use Rattle.dp_top.specs.Asking.{Asked, AskedReplay}
 use Rattle.dp_top.specs.Running.{RecordedAs, CameTo, Did, NamesGuest, IsKnownEmpty, IsNoFault}
 
-pub of_answer : (name : List ℕ) (options : Options) (files : Option (List File)) (i j : Option Input) (before after : Option History) (answer : Result Report RecordFault) → RecordedAs name options files i j before after answer → CameTo name options files i j before after (status_of answer)
-of_answer name options files i j before after (Ok report) as_ = (report, as_)
-of_answer name options files i j before after (Err faults.InputFault) as_ = as_
-of_answer name options files i j before after (Err faults.DiskFault) as_ = as_
-of_answer name options files i j before after (Err faults.OutputFault) as_ = as_
-of_answer name options files i j before after (Err (faults.JournalInUse len)) as_ = as_
-of_answer name options files i j before after (Err (faults.StepLimit steps)) as_ = as_
-of_answer name options files i j before after (Err (faults.JournalFull end need)) as_ = as_
-of_answer name options files i j before after (Err faults.OutOfMemory) as_ = inr as_
-
 -- a disk that could not be attached
-pub not_attached : (guest : List ℕ) (start : State) (options : Options) (i j : Option Input) (before after : Option History) → start.steps ≡ 0 → j ≡ i → after ≡ before
+pub not_attached : (guest : List ℕ) (start : State) (options : Options) (i j : Option Input) (before after : Option History) → j ≡ i → after ≡ before
     → Recorded guest start options i j before after (Err faults.DiskFault)
-not_attached guest start options i j before after first kept same = (
-  no_round options start (omega (arith, first)),
-  inl refl,
-  inl (known-same (HasDrawn [] []) i j kept (λ s. has_drawn (empty MAX_ROOM) 0 [] [] s s (none_drawn s))),
-  known-same _ _ _ same (λ s. record { sent = sym (append-nil s.sent); noted = refl; on_disk = inl (refl, nothing_synced s); untouched = inr refl; left = λ empty_ synced. nothing_left guest (MayFollow (no_round options start (omega (arith, first)))) s empty_ synced }),
-)
+not_attached guest start options i j before after kept same =
+    inl (kept, known-same _ _ _ same (λ s. record { sent = refl; noted = refl; untouched = inr refl; synced = nothing_synced s; left = nothing_left guest s }))
 
 -- the guest that was fetched was recorded
 pub came_by : (name : List ℕ) (options : Options) (files : Option (List File)) (i j : Option Input) (before after : Option History) (guest loaded there : List ℕ) (state : State) (answer : Result Report RecordFault) (status : Status)
@@ -69,7 +50,20 @@ came_by name options files i j before after guest loaded there state answer stat
       recorded = subst (λ (s : State). Recorded guest s options i j before after answer) started (subst (λ (g : List ℕ). Recorded g state options i j before after answer) there_is recorded);
       moments = subst (λ (s : State). EachMoment guest s i j before after) started (subst (λ (g : List ℕ). EachMoment g state i j before after) there_is moments);
     } in
-    subst (CameTo name options files i j before after) (sym status_is) (of_answer name options files i j before after answer as_)
+    inr (inr (answer, status_is, as_))
+
+-- ---- the counts of faults at Ok
+
+pub record_met_none : (answer : Result Report RecordFault) (disk disk_after sink sink_after input input_after : ℕ) → status_of answer ≡ statuses.Ok → MetNoOther answer disk disk_after sink sink_after input input_after
+    → (disk_after ≡ disk) × (sink_after ≡ sink) × (input_after ≡ input)
+record_met_none (Ok report) disk disk_after sink sink_after input input_after is met = met
+record_met_none (Err faults.InputFault) disk disk_after sink sink_after input input_after is met = absurd cc
+record_met_none (Err faults.DiskFault) disk disk_after sink sink_after input input_after is met = absurd cc
+record_met_none (Err faults.OutputFault) disk disk_after sink sink_after input input_after is met = absurd cc
+record_met_none (Err (faults.JournalInUse len)) disk disk_after sink sink_after input input_after is met = absurd cc
+record_met_none (Err (faults.StepLimit steps)) disk disk_after sink sink_after input input_after is met = absurd cc
+record_met_none (Err (faults.JournalFull end need)) disk disk_after sink sink_after input input_after is met = absurd cc
+record_met_none (Err faults.OutOfMemory) disk disk_after sink sink_after input input_after is met = absurd cc
 
 -- ---- completeness
 
@@ -103,23 +97,27 @@ not_in_use : (len : ℕ) (before after : Option History) → 0 < len → IfKnown
 not_in_use len None after some used empty = empty
 not_in_use len (Some h) after some used empty = let none : len ≡ 0 = used.2.0 ∙ ap (λ (l : List ℕ). length l) empty in omega (arith, some, none)
 
+-- of a recording
+answered : (name : List ℕ) (options : Options) (files : Option (List File)) (i j : Option Input) (before there : Option History) (answer : Result Report RecordFault) → RecordedAs name options files i j before there answer → IsKnownEmpty before
+    → (answer ≡ Err faults.InputFault → ⊥) → (answer ≡ Err faults.DiskFault → ⊥) → (answer ≡ Err faults.OutputFault → ⊥) → IsNoFault (status_of answer)
+answered name options files i j before there (Ok report) as_ empty input disk sink = tt
+answered name options files i j before there (Err faults.InputFault) as_ empty input disk sink = input refl
+answered name options files i j before there (Err faults.DiskFault) as_ empty input disk sink = disk refl
+answered name options files i j before there (Err faults.OutputFault) as_ empty input disk sink = sink refl
+answered name options files i j before there (Err (faults.JournalInUse len)) as_ empty input disk sink = not_in_use len before there as_.recorded.0 as_.recorded.2 empty
+answered name options files i j before there (Err (faults.StepLimit steps)) as_ empty input disk sink = tt
+answered name options files i j before there (Err (faults.JournalFull end need)) as_ empty input disk sink = tt
+answered name options files i j before there (Err faults.OutOfMemory) as_ empty input disk sink = tt
+
 pub complete_by : (name : List ℕ) (options : Options) (files : Option (List File)) (i j : Option Input) (before there : Option History) (status : Status) → CameTo name options files i j before there status → NamesGuest name files → IsKnownEmpty before
     → (status ≡ statuses.GuestFault → ⊥) → (status ≡ statuses.InputFault → ⊥) → (status ≡ statuses.DiskFault → ⊥) → (status ≡ statuses.OutputFault → ⊥) → IsNoFault status
-complete_by name options files i j before there statuses.Ok came names empty file input disk sink = tt
-complete_by name options files i j before there statuses.Usage came names empty file input disk sink = came
-complete_by name options files i j before there statuses.GuestFault came names empty file input disk sink = file refl
-complete_by name options files i j before there (statuses.BadImage fault) came names empty file input disk sink = (let none = same_guest files name came.0 names came.1 in let some = came.2 in cc)
-complete_by name options files i j before there statuses.InputFault came names empty file input disk sink = input refl
-complete_by name options files i j before there statuses.DiskFault came names empty file input disk sink = disk refl
-complete_by name options files i j before there statuses.OutputFault came names empty file input disk sink = sink refl
-complete_by name options files i j before there (statuses.JournalInUse len) came names empty file input disk sink = not_in_use len before there came.recorded.0 came.recorded.2 empty
-complete_by name options files i j before there (statuses.BadJournal number) came names empty file input disk sink = came
-complete_by name options files i j before there (statuses.BadEpoch number) came names empty file input disk sink = came
-complete_by name options files i j before there (statuses.StepLimit steps) came names empty file input disk sink = tt
-complete_by name options files i j before there (statuses.JournalFull end need) came names empty file input disk sink = tt
-complete_by name options files i j before there statuses.OutOfMemory came names empty file input disk sink = tt
-complete_by name options files i j before there statuses.NoJournal came names empty file input disk sink = came
-complete_by name options files i j before there (statuses.BadMark number) came names empty file input disk sink = came
+complete_by name options files i j before there status (inl (inl is, kept, same)) names empty file input disk sink = absurd (file is)
+complete_by name options files i j before there status (inl (inr is, kept, same)) names empty file input disk sink = subst IsNoFault (sym is) tt
+complete_by name options files i j before there status (inr (inl (bytes, fault, is, fetched, refused, kept, same))) names empty file input disk sink =
+    absurd (let none = same_guest files name bytes names fetched in let some = refused in cc)
+complete_by name options files i j before there status (inr (inr (answer, is, as_))) names empty file input disk sink =
+    subst IsNoFault (sym is) (answered name options files i j before there answer as_ empty
+    (λ e. input (is ∙ ap status_of e)) (λ e. disk (is ∙ ap status_of e)) (λ e. sink (is ∙ ap status_of e)))
 
 pub complete : (words : List (String Global)) (files : Option (List File)) (i j : Option Input) (before there : Option History) (status : Status) → Did words files i j before there status → (asked : Asked words) → NamesGuest asked.guest files → IsKnownEmpty before
     → (status ≡ statuses.GuestFault → ⊥) → (status ≡ statuses.InputFault → ⊥) → (status ≡ statuses.DiskFault → ⊥) → (status ≡ statuses.OutputFault → ⊥) → IsNoFault status

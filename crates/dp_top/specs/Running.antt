@@ -1,5 +1,5 @@
 -- What a command comes to, by its status. This project's own.
-use Rattle.std.specs.Prelude.{◌≡◌, ◌⊎◌, ℕ, Bool, false, List, [], Option, Some, None, Result, Ok, Err, String}
+use Rattle.std.specs.Prelude.{◌≡◌, ◌⊎◌, ℕ, Bool, false, List, [], Option, Some, None, Result, String}
 use Rattle.std.specs.declared.alloc.Global.{Global}
 use Rattle.device.specs.Sending.{Sent}
 use Rattle.dp_base.specs.Field.{AreBytes}
@@ -16,14 +16,13 @@ use Rattle.elf_image.specs.Faults.{image_fault}
 use Rattle.guest_kernel.specs.Start.{IsGuestFile, start_state}
 use Rattle.recorder.specs.declared.options.Options.{Options}
 use Rattle.recorder.specs.declared.record_fault.RecordFault.{RecordFault}
-use Rattle.recorder.specs.declared.record_fault.RecordFault.TheVariants as faults
 use Rattle.recorder.specs.Moments.{EachMoment}
 use Rattle.recorder.specs.Recording.{Recorded}
 use Rattle.dp_words.specs.Commands.{are_taken}
 use Rattle.epoch_replay.specs.declared.replay_fault.ReplayFault.{ReplayFault}
 use Rattle.epoch_replay.specs.Replaying.{OnDisk, Replayed}
 use Rattle.journal_text.specs.Reading.{reads}
-use Rattle.dp_top.specs.Answer.{status_of_replay}
+use Rattle.dp_top.specs.Answer.{status_of, status_of_replay}
 use Rattle.dp_top.specs.Asking.{Asked, AskedReplay}
 
 -- The file of this name, which is of bytes, is a guest, and its recording with these options came to this.
@@ -35,24 +34,13 @@ pub record RecordedAs (name : List ℕ) (options : Options) (files : Option (Lis
   pub recorded : Recorded bytes (start_state bytes) options i j before after answer
   pub moments : EachMoment bytes (start_state bytes) i j before after
 
--- What a record command comes to, before its status is told on Note.
+-- What a record command results in, before its status's line is sent on Note. Nothing was done, since the guest's file could not be
+-- read, or is refused, or memory ran out; or the guest was recorded, and the status is that of the recording's answer.
 abbrev pub CameTo : (name : List ℕ) → Options → Option (List File) → (i j : Option Input) → (before after : Option History) → Status → Type 0
-CameTo name options files i j before after statuses.Ok = (report : Report) × RecordedAs name options files i j before after (Ok report)
-CameTo name options files i j before after statuses.GuestFault = (j ≡ i) × (after ≡ before)
-CameTo name options files i j before after (statuses.BadImage fault) =
-    (bytes : List ℕ) × IsFetched files name bytes × (image_fault bytes ≡ Some fault) × (j ≡ i) × (after ≡ before)
-CameTo name options files i j before after statuses.InputFault = RecordedAs name options files i j before after (Err faults.InputFault)
-CameTo name options files i j before after statuses.DiskFault = RecordedAs name options files i j before after (Err faults.DiskFault)
-CameTo name options files i j before after statuses.OutputFault = RecordedAs name options files i j before after (Err faults.OutputFault)
-CameTo name options files i j before after (statuses.JournalInUse len) = RecordedAs name options files i j before after (Err (faults.JournalInUse len))
-CameTo name options files i j before after (statuses.StepLimit steps) = RecordedAs name options files i j before after (Err (faults.StepLimit steps))
-CameTo name options files i j before after (statuses.JournalFull end need) = RecordedAs name options files i j before after (Err (faults.JournalFull end need))
-CameTo name options files i j before after statuses.OutOfMemory = ((j ≡ i) × (after ≡ before)) ⊎ RecordedAs name options files i j before after (Err faults.OutOfMemory)
-CameTo name options files i j before after statuses.Usage = ⊥
-CameTo name options files i j before after (statuses.BadJournal number) = ⊥
-CameTo name options files i j before after (statuses.BadEpoch number) = ⊥
-CameTo name options files i j before after statuses.NoJournal = ⊥
-CameTo name options files i j before after (statuses.BadMark number) = ⊥
+CameTo name options files i j before after status =
+    (((status ≡ statuses.GuestFault) ⊎ (status ≡ statuses.OutOfMemory)) × (j ≡ i) × (after ≡ before))
+    ⊎ ((bytes : List ℕ) × (fault : ℕ) × (status ≡ statuses.BadImage fault) × IsFetched files name bytes × (image_fault bytes ≡ Some fault) × (j ≡ i) × (after ≡ before))
+    ⊎ ((answer : Result Report RecordFault) × (status ≡ status_of answer) × RecordedAs name options files i j before after answer)
 
 -- What a replay command comes to, before its status is told on Note: a replay of the bytes that the disk reads as.
 abbrev pub ReplayedTo : Option History → Option History → Status → Type 0

@@ -2,7 +2,8 @@
 ghost use Rattle.std.specs.Prelude.{◌≡◌, ◌≤◌, ◌⊎◌};
 ghost use Rattle.disk_model.specs.Counts.{Rose};
 ghost use Rattle.disk_model.specs.Known.{known_disk};
-ghost use Rattle.epoch_replay.specs.Replaying.{IsKnownToEnd};
+ghost use Rattle.epoch_replay.specs.Replaying.{EachMoment, IsKnownToEnd, OnDisk};
+ghost use Rattle.journal_text.specs.Reading.{reads};
 ghost use Rattle.dp_top.specs.Running.{ReplayedTo};
 
 use crate::answer::status_of_replayed;
@@ -20,6 +21,10 @@ pub fn replay_journal<R, W: World>(
     workers: u32,
 ) -> (W, Status)
     ensures replayed { ReplayedTo (W.history world) (W.history result.0) result.1 }
+    ensures moments { OnDisk (known_disk (W.history world))
+        (λ bytes. EachMoment (reads bytes) (W.history world) (W.history result.0)) }
+    ensures none { result.1 ≡ Status.Ok → (W.disk_faults result.0 ≡ W.disk_faults world)
+        × (W.sink_faults result.0 ≡ W.sink_faults world) }
     ensures no_guest_fault { result.1 ≡ Status.GuestFault → ⊥ }
     ensures no_usage { result.1 ≡ Status.Usage → ⊥ }
     ensures disk_fault { result.1 ≡ Status.DiskFault → Rose (W.disk_faults world) (W.disk_faults result.0) }

@@ -2,7 +2,8 @@
 ghost use Rattle.std.specs.Prelude.{◌≡◌, ◌≤◌, ◌⊎◌, ℕ, Bool, false};
 ghost use Rattle.disk_model.specs.Counts.{Rose};
 ghost use Rattle.disk_model.specs.Known.{IfKnown, known_disk};
-ghost use Rattle.epoch_replay.specs.Replaying.{IsKnownToEnd};
+ghost use Rattle.epoch_replay.specs.Replaying.{EachMoment, IsKnownToEnd, OnDisk};
+ghost use Rattle.journal_text.specs.Reading.{reads};
 ghost use Rattle.dp_words.specs.Commands.{are_taken};
 ghost use Rattle.elf_image.specs.Faults.{number_of};
 ghost use Rattle.dp_top.specs.Answer.{status_of_image};
@@ -55,6 +56,15 @@ pub fn run<R, F: Files, I: Inlet, W: World>(
         ⊎ (Asked words.now × IsBadImage result.1) →
         IfKnown StillThroughout (W.history world) (W.history result.0) }
 
+    // At every moment of a replay the disk is as it was, and a prefix of the output that its journal plays to was sent.
+    ensures every_replay_moment { AskedReplay words.now → OnDisk (known_disk (W.history world))
+        (λ bytes. EachMoment (reads bytes) (W.history world) (W.history result.0)) }
+
+    // At `Ok` no call of a device failed.
+    ensures none { result.1 ≡ Status.Ok → (F.file_faults files.new ≡ F.file_faults files.old)
+        × (I.input_faults inlet.new ≡ I.input_faults inlet.old)
+        × (W.disk_faults result.0 ≡ W.disk_faults world) × (W.sink_faults result.0 ≡ W.sink_faults world) }
+
     // When each refusal comes.
     ensures usage { result.1 ≡ Status.Usage → are_taken words.now ≡ false }
     ensures not_taken { are_taken words.now ≡ false → (result.1 ≡ Status.Usage) ⊎ (result.1 ≡ Status.OutOfMemory) }
@@ -106,6 +116,11 @@ fn do_command<R, F: Files, I: Inlet, W: World>(
     ensures output_fault { result.1 ≡ Status.OutputFault → Rose (W.sink_faults world) (W.sink_faults result.0) }
     ensures no_call { (result.1 ≡ Status.Usage) ⊎ (result.1 ≡ Status.GuestFault)
         ⊎ (Asked words.now × IsBadImage result.1) → result.0 ≡ world }
+    ensures replay_moments { AskedReplay words.now → OnDisk (known_disk (W.history world))
+        (λ bytes. EachMoment (reads bytes) (W.history world) (W.history result.0)) }
+    ensures none { result.1 ≡ Status.Ok → (F.file_faults files.new ≡ F.file_faults files.old)
+        × (I.input_faults inlet.new ≡ I.input_faults inlet.old)
+        × (W.disk_faults result.0 ≡ W.disk_faults world) × (W.sink_faults result.0 ≡ W.sink_faults world) }
     ensures complete_replay { AskedReplay words.now → IsKnownToEnd (known_disk (W.history world)) →
         (Rose (W.disk_faults world) (W.disk_faults result.0) → ⊥) →
         (Rose (W.sink_faults world) (W.sink_faults result.0) → ⊥) →
@@ -173,6 +188,9 @@ fn record_named<R, F: Files, I: Inlet, W: World>(
     ensures disk_fault { result.1 ≡ Status.DiskFault → Rose (W.disk_faults world) (W.disk_faults result.0) }
     ensures output_fault { result.1 ≡ Status.OutputFault → Rose (W.sink_faults world) (W.sink_faults result.0) }
     ensures no_call { (result.1 ≡ Status.GuestFault) ⊎ IsBadImage result.1 → result.0 ≡ world }
+    ensures none { result.1 ≡ Status.Ok → (F.file_faults files.new ≡ F.file_faults files.old)
+        × (I.input_faults inlet.new ≡ I.input_faults inlet.old)
+        × (W.disk_faults result.0 ≡ W.disk_faults world) × (W.sink_faults result.0 ≡ W.sink_faults world) }
     ensures file_count { F.file_faults files.old ≤ F.file_faults files.new }
     ensures input_count { I.input_faults inlet.old ≤ I.input_faults inlet.new }
     ensures disk_count { W.disk_faults world ≤ W.disk_faults result.0 }

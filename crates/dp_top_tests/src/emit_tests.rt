@@ -80,6 +80,23 @@ fn journals_of_six_epochs_and_of_nine(rt: HostRuntime) -> Result<(), Fail> {
     Ok(())
 }
 
+// With the defaults all nine steps are one epoch. Its record is on the disk, and nothing of its output was sent.
+#[test]
+fn first_emit_of_one_epoch(rt: HostRuntime) -> Result<(), Fail> {
+    let faults = Faults {
+        disk: Failing::Never,
+        sink: Failing::At(1),
+        piece: 4096,
+    };
+    let asked = ["dpcli", "record", "g", "j"];
+    let seen = recording(&rt, &asked, &WRITES_WORDS, &[], faults)?;
+    let came = (seen.status, seen.sent.len(), seen.kept.len());
+    assert_eq!(rt; came, (Status::OutputFault, 0, 154));
+    let one: Plays = (Status::Ok, 1, 3);
+    assert_eq!(rt; plays(&rt, &seen.kept, b"", b"hi\n")?, one);
+    Ok(())
+}
+
 // 3 emits of the output, and 117 of the line.
 #[test]
 fn each_emit_of_one_byte(rt: HostRuntime) -> Result<(), Fail> {

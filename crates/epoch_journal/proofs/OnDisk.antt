@@ -12,7 +12,7 @@ use Rattle.disk_model.specs.Moments.{Always}
 use Rattle.disk_model.proofs.Images.{image-one-byte, image-past-end, overwritten-end, overwritten-one-byte}
 use Rattle.disk_model.proofs.Moments.{always-then, always-weaker}
 use Rattle.device.specs.Writing.{IsTorn, IsWrittenThrough, SentNothing}
-use Rattle.epoch_journal.specs.Appending.{FrameWritten, IsAppend, RecordWritten}
+use Rattle.epoch_journal.specs.Appending.{IsAppend, RecordWritten}
 use Rattle.epoch_journal.specs.Images.{IsBeforeOrAfter, Reads}
 use Rattle.epoch_journal.specs.Standing.{Stands}
 use Rattle.epoch_journal.proofs.AtRest.{on-disk}
@@ -111,28 +111,33 @@ module _ (end : ℕ) (added : List ℕ) (s : History) (guest : List ℕ) (record
 
 -- ---- at the exits
 
-module _ (end : ℕ) (added : List ℕ) where
-  pub frame_not_written : (s t : History) → IsWrittenThrough end added false s t → FrameWritten end added false s t
+module _ (end : ℕ) (added : List ℕ) (room : end + length added ≤ MAX_JOURNAL_BYTES) where
+  pub frame_not_written : (s t : History) → IsWrittenThrough end added false s t → RecordWritten end added false s t
   frame_not_written s t body = (
     body.streams,
-    λ guest records_ r is. frame-kept end added s guest records_ r is t body,
-    λ room guest records_ r is is-guest are. frame-moments end added s guest records_ r is room is-guest are false t body,
+    λ guest records_ r is. record {
+      moments = λ is-guest are. frame-moments end added s guest records_ r is room is-guest are false t body;
+      stands = λ never. absurd cc;
+      kept = λ _. frame-kept end added s guest records_ r is t body;
+    },
   )
 
-  pub gate_not_opened : (s t u : History) → IsWrittenThrough end added true s t → IsWrittenThrough (end - 1) (open_gate ∷ []) false t u → FrameWritten end added false s u
+  pub gate_not_opened : (s t u : History) → IsWrittenThrough end added true s t → IsWrittenThrough (end - 1) (open_gate ∷ []) false t u → RecordWritten end added false s u
   gate_not_opened s t u body gate = (
     then_nothing s t u body.streams gate.streams,
-    λ guest records_ r is. gate-kept end added s guest records_ r is t body u gate,
-    λ room guest records_ r is is-guest are. gate-moments end added s guest records_ r is room is-guest are t body false u gate,
+    λ guest records_ r is. record {
+      moments = λ is-guest are. gate-moments end added s guest records_ r is room is-guest are t body false u gate;
+      stands = λ never. absurd cc;
+      kept = λ _. gate-kept end added s guest records_ r is t body u gate;
+    },
   )
 
-  pub record_written : (s t u : History) → IsWrittenThrough end added true s t → IsWrittenThrough (end - 1) (open_gate ∷ []) true t u → FrameWritten end added true s u
+  pub record_written : (s t u : History) → IsWrittenThrough end added true s t → IsWrittenThrough (end - 1) (open_gate ∷ []) true t u → RecordWritten end added true s u
   record_written s t u body gate = (
     then_nothing s t u body.streams gate.streams,
-    λ guest records_ r is. opened end added s guest records_ r is t body u gate,
-    λ room guest records_ r is is-guest are. gate-moments end added s guest records_ r is room is-guest are t body true u gate,
+    λ guest records_ r is. record {
+      moments = λ is-guest are. gate-moments end added s guest records_ r is room is-guest are t body true u gate;
+      stands = λ _. opened end added s guest records_ r is t body u gate;
+      kept = λ never. absurd cc;
+    },
   )
-
--- where the frame ends within the room
-pub in_room : (end : ℕ) (added : List ℕ) (ok : Bool) → end + length added ≤ MAX_JOURNAL_BYTES → (s t : History) → FrameWritten end added ok s t → RecordWritten end added ok s t
-in_room end added ok room s t w = (w.0, w.1, w.2 room)

@@ -1,7 +1,6 @@
--- What `append` comes to, by its answer. This project's own.
+-- What `append` leaves, by its answer. This project's own.
 use Rattle.std.specs.Prelude.{◌≡◌, ◌⊎◌, ◌<◌, ◌≤◌, ◌+◌, ◌-◌, ℕ, Bool, true, false, List, [], ◌∷◌, ◌++◌, length, Result, Ok, Err, ⊤}
 use Rattle.std.specs.List.{AllByRecursion}
-use Rattle.dp_base.specs.declared.limits.TheConstants.{MAX_JOURNAL_BYTES}
 use Rattle.dp_base.specs.Encoding.{IsPrefixOf}
 use Rattle.dp_base.specs.Journal.{IsGuest, frame, open_gate}
 use Rattle.device.specs.Writing.{SentNothing, WroteAndSynced}
@@ -13,28 +12,24 @@ use Rattle.epoch_journal.specs.Images.{IsBeforeOrAfter}
 use Rattle.epoch_journal.specs.Standing.{IsShut, Journal, Stands}
 use Rattle.journal_text.specs.Records.{IsRecord, Record, body_of}
 
--- a record's frame is appended to a journal that is on the disk, whose gate isn't open and is the last byte before this place
+-- A record's frame may be appended to a journal: the journal stands on the disk, and the gate after its records isn't open and is the
+-- last byte before this offset.
 pub record IsAppend (end : ℕ) (added : List ℕ) (before : History) (guest : List ℕ) (records : List Record) (r : Record) : Type 0 where
   pub stands : IsShut guest records before
   pub at_end : end ≡ length before.disk
   pub framed : added ≡ frame (body_of r)
 
--- What stands behind the two writes of an append. After a device's fault what the last sync had left on the disk begins with
--- what was there.
-abbrev pub RecordLeft : (end : ℕ) → (added : List ℕ) → Bool → History → History → Type 0
-RecordLeft end added true before after =
-    (guest : List ℕ) (records : List Record) (r : Record) → IsAppend end added before guest records r → Stands guest (records ++ r ∷ []) after
-RecordLeft end added false before after =
-    (guest : List ℕ) (records : List Record) (r : Record) → IsAppend end added before guest records r → IsPrefixOf before.disk after.pending.synced
+-- What an append leaves of that journal. At every moment a crash leaves the journal as it was, or the one with the record. After
+-- success the one with the record stands. After a fault what was synced begins with what was there.
+pub record RecordAppended (guest : List ℕ) (records : List Record) (r : Record) (ok : Bool) (before after : History) : Type 0 where
+  pub moments : IsGuest guest → AllByRecursion IsRecord (records ++ r ∷ []) → Always (IsBeforeOrAfter guest records r before) before after
+  pub stands : ok ≡ true → Stands guest (records ++ r ∷ []) after
+  pub kept : ok ≡ false → IsPrefixOf before.disk after.pending.synced
 
--- At every moment a crash leaves the journal as it was, or the one with the record.
-abbrev pub RecordMoments : (end : ℕ) → (added : List ℕ) → History → History → Type 0
-RecordMoments end added before after = (guest : List ℕ) (records : List Record) (r : Record) → IsAppend end added before guest records r
-    → IsGuest guest → AllByRecursion IsRecord (records ++ r ∷ []) → Always (IsBeforeOrAfter guest records r before) before after
-
--- A frame was written behind the gate at the end, and then the gate was opened.
+-- The same of each journal that the frame may be appended to. Nothing was sent.
 abbrev pub RecordWritten : (end : ℕ) → (added : List ℕ) → Bool → History → History → Type 0
-RecordWritten end added ok before after = SentNothing before after × RecordLeft end added ok before after × RecordMoments end added before after
+RecordWritten end added ok before after = SentNothing before after
+    × ((guest : List ℕ) (records : List Record) (r : Record) → IsAppend end added before guest records r → RecordAppended guest records r ok before after)
 
 abbrev pub Appended : Journal → (added : List ℕ) → Result (Unit {0}) AppendFault → History → History → Type 0
 Appended j added (Ok done) before after = RecordWritten j.end added true before after
@@ -42,8 +37,8 @@ Appended j added (Err (appends.Failed last)) before after = after ≡ before
 Appended j added (Err (appends.Full end need)) before after = after ≡ before
 Appended j added (Err appends.DiskFault) before after = RecordWritten j.end added false before after
 
--- What the journal is behind an append of so many bytes. It answers Failed exactly if an append met a device's fault
--- before, and else Full exactly if it has no room.
+-- What the journal is after an append of this many bytes. The answer is Failed exactly if an earlier append met a device's fault, and
+-- else Full exactly if the frame doesn't fit.
 abbrev pub HasAppended : Journal → (size : ℕ) → Journal → Result (Unit {0}) AppendFault → Type 0
 HasAppended j size after (Ok done) =
     (j.failed ≡ false) × (j.end + size ≤ j.room) × (after ≡ record j { end = j.end + size; count = j.count + 1 })
@@ -59,13 +54,6 @@ MakesNoCall (Ok done) = ⊥
 MakesNoCall (Err (appends.Failed last)) = ⊤
 MakesNoCall (Err (appends.Full end need)) = ⊤
 MakesNoCall (Err appends.DiskFault) = ⊥
-
--- ---- on the way. This serves the contract of the crate's own step.
-
--- the same, of a frame at any place: the moments are known of one that ends no further than a journal may
-abbrev pub FrameWritten : (end : ℕ) → (added : List ℕ) → Bool → History → History → Type 0
-FrameWritten end added ok before after = SentNothing before after × RecordLeft end added ok before after
-    × (end + length added ≤ MAX_JOURNAL_BYTES → RecordMoments end added before after)
 
 -- ---- its calls
 

@@ -1,11 +1,19 @@
 -- What `read_whole` gives. This project's own.
-use Rattle.std.specs.Prelude.{◌≡◌, ◌≤◌, ℕ, Bool, false, List, length, take, Option, Some, None, ⊤}
+use Rattle.std.specs.Prelude.{◌≡◌, ◌≤◌, ℕ, Bool, false, List, length, take, Option, Some, None, Result, Ok, Err, ⊤}
 use Rattle.dp_base.specs.declared.limits.TheConstants.{MAX_JOURNAL_BYTES}
+use Rattle.epoch_journal.specs.declared.whole.ReadFault.{ReadFault}
+use Rattle.epoch_journal.specs.declared.whole.ReadFault.TheVariants as reads
 
 -- the first bytes of the disk, where it is known
 abbrev pub IsReadWhole : Option (List ℕ) → List ℕ → Type 0
 IsReadWhole None bytes = ⊤
 IsReadWhole (Some disk) bytes = bytes ≡ take MAX_JOURNAL_BYTES disk
+
+-- The disk has met no fault, unless the answer names one: the count of its faults, before and after.
+abbrev pub MetNoOther : {A : Type 0} → Result A ReadFault → (disk disk_after : ℕ) → Type 0
+MetNoOther (Ok done) disk disk_after = disk_after ≡ disk
+MetNoOther (Err reads.OutOfMemory) disk disk_after = disk_after ≡ disk
+MetNoOther (Err reads.DiskFault) disk disk_after = ⊤
 
 -- ---- on the way. These serve the contracts of the crate's own steps.
 

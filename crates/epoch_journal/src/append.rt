@@ -1,9 +1,9 @@
 // A record is appended to a journal.
-ghost use Rattle.std.specs.Prelude.{◌≡◌, ◌<◌, ◌≤◌, IsErr, IsErrOf, OnOk, is_ok, length};
+ghost use Rattle.std.specs.Prelude.{◌≡◌, ◌+◌, ◌<◌, ◌≤◌, IsErr, IsErrOf, OnOk, is_ok, length};
 ghost use Rattle.dp_base.specs.declared.limits.TheConstants.{MAX_JOURNAL_BYTES};
 ghost use Rattle.disk_model.specs.Counts.{Rose};
 ghost use Rattle.disk_model.specs.Known.{IfKnown};
-ghost use Rattle.epoch_journal.specs.Appending.{AppendCalls, Appended, FrameWritten, HasAppended, MakesNoCall, RecordCalls};
+ghost use Rattle.epoch_journal.specs.Appending.{AppendCalls, Appended, HasAppended, MakesNoCall, RecordCalls, RecordWritten};
 
 use crate::journal::Journal;
 use device::write_through;
@@ -66,8 +66,9 @@ impl Journal {
 
 // Writes a frame behind the gate at the journal's end, and then opens the gate.
 fn write_record<W: World>(world: &mut W, end: u64, frame: &[u8]) -> Result<(), Failed>
-    requires { 0 < end }
-    ensures history { IfKnown (FrameWritten end frame.now (is_ok result)) (W.history world.old) (W.history world.new) }
+    requires gate { 0 < end }
+    requires fits { end + length frame.now ≤ MAX_JOURNAL_BYTES }
+    ensures history { IfKnown (RecordWritten end frame.now (is_ok result)) (W.history world.old) (W.history world.new) }
     ensures calls { IfKnown (RecordCalls end frame.now (is_ok result)) (W.history world.old) (W.history world.new) }
     ensures cause { IsErr result → Rose (W.disk_faults world.old) (W.disk_faults world.new) }
     ensures none { OnOk result (W.disk_faults world.new ≡ W.disk_faults world.old) }

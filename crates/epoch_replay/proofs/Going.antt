@@ -24,7 +24,8 @@ use Rattle.epoch_replay.specs.declared.replay_fault.ReplayFault.{ReplayFault}
 use Rattle.epoch_replay.specs.declared.replay_fault.ReplayFault.TheVariants as faults
 use Rattle.epoch_replay.specs.Play.{Played, Refusal, bad_epoch, bad_journal, bad_mark, behind, is_right, play_from, play_of, played, played_if, plays_to, stopped}
 use Rattle.epoch_replay.specs.Playing.{GoesOn, IsAll, IsBounded, IsStart, SoFar, left_at}
-use Rattle.epoch_replay.specs.Replaying.{Ends, HasNotedSome, HasSent, HasSentSome, Refused, Replayed, epochs_of}
+use Rattle.epoch_replay.specs.Replaying.{EachMoment, Ends, HasNotedSome, HasSent, HasSentSome, Refused, Replayed, epochs_of, output_of}
+use Rattle.epoch_replay.proofs.Moments.{each_moment, noted_moments, quiet, sent_moments}
 
 -- ---- the definition, step by step
 
@@ -127,6 +128,11 @@ pub accepted_plays : (reading : Reading) → IsGuestFile reading.guest → plays
 accepted_plays reading accepted = ap (λ (fault : Option ℕ). played_if fault reading) accepted
 
 module _ (reading : Reading) (file : List ℕ) (first now : Option History) (p : Progress) (so_far : SoFar reading file first now p) where
+  -- every moment so far
+  pub so_far_moments : EachMoment (Some reading) first now
+  so_far_moments = each_moment (Some reading) so_far.output (play_from p.state p.number (left_at file p.at) reading.tail).output first now
+      (ap output_of (accepted_plays reading so_far.accepted) ∙ ap (λ (q : Played). q.output) so_far.plays) so_far.moments
+
   -- what is left plays to this
   plays_on : (q : Played) → play_from p.state p.number (left_at file p.at) reading.tail ≡ q → play_of reading ≡ behind so_far.output q
   plays_on q is = so_far.plays ∙ ap (behind so_far.output) is
@@ -168,6 +174,7 @@ module _ (reading : Reading) (file : List ℕ) (first now : Option History) (p :
       epochs = omega (arith, so_far.epochs, ap (λ (l : List Record). length (epochs_of l)) none_left);
       sent = so_far.sent;
       history = so_far.history;
+      moments = so_far.moments;
     }
 
     pub malformed : next_at (drop p.at file) ≡ bad → Replayed (Some reading) first now (Err (faults.BadJournal p.number))
@@ -212,7 +219,14 @@ module _ (reading : Reading) (file : List ℕ) (first now : Option History) (p :
         epochs = omega (arith, so_far.epochs, ap (λ (l : List Record). length (epochs_of l)) (one_left next (epoch e) one));
         sent = omega (arith, so_far.sent, counted, length-append so_far.output output);
         history = sent_more so_far.output output first now later so_far.history known;
+        moments = sent_moments so_far.output output true first now later so_far.history so_far.moments known;
       }
+
+      -- while its output is sent
+      pub epoch_moments : (later : Option History) (ok : Bool) → IfKnown (Sent Out output ok) now later → EachMoment (Some reading) first later
+      epoch_moments later ok known = each_moment (Some reading) (so_far.output ++ output) (play_from s (p.number + 1) (left_at file next) reading.tail).output first later
+          (ap output_of (accepted_plays reading so_far.accepted) ∙ ap (λ (q : Played). q.output) plays_behind)
+          (sent_moments so_far.output output ok first now later so_far.history so_far.moments known)
 
       pub epoch_not_sent : (later : Option History) → IfKnown (Sent Out output false) now later → Replayed (Some reading) first later (Err faults.OutputFault)
       epoch_not_sent later known = inl (
@@ -240,6 +254,7 @@ module _ (reading : Reading) (file : List ℕ) (first now : Option History) (p :
       epochs = omega (arith, so_far.epochs, ap (λ (l : List Record). length (epochs_of l)) (one_left next (mark c) one));
       sent = so_far.sent;
       history = so_far.history;
+      moments = so_far.moments;
     }
 
 -- ---- all records were played
@@ -268,6 +283,23 @@ module _ (reading : Reading) (first now : Option History) (p : Progress) (is : I
     known-map _ _ _ _ (λ s t r. (is.output, ([], ap (λ (q : Played). q.output) is.plays ∙ sym (append-nil is.output)), r)) is.history,
   )
 
+-- ---- every moment of a play
+
+module _ (reading : Reading) (first now : Option History) (p : Progress) (is : IsAll reading first now p) where
+  played_whole : output_of (plays_to (Some reading)) ≡ is.output ++ []
+  played_whole = ap output_of (accepted_plays reading is.accepted) ∙ ap (λ (q : Played). q.output) is.plays ∙ sym (append-nil is.output)
+
+  pub all_moments : EachMoment (Some reading) first now
+  all_moments = each_moment (Some reading) is.output [] first now played_whole is.moments
+
+  pub line_moments : (text : List ℕ) (ok : Bool) (later : Option History) → IfKnown (Sent Note text ok) now later → EachMoment (Some reading) first later
+  line_moments text ok later known = each_moment (Some reading) is.output [] first later played_whole (noted_moments is.output text ok first now later is.moments known)
+
+-- whether its list goes on or not
+pub play_moments : (reading : Reading) (file : List ℕ) (first now : Option History) (p : Progress) (more : Bool) → GoesOn reading file first now p more → EachMoment (Some reading) first now
+play_moments reading file first now p true so_far = so_far_moments reading file first now p so_far
+play_moments reading file first now p false is = all_moments reading first now p is
+
 -- ---- its numbers
 
 pub epoch_bounded : (file : List ℕ) (p : Progress) (s : State) (sent next : ℕ) (e : Epoch) → length file ≤ MAX_JOURNAL_BYTES → IsBounded file p → p.at < next → next ≤ length file
@@ -287,6 +319,9 @@ epoch_bounded file p s sent next e read is further within few counts reads write
 
 pub at_reading : (o : Option Reading) (reading : Reading) (before after : Option History) (answer : Result Report ReplayFault) → o ≡ Some reading → Replayed (Some reading) before after answer → Replayed o before after answer
 at_reading o reading before after answer is replayed = subst (λ (q : Option Reading). Replayed q before after answer) (sym is) replayed
+
+pub moments_at : (o : Option Reading) (reading : Reading) (before after : Option History) → o ≡ Some reading → EachMoment (Some reading) before after → EachMoment o before after
+moments_at o reading before after is each = subst (λ (q : Option Reading). EachMoment q before after) (sym is) each
 
 -- ---- the start
 
@@ -316,6 +351,7 @@ module _ (file : List ℕ) (first : ℕ) (start : State) (is : IsStart file firs
           epochs = omega arith;
           sent = refl;
           history = known-same _ _ _ refl (λ s. record { disk = refl; pending = refl; sent = sym (append-nil s.sent); noted = sym (append-nil s.noted) });
+          moments = quiet [] h h refl;
         },
       )
 

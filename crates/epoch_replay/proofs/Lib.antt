@@ -1,4 +1,5 @@
 pub mod Going
+pub mod Moments
 mod Finding
 mod Marks
 mod Epochs

@@ -1,11 +1,13 @@
-//! The replayer: reads a journal whole, runs its epochs one after another from the guest's start, sends their output, and
-//! judges its marks.
+//! The replayer. It reads a journal whole, runs its epochs one after another from the guest's start, sends their output, and compares
+//! each mark with the guest's state.
 //!
-//! Promises (the contract of `replay`): what a journal plays to is a definition (`specs/Play.antt`), and each answer but a
-//! device's fault and `OutOfMemory` is the journal's own; the output sent is then exactly the one that it plays to, and after
-//! the others a prefix of it. The disk isn't written. At `Ok` the report's line was sent on Note, and else nothing was but a
-//! prefix of it. Stands on `epoch_journal`, `journal_text`, `epoch_record`, `guest_kernel`, `checkpoint`, `state_compare`,
-//! `device` and `dp_report`.
+//! Promises (the contract of `replay`): `specs/Play.antt` defines what a journal plays to. Each answer but a device's fault and
+//! `OutOfMemory` is the one that the definition gives, and the output sent is then exactly the output that it gives; after the others a
+//! prefix of it was sent. No call writes to the disk, so at every moment of a replay a crash leaves what it would have left before, and
+//! a prefix of that output was sent (clause `moments`). At `Ok` no call of the world failed, and the report's line was sent on Note.
+//! Otherwise nothing was, or a prefix of that line.
+//!
+//! Stands on `epoch_journal`, `journal_text`, `epoch_record`, `guest_kernel`, `checkpoint`, `state_compare`, `device` and `dp_report`.
 //!
 //! ```text
 //! world.attach("journal", false)?;

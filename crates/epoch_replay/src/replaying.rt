@@ -7,7 +7,8 @@ ghost use Rattle.disk_model.specs.Known.{known_disk};
 ghost use Rattle.journal_text.specs.Reading.{Reading, reads};
 ghost use Rattle.epoch_replay.specs.declared.replay_fault.ReplayFault.TheVariants as faults;
 ghost use Rattle.epoch_replay.specs.Playing.{IsBounded, IsStart, PlayedOn, SoFar};
-ghost use Rattle.epoch_replay.specs.Replaying.{IsKnownToEnd, IsNoFault, OnDisk, Replayed};
+ghost use Rattle.epoch_replay.specs.Faults.{MetNoOther};
+ghost use Rattle.epoch_replay.specs.Replaying.{EachMoment, IsKnownToEnd, IsNoFault, OnDisk, Replayed};
 
 use crate::epoch::play_epoch;
 use crate::mark::is_right_mark;
@@ -26,6 +27,9 @@ use std::alloc::Global;
 /// Note. The world comes back whatever happens. The disk is read once, from its start, and isn't written. The epochs are run
 /// one after another, for any number of workers.
 ///
+/// At every moment of the call the disk is as it was, so a crash leaves the journal, and what was sent is a prefix of the output that
+/// the journal plays to.
+///
 /// # Errors
 ///
 /// See [`ReplayFault`]. The file is judged first, then its guest, and then the records in their order.
@@ -37,6 +41,9 @@ pub fn replay<R, W: World>(
 ) -> (W, Result<Report, ReplayFault>)
     ensures replayed { OnDisk (known_disk (W.history world))
         (λ bytes. Replayed (reads bytes) (W.history world) (W.history result.0) result.1) }
+    ensures moments { OnDisk (known_disk (W.history world))
+        (λ bytes. EachMoment (reads bytes) (W.history world) (W.history result.0)) }
+    ensures others { MetNoOther result.1 (W.disk_faults world) (W.disk_faults result.0) (W.sink_faults world) (W.sink_faults result.0) }
     ensures disk_cause { result.1 ≡ Err faults.DiskFault → Rose (W.disk_faults world) (W.disk_faults result.0) }
     ensures sink_cause { result.1 ≡ Err faults.OutputFault → Rose (W.sink_faults world) (W.sink_faults result.0) }
     ensures disk_count { W.disk_faults world ≤ W.disk_faults result.0 }
@@ -53,6 +60,10 @@ pub fn replay<R, W: World>(
 fn replay_disk<W: World>(alloc: Global, world: &mut W) -> Result<Report, ReplayFault>
     ensures replayed { OnDisk (known_disk (W.history world.old))
         (λ bytes. Replayed (reads bytes) (W.history world.old) (W.history world.new) result) }
+    ensures moments { OnDisk (known_disk (W.history world.old))
+        (λ bytes. EachMoment (reads bytes) (W.history world.old) (W.history world.new)) }
+    ensures others { MetNoOther result (W.disk_faults world.old) (W.disk_faults world.new)
+        (W.sink_faults world.old) (W.sink_faults world.new) }
     ensures disk_cause { IsErrOf result ReplayFault.DiskFault →
         Rose (W.disk_faults world.old) (W.disk_faults world.new) }
     ensures sink_cause { IsErrOf result ReplayFault.OutputFault →
@@ -68,6 +79,9 @@ fn replay_disk<W: World>(alloc: Global, world: &mut W) -> Result<Report, ReplayF
 fn replay_file<W: World>(alloc: Global, world: &mut W, file: &[u8]) -> Result<Report, ReplayFault>
     requires few { length file.now ≤ MAX_JOURNAL_BYTES }
     ensures replayed { Replayed (reads file.now) (W.history world.old) (W.history world.new) result }
+    ensures moments { EachMoment (reads file.now) (W.history world.old) (W.history world.new) }
+    ensures others { MetNoOther result (W.disk_faults world.old) (W.disk_faults world.new)
+        (W.sink_faults world.old) (W.sink_faults world.new) }
     ensures no_disk_fault { IsErrOf result ReplayFault.DiskFault → ⊥ }
     ensures sink_cause { IsErrOf result ReplayFault.OutputFault →
         Rose (W.sink_faults world.old) (W.sink_faults world.new) }
@@ -100,6 +114,9 @@ fn play<W: World>(
     requires few { length file.now ≤ MAX_JOURNAL_BYTES }
     requires starts { IsStart file.now first start }
     ensures replayed { Replayed (reads file.now) (W.history world.old) (W.history world.new) result }
+    ensures moments { EachMoment (reads file.now) (W.history world.old) (W.history world.new) }
+    ensures others { MetNoOther result (W.disk_faults world.old) (W.disk_faults world.new)
+        (W.sink_faults world.old) (W.sink_faults world.new) }
     ensures no_disk_fault { IsErrOf result ReplayFault.DiskFault → ⊥ }
     ensures sink_cause { IsErrOf result ReplayFault.OutputFault →
         Rose (W.sink_faults world.old) (W.sink_faults world.new) }
@@ -145,6 +162,11 @@ fn play_record<W: World>(
     ensures played { (reading : Reading) (first : Option History) →
         SoFar reading file.now first (W.history world.old) progress.old →
         PlayedOn reading file.now first (W.history world.new) progress.new result }
+    ensures moments { (reading : Reading) (first : Option History) →
+        SoFar reading file.now first (W.history world.old) progress.old →
+        EachMoment (Some reading) first (W.history world.new) }
+    ensures others { MetNoOther result (W.disk_faults world.old) (W.disk_faults world.new)
+        (W.sink_faults world.old) (W.sink_faults world.new) }
     ensures bounded { IfOk result (λ more. IsBounded file.now progress.new) }
     ensures goes_on { IfOk result (λ more. IsTrue more → progress.old.at < progress.new.at) }
     ensures stays { IfOk result (λ more. progress.old.at ≤ progress.new.at) }

@@ -5,7 +5,7 @@ use Rattle.dp_base.specs.Journal.{IsGuest}
 use Rattle.disk_model.specs.Input.{Input}
 use Rattle.supply.specs.Supplied.{empty}
 use Rattle.supply.specs.declared.TheConstants.{MAX_ROOM}
-use Rattle.recorder.specs.Drawing.{HasDrawn, IsHonestSince}
+use Rattle.recorder.specs.Drawing.{IsHonestSince}
 use Rattle.recorder.proofs.Drawings.{IsDrawn, has_drawn, none_drawn}
 use Rattle.disk_model.specs.History.{History, IsSynced}
 use Rattle.disk_model.specs.Moments.{Always}
@@ -17,13 +17,13 @@ use Rattle.recorder.specs.declared.options.Options.{Options}
 use Rattle.epoch_journal.specs.declared.begin.BeginFault.{BeginFault}
 use Rattle.epoch_journal.specs.declared.begin.BeginFault.TheVariants as begins
 use Rattle.recorder.specs.Faults.{of_begin}
-use Rattle.recorder.specs.Recording.{MayFollow, Recorded}
+use Rattle.recorder.specs.Recording.{Recorded}
 use Rattle.epoch_journal.specs.Beginning.{Begun, HasBegun}
 use Rattle.epoch_journal.specs.Standing.{Journal}
 use Rattle.journal_text.specs.Reading.{journal_of}
 use Rattle.recorder.specs.Moments.{EachMoment, HoldsAt}
 use Rattle.recorder.proofs.Moments.{begin_left, begins_partly, each_moment, nothing_begun}
-use Rattle.recorder.proofs.RunLists.{no_epochs, no_round}
+use Rattle.recorder.proofs.RunLists.{no_epochs}
 use Rattle.recorder.proofs.SoFar.{CanGoOn, SoFar}
 
 module _ (guest : List ℕ) (guest_is : IsGuest guest) (options : Options) (start : State) (i : Option Input) (first : Option History) where
@@ -47,7 +47,7 @@ module _ (guest : List ℕ) (guest_is : IsGuest guest) (options : Options) (star
           little_input = omega (arith, input);
           are_answers = tt;
           drawn = known-same (IsDrawn (empty MAX_ROOM) start.input [] []) i i refl (λ s. subst (λ (n : ℕ). IsDrawn (empty MAX_ROOM) n [] [] s s) (sym input) (none_drawn s));
-          history = known-map _ _ _ _ (λ s t b. record { empty = b.0; stands = b.1; sent = b.2.sent ∙ sym (append-nil s.sent); noted = b.2.noted }) begun;
+          history = known-map _ _ _ _ (λ s t b. record { empty = b.0; stands = b.1; sent = b.2.sent ∙ sym (append-nil s.sent); noted = b.2.noted ∙ sym (append-nil s.noted) }) begun;
           moments = known-map _ _ _ _ (λ s t b empty synced. begins_partly guest start (no_epochs start) s t (b.3 guest_is synced empty)) begun;
           place_is = end_is ∙ sym size;
           room_is = ap (λ (k : Journal). k.room) begun_is.0;
@@ -64,11 +64,9 @@ module _ (guest : List ℕ) (guest_is : IsGuest guest) (options : Options) (star
   pub begin_failed : (now : Option History) (fault : BeginFault) → start.steps ≤ options.limit → HasBegun (length guest) options.room (Err fault) → IfKnown (Begun guest (Err fault)) first now
       → Recorded guest start options i i first now (Err (of_begin fault))
   begin_failed now (begins.InUse len) few numbers begun = (numbers, refl, begun)
-  begin_failed now begins.DiskFault few numbers begun = (
-    no_round options start few,
-    inl refl,
-    inl (known-same (HasDrawn [] []) i i refl (λ s. has_drawn (empty MAX_ROOM) 0 [] [] s s (none_drawn s))),
-    known-map _ _ _ _ (λ s t b. record { sent = b.0.sent ∙ sym (append-nil s.sent); noted = b.0.noted; on_disk = inl (refl, λ empty_ synced. b.3 guest_is synced empty_); untouched = b.1; left = λ empty_ synced. begin_left guest start (MayFollow (no_round options start few)) s t (b.2 guest_is synced empty_) }) begun,
+  begin_failed now begins.DiskFault few numbers begun = inl (
+    refl,
+    known-map _ _ _ _ (λ s t b. record { sent = b.0.sent; noted = b.0.noted; untouched = b.1; synced = λ empty_ synced. b.3 guest_is synced empty_; left = λ empty_ synced. begin_left guest s t (b.2 guest_is synced empty_) }) begun,
   )
   begin_failed now (begins.Full end need) few numbers begun = inl (numbers.0, numbers.1, numbers.2, refl, begun)
   begin_failed now begins.OutOfMemory few numbers begun = inl (refl, begun)

@@ -1,14 +1,11 @@
 -- What a crash leaves at every moment of a recording so far, and how that goes on.
-use Rattle.std.proofs.Common.{◌≡◌, ◌⊎◌, inl, inr, ℕ, List, [], ◌∷◌, ◌++◌, take, drop, Option, Some, None, Ok, refl, sym, ap, subst, ◌∙◌, append_assoc, arith}
+use Rattle.std.proofs.Common.{◌≡◌, ◌⊎◌, inl, inr, ℕ, List, [], ◌∷◌, ◌++◌, take, drop, Option, None, Ok, refl, sym, ap, subst, ◌∙◌, append_assoc, arith}
 use Rattle.std.specs.List.{AllByRecursion}
 use Rattle.std.proofs.lemmas.List.{append-nil, take-append-drop}
-use Rattle.std.proofs.lemmas.Option.{same_Some}
 use Rattle.dp_base.specs.declared.answer.Answer.{Answer}
 use Rattle.dp_base.specs.declared.answer.Answer.TheVariants.{Read}
 use Rattle.dp_base.specs.Encoding.{IsPrefixOf}
 use Rattle.dp_base.specs.Journal.{Epoch}
-use Rattle.device.specs.Sending.{IsSending}
-use Rattle.disk_model.specs.declared.world.Stream.TheVariants.{Note}
 use Rattle.disk_model.specs.History.{History, IsImage, IsSynced, Pending, now, nothing_pending}
 use Rattle.disk_model.specs.Input.{IfInput, Input}
 use Rattle.disk_model.specs.Known.{IfKnown}
@@ -28,7 +25,7 @@ use Rattle.supply.specs.Supplied.{Supplied}
 use Rattle.recorder.specs.Committing.{IsCommitting}
 use Rattle.recorder.specs.Drawing.{AreFound, IsHonestSince, Round, answers_of, epochs_of, readings_since, supply_of}
 use Rattle.recorder.specs.Moments.{EachMoment, HoldsAt, IsRecording, answers_in}
-use Rattle.recorder.specs.Recording.{EachIsNext, IsLeft, first_behind, records_of}
+use Rattle.recorder.specs.Recording.{EachIsNext, first_behind, records_of}
 use Rattle.epoch_runner.proofs.AnswerLists.{clocks_append, read_append}
 
 -- ---- answers
@@ -158,23 +155,6 @@ module _ (guest : List ℕ) (start : State) where
     commits_partly u a b = always-then P s t u (always-weaker (IsPartly guest start epochs s) P s t (partly_more epochs e s) a)
         (always-weaker (IsCommitting guest (records_of epochs) (epoch e) output t) P t u partly_committing b)
 
-  -- what a failed append leaves
-  pub append_left : (epochs : List Epoch) (e : Epoch) (Follows : Epoch → Type 0) → Follows e → records_of (epochs ++ e ∷ []) ≡ records_of epochs ++ epoch e ∷ [] → (t u : History)
-      → Always (IsBeforeOrAfter guest (records_of epochs) (epoch e) t) t u → Then (λ image sent. IsLeft guest epochs Follows image) (now u)
-  append_left epochs e Follows follows push t u a image sent may = look (a.last image sent may).0
-    where
-      look : (Reads guest (records_of epochs) image) ⊎ (Reads guest (records_of epochs ++ epoch e ∷ []) image) → IsLeft guest epochs Follows image
-      look (inl journal) = inr (inl journal)
-      look (inr journal) = inr (inr (e, follows, subst (λ (l : List Record). Reads guest l image) (sym push) journal))
-
-  -- what a failed beginning leaves
-  pub begin_left : (Follows : Epoch → Type 0) (s t : History) → Always (IsBeginning guest s) s t → Then (λ image sent. IsLeft guest [] Follows image) (now t)
-  begin_left Follows s t a image sent may = look (a.last image sent may).0
-    where
-      look : (reads image ≡ None) ⊎ (Reads guest [] image) → IsLeft guest [] Follows image
-      look (inl nothing) = inl (refl, nothing)
-      look (inr journal) = inr (inl journal)
-
   -- ---- it is over
 
   module _ (epochs : List Epoch) (i j : Option Input) (honest : IfInput (IsHonestSince (answers_in epochs)) i j) where
@@ -205,22 +185,23 @@ module _ (guest : List ℕ) (start : State) where
   nothing_begun i j s empty synced = always-start (HoldsAt guest start i j s) s
       (λ image sent may. ([], may.got ∙ got-nothing s.sent may.taken ∙ sym (append-nil s.sent), inl (blank_reads s empty synced image may.on_disk, refl)))
 
-pub nothing_left : (guest : List ℕ) (Follows : Epoch → Type 0) (s : History) → s.disk ≡ [] → IsSynced s → Then (λ image sent. IsLeft guest [] Follows image) (now s)
-nothing_left guest Follows s empty synced image sent may = inl (refl, blank_reads s empty synced image may.on_disk)
+-- what a failed append leaves
+pub append_left : (guest : List ℕ) (epochs : List Epoch) (e : Epoch) → records_of (epochs ++ e ∷ []) ≡ records_of epochs ++ epoch e ∷ [] → (t u : History)
+    → Always (IsBeforeOrAfter guest (records_of epochs) (epoch e) t) t u → Then (λ image sent. (Reads guest (records_of epochs) image) ⊎ (Reads guest (records_of (epochs ++ e ∷ [])) image)) (now u)
+append_left guest epochs e push t u a image sent may = look (a.last image sent may).0
+  where
+    look : (Reads guest (records_of epochs) image) ⊎ (Reads guest (records_of epochs ++ epoch e ∷ []) image) → (Reads guest (records_of epochs) image) ⊎ (Reads guest (records_of (epochs ++ e ∷ [])) image)
+    look (inl journal) = inl journal
+    look (inr journal) = inr (subst (λ (l : List Record). Reads guest l image) (sym push) journal)
+
+-- what a failed beginning leaves
+pub begin_left : (guest : List ℕ) (s t : History) → Always (IsBeginning guest s) s t → Then (λ image sent. (reads image ≡ None) ⊎ (Reads guest [] image)) (now t)
+begin_left guest s t a image sent may = (a.last image sent may).0
+
+-- what is left where nothing was done
+pub nothing_left : (guest : List ℕ) (s : History) → s.disk ≡ [] → IsSynced s → Then (λ image sent. (reads image ≡ None) ⊎ (Reads guest [] image)) (now s)
+nothing_left guest s empty synced image sent may = inl (blank_reads s empty synced image may.on_disk)
 
 -- nor has the last sync left one there
 pub nothing_synced : (s : History) → s.disk ≡ [] → IsSynced s → reads s.pending.synced ≡ None
 nothing_synced s empty synced = ap reads (ap (λ (p : Pending). p.synced) synced ∙ empty) ∙ reads_nothing
-
--- ---- a line on Note
-
--- it changes nothing of what a crash leaves
-pub noted-too : (P : List ℕ → List ℕ → Type 0) (bytes : List ℕ) (s t u : History) → Always P s t → Always (IsSending Note bytes t) t u → Always P s u
-noted-too P bytes s t u a b = always-then P s t u a (always-weaker (IsSending Note bytes t) P t u
-    (λ image sent x. a.last image sent (record { on_disk = x.0; taken = 0; got = x.1 ∙ sym (append-nil t.sent) })) b)
-
--- ---- what is known of a world twice
-
-pub known-both : (R S : History → History → Type 0) (a b : Option History) → IfKnown R a b → IfKnown S a b → IfKnown (λ s t. R s t × S s t) a b
-known-both R S None b h k = tt
-known-both R S (Some s) b h k = (h.0, h.1, (h.2, subst (λ (t : History). S s t) (sym (same_Some _ _ (sym h.1 ∙ k.1))) k.2))

@@ -1,6 +1,6 @@
 -- A recording so far goes on by a round, and stops.
 use Rattle.std.proofs.Common.{◌≡◌, inl, inr, ℕ, ◌+◌, ◌*◌, ◌<◌, ◌≤◌, Bool, true, false, List, [], ◌∷◌, ◌++◌, length, take, Option, Result, Ok, Err, refl, sym, ap, subst, ◌∙◌, append_assoc, arith}
-use Rattle.std.proofs.lemmas.List.{length-append, length_push, take_all}
+use Rattle.std.proofs.lemmas.List.{append-nil, length-append, length_push, take_all}
 use Rattle.dp_base.specs.declared.limits.TheConstants.{EPOCH_END_BYTES, MAX_CALL_BYTES}
 use Rattle.std.specs.List.{AllByRecursion}
 use Rattle.dp_base.specs.declared.answer.Answer.{Answer}
@@ -16,7 +16,7 @@ use Rattle.recorder.proofs.Drawings.{IsDrawn, TakeLaws, drawn_more, has_drawn, t
 use Rattle.disk_model.specs.History.{History}
 use Rattle.disk_model.specs.Moments.{Always}
 use Rattle.disk_model.specs.Known.{IfKnown}
-use Rattle.disk_model.proofs.Knowing.{known-map, known-then}
+use Rattle.disk_model.proofs.Knowing.{known-both, known-map, known-then}
 use Rattle.guest_kernel.specs.declared.state.State.{State}
 use Rattle.guest_kernel.specs.Slices.{chain}
 use Rattle.guest_kernel.specs.State.{has_ended}
@@ -26,13 +26,14 @@ use Rattle.recorder.specs.declared.record_fault.RecordFault.{RecordFault}
 use Rattle.recorder.specs.declared.commit.CommitFault.TheVariants as commits
 use Rattle.recorder.specs.declared.record_fault.RecordFault.TheVariants as faults
 use Rattle.recorder.specs.Faults.{of_commit}
-use Rattle.recorder.specs.Committing.{CommitMoments, Committed, HasCommitted}
-use Rattle.recorder.specs.Recording.{IsNext, Run, epoch_steps, first_after, HasDrawnOn, HasRoom, IsRecorded, MayFollow, Recorded, records_of, reported}
+use Rattle.recorder.specs.Committing.{Committed, EachCommitted, HasCommitted}
+use Rattle.recorder.specs.Recording.{HasDrawnOn, HasRoom, IsNext, IsRecorded, NextRound, Recorded, Run, epoch_steps, first_after, records_of, reported}
 use Rattle.device.specs.Sending.{Sent}
+use Rattle.device.proofs.Notes.{noted-too}
 use Rattle.disk_model.specs.declared.world.Stream.TheVariants.{Note}
 use Rattle.dp_report.specs.declared.report.Report.{Report}
 use Rattle.dp_report.specs.Texts.{report_line}
-use Rattle.epoch_journal.specs.Appending.{IsAppend, RecordMoments}
+use Rattle.epoch_journal.specs.Appending.{IsAppend, RecordWritten}
 use Rattle.epoch_journal.specs.Standing.{Journal, Stands}
 use Rattle.epoch_journal.proofs.AtRest.{shut-of}
 use Rattle.epoch_journal.proofs.OnDisk.{length-journal-push}
@@ -41,8 +42,8 @@ use Rattle.journal_text.specs.Records.{IsRecord, Record, epoch}
 use Rattle.recorder.specs.Moments.{EachMoment, HoldsAt, answers_in}
 use Rattle.recorder.specs.Telling.{HasTold, IsTold, report_at}
 use Rattle.dp_base.proofs.Lists.{all_append}
-use Rattle.recorder.proofs.Moments.{AlwaysPartly, answers_are, append_left, appends_partly, are_records, commits_partly, each_moment, known-both, noted-too}
-use Rattle.recorder.proofs.RunLists.{AreAnswers, answers-push, answers_are-push, draws-push, each-push, epochs-push, records-push, supply-push}
+use Rattle.recorder.proofs.Moments.{AlwaysPartly, answers_are, append_left, appends_partly, are_records, commits_partly, each_moment}
+use Rattle.recorder.proofs.RunLists.{AreAnswers, RunsAsScheduled, answers-push, answers_are-push, draws-push, each-push, epochs-push, records-push, supply-push}
 use Rattle.recorder.proofs.SoFar.{CanGoOn, HasDrawnRound, SoFar, room_kept, still_placed}
 
 module _ (guest : List ℕ) (guest_is : IsGuest guest) (options : Options) (start : State) (i : Option Input) (first : Option History) where
@@ -128,7 +129,7 @@ module _ (guest : List ℕ) (guest_is : IsGuest guest) (options : Options) (star
               empty = r.empty;
               stands = record { disk = b.1.disk ∙ r.stands.disk; synced = (let before = r.stands.synced in let disk = b.1.disk in let pending = b.1.pending in cc) };
               sent = b.1.same ∙ r.sent;
-              noted = b.1.grown ∙ ap (λ (l : List ℕ). l ++ take b.0 (report_line report)) r.noted ∙ ap (λ (l : List ℕ). s.noted ++ l) (take_all b.0 (report_line report) (b.2 refl));
+              noted = b.1.grown ∙ ap (λ (l : List ℕ). l ++ take b.0 (report_line report)) (r.noted ∙ append-nil s.noted) ∙ ap (λ (l : List ℕ). s.noted ++ l) (take_all b.0 (report_line report) (b.2 refl));
             })
             so_far.history known,
       )
@@ -146,7 +147,7 @@ module _ (guest : List ℕ) (guest_is : IsGuest guest) (options : Options) (star
                 empty = r.empty;
                 stands = record { disk = b.1.disk ∙ r.stands.disk; synced = (let before = r.stands.synced in let disk = b.1.disk in let pending = b.1.pending in cc) };
                 sent = b.1.same ∙ r.sent;
-                noted = b.1.grown ∙ ap (λ (l : List ℕ). l ++ take b.0 (report_line report)) r.noted ∙ ap (λ (q : Report). s.noted ++ take b.0 (report_line q)) report_is;
+                noted = b.1.grown ∙ ap (λ (l : List ℕ). l ++ take b.0 (report_line report)) (r.noted ∙ append-nil s.noted) ∙ ap (λ (q : Report). s.noted ++ take b.0 (report_line q)) report_is;
               },
             ))
             so_far.history known,
@@ -162,7 +163,7 @@ module _ (guest : List ℕ) (guest_is : IsGuest guest) (options : Options) (star
       inl ended_,
       fits_still,
       no_more,
-      known-then _ _ _ _ _ _ (λ s t u r k. subst (λ (h : History). IsRecorded guest (epochs_of so_far.done) so_far.output s h) (sym k) r) so_far.history known,
+      known-then _ _ _ _ _ _ (λ s t u r k. subst (λ (h : History). IsRecorded guest (epochs_of so_far.done) so_far.output [] s h) (sym k) r) so_far.history known,
     )
     ended_so later ended_ (Err faults.DiskFault) is known = absurd is
     ended_so later ended_ (Err faults.InputFault) is known = absurd is
@@ -227,7 +228,10 @@ module _ (guest : List ℕ) (guest_is : IsGuest guest) (options : Options) (star
         next_there : IsNext options (first_after 1 (epochs_of so_far.done)) state (supply_of (supply_behind (empty MAX_ROOM) (draws_of so_far.done)) round.draw) e end output
         next_there = subst (λ (x : Supplied). IsNext options (first_after 1 (epochs_of so_far.done)) state x e end output) with_is next_
 
-        appends_there : (s t : History) → IsRecorded guest (epochs_of so_far.done) so_far.output s t → IsAppend j.end added t guest (records_of (epochs_of so_far.done)) (epoch e)
+        abbrev next_round : has_ended state.end ≡ false → state.steps < options.limit → NextRound run_so_far
+        next_round going left = record { goes_on = (going, left); draw = round.draw; due = due_is; epoch = e; end = end; output = output; next = next_there }
+
+        appends_there : (s t : History) → IsRecorded guest (epochs_of so_far.done) so_far.output [] s t → IsAppend j.end added t guest (records_of (epochs_of so_far.done)) (epoch e)
         appends_there s t recorded = record { stands = shut-of guest (records_of (epochs_of so_far.done)) t recorded.stands; at_end = so_far.place_is ∙ ap (λ (l : List ℕ). length l) (sym recorded.stands.disk); framed = framed }
 
         stands_more : (u : History) → Stands guest (records_of (epochs_of so_far.done) ++ epoch e ∷ []) u → Stands guest (records_of (epochs_of so_far.done ++ e ∷ [])) u
@@ -259,16 +263,16 @@ module _ (guest : List ℕ) (guest_is : IsGuest guest) (options : Options) (star
 
         -- every moment of a commit, however far it came
         module _ (longer : chain start (E ++ e ∷ []) ≡ Ok (end, so_far.output ++ output)) where
-          while_committed : IfKnown (CommitMoments j added output) now behind → IfKnown (AlwaysPartly guest start (E ++ e ∷ [])) first behind
+          while_committed : IfKnown (EachCommitted j added output) now behind → IfKnown (AlwaysPartly guest start (E ++ e ∷ [])) first behind
           while_committed known = known-then _ _ _ _ _ _
               (λ s t u r k empty_ synced. commits_partly guest start E e state end so_far.output output so_far.chained longer (records-push E e) s t r.0.sent u (r.1 empty_ synced)
-              (k guest (records_of E) (epoch e) (appends_there s t r.0) guest_is records_there))
+              ((k guest (records_of E) (epoch e) (appends_there s t r.0)).moments guest_is records_there))
               (known-both _ _ _ _ so_far.history so_far.moments) known
 
-          while_appended : IfKnown (RecordMoments j.end added) now behind → IfKnown (AlwaysPartly guest start (E ++ e ∷ [])) first behind
+          while_appended : IfKnown (RecordWritten j.end added false) now behind → IfKnown (AlwaysPartly guest start (E ++ e ∷ [])) first behind
           while_appended known = known-then _ _ _ _ _ _
               (λ s t u r k empty_ synced. appends_partly guest start E e state end so_far.output output so_far.chained longer (records-push E e) s t r.0.sent u (r.1 empty_ synced)
-              (k guest (records_of E) (epoch e) (appends_there s t r.0) guest_is records_there))
+              ((k.1 guest (records_of E) (epoch e) (appends_there s t r.0)).moments guest_is records_there))
               (known-both _ _ _ _ so_far.history so_far.moments) known
 
           honest_there : IfInput (IsHonestSince (answers_in (E ++ e ∷ []))) i later
@@ -280,19 +284,19 @@ module _ (guest : List ℕ) (guest_is : IsGuest guest) (options : Options) (star
           pub commit_failed_moments : (fault : CommitFault) (j' : Journal) → HasCommitted j (length added) j' (Err fault) → IfKnown (Committed j added output (Err fault)) now behind
               → EachMoment guest start i later first behind
           commit_failed_moments commits.DiskFault j' numbers known =
-              each_moment guest start (E ++ e ∷ []) i later honest_there first behind (while_appended (known-map _ _ _ _ (λ s t k. k.2) known))
+              each_moment guest start (E ++ e ∷ []) i later honest_there first behind (while_appended known)
           commit_failed_moments (commits.Full end_ need) j' numbers known = known-then _ _ _ _ _ _
               (λ s t u r k empty_ synced. subst (λ (h : History). Always (HoldsAt guest start i later s) s h) (sym k) (r empty_ synced)) drawn_moments known
           commit_failed_moments (commits.Failed last) j' numbers known = absurd (let bad = sym numbers.0 ∙ so_far.works in cc)
           commit_failed_moments commits.OutputFault j' numbers known =
-              each_moment guest start (E ++ e ∷ []) i later honest_there first behind (while_committed (known-map _ _ _ _ (λ s t k. k.3) known))
+              each_moment guest start (E ++ e ∷ []) i later honest_there first behind (while_committed (known-map _ _ _ _ (λ s t k. k.2) known))
 
         -- it was committed
-        pub committed : CanGoOn end → end.steps ≡ state.steps + steps_of e.slices → end.input ≤ state.input + MAX_CALL_BYTES * steps_of e.slices → steps_of e.slices ≤ epoch_steps options state
+        pub committed : RunsAsScheduled → CanGoOn end → end.steps ≡ state.steps + steps_of e.slices → end.input ≤ state.input + MAX_CALL_BYTES * steps_of e.slices → steps_of e.slices ≤ epoch_steps options state
             → length output < EPOCH_END_BYTES + MAX_CALL_BYTES → chain start (epochs_of so_far.done ++ e ∷ []) ≡ Ok (end, so_far.output ++ output)
             → (j' : Journal) → 0 < length added → HasCommitted j (length added) j' (Ok tt) → IfKnown (Committed j added output (Ok tt)) now behind
             → (so_far' : SoFar guest options start i later first behind end with_ j' (epochs + 1) (sent + length output)) × (so_far'.done ≡ so_far.done ++ round_is ∷ [])
-        committed goes_on counted little_read few_steps little chained j' some numbers known =
+        committed runs goes_on counted little_read few_steps little chained j' some numbers known =
             let end_is : j'.end ≡ j.end + length added = ap (λ (k : Journal). k.end) numbers.2 in
             let epochs_are : epochs_of (so_far.done ++ round_is ∷ []) ≡ epochs_of so_far.done ++ e ∷ [] = epochs-push so_far.done round_is in
             let draws_are : draws_of (so_far.done ++ round_is ∷ []) ≡ draws_of so_far.done ++ round.draw ∷ [] = draws-push so_far.done round_is in
@@ -301,7 +305,7 @@ module _ (guest : List ℕ) (guest_is : IsGuest guest) (options : Options) (star
                 done = so_far.done ++ round_is ∷ [];
                 output = so_far.output ++ output;
                 chained = ap (chain start) epochs_are ∙ chained;
-                each = each-push options 1 start (empty MAX_ROOM) so_far.done state so_far.output round_is end output so_far.each so_far.chained due_is next_there;
+                each = each-push runs options 1 start (empty MAX_ROOM) so_far.done state so_far.output round_is end output so_far.each so_far.chained due_is next_there;
                 counted = omega (arith, counted, few_steps, so_far.counted);
                 goes_on = goes_on;
                 supply_is = with_is ∙ sym (supply-push (empty MAX_ROOM) (draws_of so_far.done) round.draw) ∙ ap (supply_behind (empty MAX_ROOM)) (sym draws_are);
@@ -313,18 +317,18 @@ module _ (guest : List ℕ) (guest_is : IsGuest guest) (options : Options) (star
                 are_answers = subst AreAnswers (sym epochs_are) (answers_are-push (epochs_of so_far.done) e so_far.are_answers next_.is_epoch.answers);
                 drawn = subst (λ (l : List Answer). IfInput (IsDrawn with_ end.input (draws_of (so_far.done ++ round_is ∷ [])) l) i later) (sym answers_are)
                     (subst (λ (l : List Draw). IfInput (IsDrawn with_ end.input l (answers_of so_far.done ++ e.answers)) i later) (sym draws_are) drawn_epoch);
-                history = subst (λ (l : List Epoch). IfKnown (IsRecorded guest l (so_far.output ++ output)) first behind) (sym epochs_are)
+                history = subst (λ (l : List Epoch). IfKnown (IsRecorded guest l (so_far.output ++ output) []) first behind) (sym epochs_are)
                     (known-then _ _ _ _ _ _
                     (λ s t u r k.
-                    let made = k.0 guest (records_of (epochs_of so_far.done)) (epoch e) (appends_there s t r) in
+                    let made = k.2 guest (records_of (epochs_of so_far.done)) (epoch e) (appends_there s t r) in
                     record {
                       empty = r.empty;
-                      stands = stands_more u made;
-                      sent = k.1 ∙ ap (λ (l : List ℕ). l ++ output) r.sent ∙ append_assoc s.sent so_far.output output;
-                      noted = k.2 ∙ r.noted;
+                      stands = stands_more u made.stands;
+                      sent = k.0 ∙ ap (λ (l : List ℕ). l ++ output) r.sent ∙ append_assoc s.sent so_far.output output;
+                      noted = k.1 ∙ r.noted;
                     })
                     so_far.history known);
-                moments = subst (λ (l : List Epoch). IfKnown (AlwaysPartly guest start l) first behind) (sym epochs_are) (while_committed chained (known-map _ _ _ _ (λ s t k. k.3) known));
+                moments = subst (λ (l : List Epoch). IfKnown (AlwaysPartly guest start l) first behind) (sym epochs_are) (while_committed chained (known-map _ _ _ _ (λ s t k. k.2) known));
                 place_is = omega (arith, end_is, size_more, so_far.place_is, ap (λ (l : List ℕ). length l) framed) ∙ ap (λ (l : List Epoch). length (journal_of guest (records_of l))) (sym epochs_are);
                 room_is = ap (λ (k : Journal). k.room) numbers.2 ∙ so_far.room_is;
                 fits = omega (arith, end_is, numbers.1, ap (λ (k : Journal). k.room) numbers.2);
@@ -340,55 +344,47 @@ module _ (guest : List ℕ) (guest_is : IsGuest guest) (options : Options) (star
         -- it wasn't, or not sent whole
         pub commit_failed : (fault : CommitFault) → has_ended state.end ≡ false → state.steps < options.limit → (j' : Journal) → HasCommitted j (length added) j' (Err fault)
             → IfKnown (Committed j added output (Err fault)) now behind → Recorded guest start options i later first behind (Err (of_commit fault))
-        commit_failed commits.DiskFault going left j' numbers known = (
+        commit_failed commits.DiskFault going left j' numbers known = inr (
           run_so_far,
-          inr fits_still,
-          one_more,
+          next_round going left,
+          omega (arith, numbers.1, size_more, so_far.place_is, so_far.room_is, ap (λ (l : List ℕ). length l) framed),
+          drawn_round,
           known-then _ _ _ _ _ _
               (λ s t u r k. record {
+                empty = r.empty;
                 sent = k.0.sent ∙ r.sent;
-                noted = k.0.noted ∙ r.noted;
-                on_disk = inr (subst (λ (l : List ℕ). IsPrefixOf l u.pending.synced) r.stands.disk (k.1 guest (records_of (epochs_of so_far.done)) (epoch e) (appends_there s t r)));
-                untouched = inl r.empty;
-                left = λ empty_ synced. append_left guest start E e (MayFollow run_so_far) (round.draw, due_is, end, output, next_there) (records-push E e) t u (k.2 guest (records_of E) (epoch e) (appends_there s t r) guest_is records_there);
+                noted = k.0.noted ∙ r.noted ∙ append-nil s.noted;
+                synced = subst (λ (l : List ℕ). IsPrefixOf l u.pending.synced) r.stands.disk ((k.1 guest (records_of E) (epoch e) (appends_there s t r)).kept refl);
+                left = append_left guest E e (records-push E e) t u ((k.1 guest (records_of E) (epoch e) (appends_there s t r)).moments guest_is records_there);
               })
               so_far.history known,
         )
         commit_failed (commits.Full end_ need) going left j' numbers known = inr (
           run_so_far,
-          (going, left),
+          next_round going left,
           fits_still,
-          round.draw,
-          due_is,
-          e,
-          end,
-          output,
-          next_there,
           numbers.1 ∙ so_far.place_is,
           numbers.2 ∙ ap (λ (l : List ℕ). length l) framed,
           omega (arith, numbers.1, numbers.2, numbers.3, so_far.room_is),
           drawn_round,
-          known-then _ _ _ _ _ _ (λ s t u r k. subst (λ (h : History). IsRecorded guest (epochs_of so_far.done) so_far.output s h) (sym k) r) so_far.history known,
+          known-then _ _ _ _ _ _ (λ s t u r k. subst (λ (h : History). IsRecorded guest (epochs_of so_far.done) so_far.output [] s h) (sym k) r) so_far.history known,
         )
         commit_failed (commits.Failed last) going left j' numbers known = absurd (let bad = sym numbers.0 ∙ so_far.works in cc)
         commit_failed commits.OutputFault going left j' numbers known = inl (
           run_so_far,
-          round_is,
-          due_is,
-          end,
-          output,
-          next_there,
+          next_round going left,
           omega (arith, numbers.1, size_more, so_far.place_is, so_far.room_is, ap (λ (l : List ℕ). length l) framed),
           honest_epoch,
           known-then _ _ _ _ _ _
               (λ s t u r k.
-              let made = k.0 guest (records_of (epochs_of so_far.done)) (epoch e) (appends_there s t r) in
-              record {
-                empty = r.empty;
-                stands = stands_more u made;
-                count = k.1.0;
-                sent = k.1.1 ∙ ap (λ (l : List ℕ). l ++ take k.1.0 output) r.sent ∙ append_assoc s.sent so_far.output (take k.1.0 output);
-                noted = k.2 ∙ r.noted;
-              })
+              let made = k.2 guest (records_of (epochs_of so_far.done)) (epoch e) (appends_there s t r) in (
+                k.0.0,
+                record {
+                  empty = r.empty;
+                  stands = stands_more u made.stands;
+                  sent = k.0.1 ∙ ap (λ (l : List ℕ). l ++ take k.0.0 output) r.sent ∙ append_assoc s.sent so_far.output (take k.0.0 output);
+                  noted = k.1 ∙ r.noted;
+                },
+              ))
               so_far.history known,
         )

@@ -8,13 +8,15 @@ use Rattle.dp_base.specs.declared.answer.Answer.{Answer}
 use Rattle.dp_base.specs.declared.slice.Slice.{Slice}
 use Rattle.dp_base.specs.Journal.{Epoch, IsAnswer, IsSlice, steps_of}
 use Rattle.epoch_runner.specs.Answering.{input_due}
+use Rattle.epoch_runner.specs.declared.bounds.Bounds.{Bounds}
+use Rattle.epoch_runner.specs.Schedule.{IsScheduled}
 use Rattle.supply.specs.Supplied.{Supplied}
 use Rattle.recorder.specs.Drawing.{Draw, Round, answers_of, draws_of, epochs_of, supply_behind, supply_of}
 use Rattle.guest_kernel.specs.declared.state.State.{State}
 use Rattle.guest_kernel.specs.Call.{After}
-use Rattle.guest_kernel.specs.Slices.{Stop, chain, either, onto}
+use Rattle.guest_kernel.specs.Slices.{Stop, at, chain, either, onto, run}
 use Rattle.recorder.specs.declared.options.Options.{Options}
-use Rattle.recorder.specs.Recording.{IsNext, EachIsNext, Run, first_after, first_behind, records_of}
+use Rattle.recorder.specs.Recording.{IsNext, EachIsNext, first_after, first_behind, records_of}
 use Rattle.journal_text.specs.Records.{epoch}
 use Rattle.dp_base.proofs.Lists.{all_append}
 
@@ -22,22 +24,24 @@ pub no_epochs : (start : State) → chain start [] ≡ Ok (start, [])
 unfolding chain
 no_epochs start = refl
 
-abbrev pub no_round : (options : Options) (start : State) → start.steps ≤ options.limit → Run options start
-no_round options start few = record { rounds = []; end = start; output = []; chained = no_epochs start; each = tt; counted = few }
-
 -- a chain behind an epoch ends where the whole one does
 chain_end : (r : Result (State × List ℕ) ℕ) (written : List ℕ) (mid : State) (before : List ℕ) → either r (λ count. Err (count + 1)) (onto written) ≡ Ok (mid, before) → (output : List ℕ) × (r ≡ Ok (mid, output))
 chain_end (Err count) written mid before is = absurd cc
 chain_end (Ok end) written mid before is = (end.1, ap (λ (s : State). Ok (s, end.1)) (IfOk-at_ok (λ (there : State × List ℕ). end.0 ≡ there.0) is refl))
 
+-- what is run by the schedule is the run of its slices
+abbrev pub RunsAsScheduled : Type 0
+RunsAsScheduled = (start : State) (w : Supplied) (bounds : Bounds) (e : Epoch) (output : List ℕ) (end : State) → IsScheduled start w bounds e output end
+    → run e.slices (at start [] e.answers) ≡ Ok (at end output [])
+
 -- a round behind a run is next
-pub each-push : (options : Options) (first : ℕ) (start : State) (w : Supplied) (rounds : List Round) (mid : State) (before : List ℕ) (r : Round) (end : State) (output : List ℕ)
+pub each-push : RunsAsScheduled → (options : Options) (first : ℕ) (start : State) (w : Supplied) (rounds : List Round) (mid : State) (before : List ℕ) (r : Round) (end : State) (output : List ℕ)
     → EachIsNext options first start w rounds → chain start (epochs_of rounds) ≡ Ok (mid, before)
     → r.draw.due ≡ input_due mid (supply_behind w (draws_of rounds))
     → IsNext options (first_after first (epochs_of rounds)) mid (supply_of (supply_behind w (draws_of rounds)) r.draw) r.epoch end output
     → EachIsNext options first start w (rounds ++ r ∷ [])
 unfolding chain
-each-push options first start w [] mid before r end output each chained due next_ =
+each-push runs options first start w [] mid before r end output each chained due next_ =
     let same : start ≡ mid = IfOk-at_ok (λ (there : State × List ℕ). start ≡ there.0) chained refl in (
       end,
       output,
@@ -45,13 +49,13 @@ each-push options first start w [] mid before r end output each chained due next
       subst (λ (s : State). IsNext options first s (supply_of w r.draw) r.epoch end output) (sym same) next_,
       tt,
     )
-each-push options first start w (x ∷ xs) mid before r end output each chained due next_ =
+each-push runs options first start w (x ∷ xs) mid before r end output each chained due next_ =
     let there : State = each.0 in
     let written : List ℕ = each.1 in
     let behind : either (chain there (epochs_of xs)) (λ count. Err (count + 1)) (onto written) ≡ Ok (mid, before) =
-    sym (ap (λ (a : Result After (Stop × After)). either a (λ stop. Err 0) (λ here. either (chain here.state (epochs_of xs)) (λ count. Err (count + 1)) (onto here.output))) each.3.ran) ∙ chained in
+    sym (ap (λ (a : Result After (Stop × After)). either a (λ stop. Err 0) (λ here. either (chain here.state (epochs_of xs)) (λ count. Err (count + 1)) (onto here.output))) (runs start (supply_of w x.draw) each.3.bounds x.epoch written there each.3.scheduled)) ∙ chained in
     let last = chain_end (chain there (epochs_of xs)) written mid before behind in
-    (there, written, each.2, each.3, each-push options (first_behind first x.epoch.slices) there (supply_of w x.draw) xs mid last.0 r end output each.4 last.1 due next_)
+    (there, written, each.2, each.3, each-push runs options (first_behind first x.epoch.slices) there (supply_of w x.draw) xs mid last.0 r end output each.4 last.1 due next_)
 
 pub epochs-push : (rounds : List Round) (r : Round) → epochs_of (rounds ++ r ∷ []) ≡ epochs_of rounds ++ r.epoch ∷ []
 epochs-push rounds r = map_push (λ (x : Round). x.epoch) rounds r

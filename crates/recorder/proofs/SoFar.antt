@@ -1,5 +1,5 @@
 -- What a recording is so far, and a round of it that has drawn.
-use Rattle.std.proofs.Common.{◌≡◌, ℕ, ◌+◌, ◌*◌, ◌<◌, ◌≤◌, Bool, true, false, List, length, Option, Ok, refl, sym, ap, ◌∙◌, arith}
+use Rattle.std.proofs.Common.{◌≡◌, ℕ, ◌+◌, ◌*◌, ◌<◌, ◌≤◌, Bool, true, false, List, [], length, Option, Ok, refl, sym, ap, ◌∙◌, arith}
 use Rattle.dp_base.specs.declared.limits.TheConstants.{EPOCH_END_BYTES, MAX_CALL_BYTES}
 use Rattle.epoch_runner.specs.Answering.{can_step, input_due}
 use Rattle.disk_model.specs.Input.{IfInput, Input}
@@ -41,7 +41,7 @@ pub record SoFar (guest : List ℕ) (options : Options) (start : State) (i there
   pub little_input : state.input ≤ MAX_CALL_BYTES * state.steps
   pub are_answers : AreAnswers (epochs_of done)
   pub drawn : IfInput (IsDrawn w state.input (draws_of done) (answers_of done)) i there
-  pub history : IfKnown (IsRecorded guest (epochs_of done) output) first now
+  pub history : IfKnown (IsRecorded guest (epochs_of done) output []) first now
   pub moments : IfKnown (AlwaysPartly guest start (epochs_of done)) first now
   pub place_is : j.end ≡ length (journal_of guest (records_of (epochs_of done)))
   pub room_is : j.room ≡ options.room

@@ -1,14 +1,19 @@
-//! The recorder: runs a guest in rounds, each of which draws from its input and runs an epoch, writes each epoch's record into a
-//! journal on the disk, and sends its output once the record is on the disk.
+//! The recorder. It runs a guest in rounds: each round reads from the input and runs one epoch, writes the epoch's record into the
+//! journal on the disk, and sends the epoch's output once the record is on the disk.
 //!
-//! Promises (the contract of `record_`): if it answers `Ok`, `StepLimit` or `JournalFull`, the disk reads as the journal of this
-//! guest with a chain of epochs from its start state, and what was sent is exactly that chain's output; after each other
-//! answer it says what stands. At every moment of the call what a crash leaves is the journal of epochs that are one run of the
-//! guest, of whose output a prefix was sent, or no journal yet and nothing sent (clause `moments`). The journal is never longer than its room. All memory for an epoch is taken before its first
-//! write to the disk: from there on only `Ok` or a device's fault comes. Where the input is known, each round takes from it
-//! exactly where a thread waits for it, reads the clock once, and the answers in the journal are honest of what was given. At `Ok` the report's line was sent on Note, and else
-//! nothing was but a prefix of it. Stands on `guest_kernel`, `epoch_runner`, `supply`, `checkpoint`, `epoch_record`, `epoch_journal`, `device` and
-//! `dp_report`.
+//! Promises (the contract of `record_`):
+//!
+//! - At `Ok` and `StepLimit` the disk holds the journal of this guest with the epochs of one run from its start state, and exactly that
+//!   run's output was sent. The same holds at `JournalFull`, unless the header itself doesn't fit: then nothing is written. The clause
+//!   `recorded` says what every other answer leaves.
+//! - At every moment of the call, a crash leaves the journal of whole epochs that are one run of the guest, and a prefix of that run's
+//!   output was sent; or it leaves no journal, and nothing was sent (clause `moments`).
+//! - All memory for an epoch is taken before its first write to the disk. From there on only `Ok` or a device's fault is answered.
+//! - If the input is known, each round takes from it exactly if a thread waits for input, and reads the clock once. The answers in the
+//!   journal are faithful to the input: reads get its bytes in order, and clock calls get its readings in order.
+//! - At `Ok` the report's line was sent on Note. Otherwise nothing was, or a prefix of that line.
+//!
+//! Stands on `guest_kernel`, `epoch_runner`, `supply`, `checkpoint`, `epoch_record`, `epoch_journal`, `device` and `dp_report`.
 //!
 //! ```text
 //! let image = load(alloc, file)?;

@@ -11,8 +11,9 @@ use supply::InputFault;
 /// Why a recording stopped before the guest's end. What is committed stays committed.
 #[derive(Clone, Copy, Debug, PartialEq, Eq)]
 pub enum RecordFault {
-    /// The disk failed. What was synced begins with the journal of the epochs whose output was sent, whole, and nothing of a
-    /// later epoch was sent. A crash leaves that journal, or that and one epoch more that may follow; before the first maybe none.
+    /// The disk failed. A crash leaves the journal of the epochs whose output was sent, or the one that also has the epoch that was being
+    /// appended; none of that epoch's output was sent. If the disk failed before the first epoch, a crash leaves no journal or one
+    /// without an epoch.
     DiskFault,
     /// The output failed. The journal has the epoch whose output was being sent, and a prefix of that output was sent; or the
     /// guest has ended, its whole output was sent, and a prefix of the report's line was.
@@ -23,8 +24,8 @@ pub enum RecordFault {
     JournalInUse(u64),
     /// The guest took this many steps, as many as it may, and hasn't ended.
     StepLimit(u64),
-    /// The next record ends past the room: the journal's end, and how many bytes are needed from there on. It wasn't
-    /// written.
+    /// The next record doesn't fit into the room: the journal's end, and how many bytes are needed from there on. It wasn't written. The
+    /// end is 0 if the header itself doesn't fit.
     JournalFull { end: u64, need: u64 },
     OutOfMemory,
 }

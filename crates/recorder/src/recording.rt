@@ -94,6 +94,7 @@ fn record_rounds<W: World, I: Inlet>(
     laws::an_epoch_more();
     laws::threads_are_few();
     epoch_runner::laws::an_epoch_ends_by_a_rule();
+    epoch_runner::laws::a_scheduled_run_is_a_run();
     epoch_runner::laws::an_epoch_is_supplied();
     epoch_runner::laws::a_supply_lets_a_guest_step();
     supply::an_answer_is_of_the_input();

@@ -28,3 +28,5 @@ mod record_tests;
 mod recording_tests;
 #[cfg(test)]
 mod state_tests;
+#[cfg(test)]
+mod worked_recordings;

@@ -1,9 +1,9 @@
 use Rattle.std.proofs.Common.{sym, ◌∙◌, codes}
-use Rattle.dp_report.proofs.Lines.{five_noted}
+use Rattle.dp_report.proofs.Lines.{five_noted, none_noted}
 use Rattle.dp_report.proofs.fault_line.emit_fault.Goals as goal
 
 pub returns-in-Usage-clause-history : goal.returns-in-Usage-clause-history
-returns-in-Usage-clause-history g c = rw c.in-Usage.is c.note-in-Usage.ensures.history
+returns-in-Usage-clause-history g c = rw c.in-Usage.is c.note.ensures.history
 
 pub returns-in-GuestFault-clause-history : goal.returns-in-GuestFault-clause-history
 returns-in-GuestFault-clause-history g c = rw c.in-GuestFault.is c.note-in-GuestFault.ensures.history
@@ -30,3 +30,6 @@ returns-in-JournalFull-clause-history g c =
 
 pub returns-in-NoJournal-clause-history : goal.returns-in-NoJournal-clause-history
 returns-in-NoJournal-clause-history g c = rw c.in-NoJournal.is c.note-in-NoJournal.ensures.history
+
+pub returns-in-Ok-clause-history : goal.returns-in-Ok-clause-history
+returns-in-Ok-clause-history g c = rw c.in-Ok.is (none_noted _)

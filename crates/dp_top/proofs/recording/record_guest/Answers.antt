@@ -1,5 +1,4 @@
-use Rattle.std.proofs.Common.{Err, refl, ap}
-use Rattle.guest_kernel.specs.declared.state.State.{State}
+use Rattle.std.proofs.Common.{Err, refl}
 use Rattle.recorder.specs.declared.record_fault.RecordFault.TheVariants as faults
 use Rattle.dp_top.proofs.Moments.{not_begun}
 use Rattle.dp_top.proofs.Statuses.{not_attached}
@@ -9,7 +8,7 @@ pub returns-then-is_err-clause-recorded : goal.returns-then-is_err-clause-record
 returns-then-is_err-clause-recorded g c = (
   Err faults.DiskFault,
   refl,
-  not_attached c.args.guest.now c.args.start c.args.options _ _ _ _ (ap (λ (s : State). s.steps) c.requires.starts) refl c.attach.ensures.history,
+  not_attached c.args.guest.now c.args.start c.args.options _ _ _ _ refl c.attach.ensures.history,
 )
 
 pub returns-then-is_err-clause-moments : goal.returns-then-is_err-clause-moments

@@ -1,5 +1,6 @@
 use Rattle.std.proofs.Common.{Some, inl, inr, refl, ◌∙◌, ap}
 use Rattle.dp_top.specs.Asking.{Asked, AskedReplay}
+use Rattle.dp_top.proofs.Replays.{quiet_moments}
 use Rattle.dp_top.proofs.top.do_command.Goals as goal
 
 pub returns-in-Ok-Record-clause-did : goal.returns-in-Ok-Record-clause-did
@@ -41,3 +42,6 @@ returns-in-Ok-Replay-clause-did g c =
       said = w.ensures.command ∙ ap Some w.field-0-is;
     } in
     inr (inr (inr (asked, refl {a = g.I.Inlet.input c.args.inlet.now}, c.replay_journal.ensures.replayed)))
+
+pub returns-in-Err-OutOfMemory-clause-replay_moments : goal.returns-in-Err-OutOfMemory-clause-replay_moments
+returns-in-Err-OutOfMemory-clause-replay_moments g c = λ asked. quiet_moments _ _ refl

@@ -1,4 +1,5 @@
-use Rattle.std.proofs.Common.{ap}
+use Rattle.std.proofs.Common.{ap, ◌∙◌}
+use Rattle.dp_top.proofs.Replays.{told_moments}
 use Rattle.std.specs.Prelude.{is_ok}
 use Rattle.dp_top.proofs.Moments.{command_moments, still_throughout}
 use Rattle.dp_top.proofs.Statuses.{complete, err_where_not_ok, rose_before, rose_same}
@@ -31,3 +32,9 @@ returns-clause-every_moment g c = λ asked. command_moments c.args.words.now _ _
 
 pub returns-clause-still : goal.returns-clause-still
 returns-clause-still g c = λ why. still_throughout _ _ _ c.do_command-world.result.1 _ (ap g.W.World.history (c.do_command-world.ensures.no_call why)) c.emit_fault.ensures.history
+
+pub returns-clause-every_replay_moment : goal.returns-clause-every_replay_moment
+returns-clause-every_replay_moment g c = λ asked. told_moments _ _ _ _ _ (c.do_command-world.ensures.replay_moments asked) c.emit_fault.ensures.history
+
+pub returns-clause-no_disk_call : goal.returns-clause-no_disk_call
+returns-clause-no_disk_call g c = λ why. c.emit_fault.ensures.disk ∙ ap g.W.World.disk_faults (c.do_command-world.ensures.no_call why)

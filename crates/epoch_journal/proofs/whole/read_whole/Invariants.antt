@@ -9,7 +9,7 @@ invariant-chunks g l = record {
   few : length l.bytes.items ≤ MAX_JOURNAL_BYTES;
   read : IsReadOn (known_disk (g.W.World.history l.initial.world)) l.bytes.items l.more;
   history : g.W.World.history l.world ≡ g.W.World.history l.initial.world;
-  count : g.W.World.disk_faults l.initial.world ≤ g.W.World.disk_faults l.world;
+  count : g.W.World.disk_faults l.world ≡ g.W.World.disk_faults l.initial.world;
   sink : g.W.World.sink_faults l.world ≡ g.W.World.sink_faults l.initial.world;
 }
 

@@ -1,4 +1,4 @@
-use Rattle.std.proofs.Common.{ℕ, true, false, List, length, Ok, Err, refl, ap, subst, ◌∙◌, arith}
+use Rattle.std.proofs.Common.{ℕ, true, false, List, length, Ok, Err, refl, ap, subst, ◌∙◌}
 use Rattle.std.proofs.lemmas.Result.{err_from_is_err_and}
 use Rattle.disk_model.specs.declared.world.Stream.TheVariants.{Note}
 use Rattle.dp_report.specs.declared.report.Report.{Report}
@@ -6,7 +6,7 @@ use Rattle.journal_text.specs.Reading.{reads}
 use Rattle.epoch_replay.specs.declared.replay_fault.ReplayFault.TheVariants as faults
 use Rattle.epoch_replay.proofs.Epochs.{sent_as}
 use Rattle.epoch_journal.proofs.Chunks.{smaller}
-use Rattle.epoch_replay.proofs.Going.{IsPlay, at_reading, begun, begun_bounded, no_line, not_told, told}
+use Rattle.epoch_replay.proofs.Going.{IsPlay, all_moments, at_reading, begun, begun_bounded, line_moments, moments_at, no_line, not_told, told}
 use Rattle.epoch_replay.proofs.replaying.play.Goals as goal
 
 pub records-init : goal.records-init
@@ -14,7 +14,7 @@ records-init g c = record {
   bounded = begun_bounded c.args.file.now c.args.first c.args.start c.requires.starts;
   play = begun c.args.file.now c.args.first c.args.start c.requires.starts c.reading_goes_on.ensures.header _;
   disk_count = refl;
-  sink_count = omega arith;
+  sink_count = refl;
 }
 
 pub returns-in_err-more-clause-replayed : goal.returns-in_err-more-clause-replayed
@@ -39,7 +39,7 @@ records-preserved g c =
       bounded = e.bounded;
       play = (play.0, play.1, e.played play.0 _ play.2);
       disk_count = e.disk_count ∙ l.invariant.disk_count;
-      sink_count = omega (arith, e.sink_count, l.invariant.sink_count);
+      sink_count = e.others.1 ∙ l.invariant.sink_count;
     }
 
 pub returns-in_err-text-clause-replayed : goal.returns-in_err-text-clause-replayed
@@ -65,3 +65,27 @@ returns-clause-replayed g c =
     let play = subst (IsPlay c.args.file.now _ _ l.progress) c.records-test.false l.invariant.play in
     let text = c.deref.ensures.value ∙ c.in_ok-text.ensures in
     at_reading (reads c.args.file.now) play.0 (g.W.World.history c.args.world.now) (g.W.World.history c.send_all.new.world) (Err faults.OutputFault) play.1 (not_told play.0 _ _ l.progress play.2 (made c.digest.result) (ap made c.digest.ensures) _ (sent_as Note _ _ false false _ _ text refl c.in-Err.ensures.history))
+
+pub returns-in_err-more-clause-moments : goal.returns-in_err-more-clause-moments
+returns-in_err-more-clause-moments g c =
+    let l = c.records in
+    let play = subst (IsPlay c.args.file.now _ _ l.progress) c.records-test.true l.invariant.play in
+    moments_at (reads c.args.file.now) play.0 (g.W.World.history c.args.world.now) (g.W.World.history c.play_record.new.world) play.1 (c.play_record.ensures.moments play.0 _ play.2)
+
+pub returns-in_err-text-clause-moments : goal.returns-in_err-text-clause-moments
+returns-in_err-text-clause-moments g c =
+    let l = c.records in
+    let play = subst (IsPlay c.args.file.now _ _ l.progress) c.records-test.false l.invariant.play in
+    moments_at (reads c.args.file.now) play.0 (g.W.World.history c.args.world.now) (g.W.World.history l.world) play.1 (all_moments play.0 _ _ l.progress play.2)
+
+pub returns-in-Ok-clause-moments : goal.returns-in-Ok-clause-moments
+returns-in-Ok-clause-moments g c =
+    let l = c.records in
+    let play = subst (IsPlay c.args.file.now _ _ l.progress) c.records-test.false l.invariant.play in
+    moments_at (reads c.args.file.now) play.0 (g.W.World.history c.args.world.now) (g.W.World.history c.send_all.new.world) play.1 (line_moments play.0 _ _ l.progress play.2 _ _ _ c.send_all.ensures.history)
+
+pub returns-clause-moments : goal.returns-clause-moments
+returns-clause-moments g c =
+    let l = c.records in
+    let play = subst (IsPlay c.args.file.now _ _ l.progress) c.records-test.false l.invariant.play in
+    moments_at (reads c.args.file.now) play.0 (g.W.World.history c.args.world.now) (g.W.World.history c.send_all.new.world) play.1 (line_moments play.0 _ _ l.progress play.2 _ _ _ c.send_all.ensures.history)

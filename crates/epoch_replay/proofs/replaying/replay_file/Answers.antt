@@ -1,8 +1,12 @@
-use Rattle.std.proofs.Common.{arith, ap, ◌∙◌, Err}
+use Rattle.std.proofs.Common.{arith, ap, ◌∙◌, Err, refl}
 use Rattle.std.proofs.lemmas.Result.{err_from_is_err_and}
+use Rattle.dp_report.specs.declared.report.Report.{Report}
 use Rattle.dp_base.specs.Journal.{header_at}
 use Rattle.journal_text.specs.Reading.{first_bytes, reads}
-use Rattle.epoch_replay.proofs.Starting.{no_journal_at, not_loaded, starts, within}
+use Rattle.epoch_replay.specs.Play.{plays_to}
+use Rattle.epoch_replay.specs.Replaying.{output_of}
+use Rattle.epoch_replay.proofs.Moments.{quiet}
+use Rattle.epoch_replay.proofs.Starting.{no_journal_at, not_loaded, not_loaded_met, starts, within}
 use Rattle.epoch_replay.proofs.replaying.replay_file.Goals as goal
 
 pub slice_bounds-start_from_file-end : goal.slice_bounds-start_from_file-end
@@ -24,3 +28,14 @@ play-requires-clause-starts g c =
 pub returns-in-NoJournal-clause-replayed : goal.returns-in-NoJournal-clause-replayed
 returns-in-NoJournal-clause-replayed g c =
     no_journal_at (header_at (first_bytes c.args.file.now)) (reads c.args.file.now) c.header.result _ c.in-NoJournal.is c.header.ensures (c.a_journal_is_its_parts.ensures.no_journal c.args.file.now).1
+
+pub returns-in_err-state-clause-moments : goal.returns-in_err-state-clause-moments
+returns-in_err-state-clause-moments g c = quiet (output_of (plays_to (reads c.args.file.now))) _ _ refl
+
+pub returns-in-NoJournal-clause-moments : goal.returns-in-NoJournal-clause-moments
+returns-in-NoJournal-clause-moments g c = quiet (output_of (plays_to (reads c.args.file.now))) _ _ refl
+
+pub returns-in_err-state-clause-others : goal.returns-in_err-state-clause-others
+returns-in_err-state-clause-others g c =
+    let p = err_from_is_err_and c.from_residual.result c.from_residual.ensures.1 in
+    rw (p.1 ∙ ap (λ e. Err e) p.2) (not_loaded_met Report c.in_err-state.field-0.0 (g.W.World.disk_faults c.args.world.now) (g.W.World.sink_faults c.args.world.now))

@@ -39,7 +39,6 @@ is_next options first s w bounds r steps slice first_is is = record {
   slice = slice;
   first_is = first_is;
   scheduled = is.scheduled;
-  ran = is.runs.ran;
   is_epoch = is.runs.is_epoch;
   fits = is.runs.fits;
 }
@@ -175,7 +174,7 @@ rounds-preserved g c =
       few = c.threads_are_few.ensures.run l.state e.slices e.answers there ran.runs.ran so_far.goes_on.few;
     } in
     let done = committed c.args.guest.now (is_guest c.args.guest.now (c.a_file_without_fault_has_segments.ensures.size c.args.guest.now c.requires.guest) (λ i. omega (arith, c.type_inv.guest i))) c.args.options c.args.start _ _ _ _ l.state l.supply l.journal l.epochs l.sent so_far laws _ with_ round _ e run_.end run_.out next_ supplied c.in_ok-frame.frame c.in_ok-frame.ensures.frame
-    goes_on ran.runs.counted (c.a_run_is_as_long_as_its_slices.ensures.reads l.state e.slices e.answers there ran.runs.ran)
+    c.a_scheduled_run_is_a_run.ensures goes_on ran.runs.counted (c.a_run_is_as_long_as_its_slices.ensures.reads l.state e.slices e.answers there ran.runs.ran)
     (omega (arith, c.an_epoch_ends_by_a_rule.ensures.few l.state with_ bounds e run_.out run_.end ran.scheduled, c.bounds_from-bounds.ensures.steps)) (c.an_epoch_ends_by_a_rule.ensures.writes l.state with_ bounds e run_.out run_.end ran.scheduled)
     (c.an_epoch_more.ensures c.args.start (epochs_of so_far.done) e l.state so_far.output there so_far.chained ran.runs.ran)
     c.commit_epoch.new.journal c.in_ok-frame.ensures.some c.in_ok-commit_epoch.ensures.numbers c.in_ok-commit_epoch.ensures.history in
