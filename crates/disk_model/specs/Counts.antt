@@ -1,6 +1,6 @@
--- Counts of faults. This project's own.
-use Rattle.std.specs.Prelude.{◌≡◌, ◌<◌, ◌⊎◌, ℕ, ◌-◌, ◌^◌}
+-- Counts of faults.
+use Rattle.std.specs.Prelude.{ℕ}
+use Rattle.dp_base.specs.Counts as counts
 
--- a u64 that only rises is greater than before, or at its greatest value
 abbrev pub Rose : ℕ → ℕ → Type 0
-Rose before now = (before < now) ⊎ (now ≡ 2 ^ 64 - 1)
+Rose before now = counts.Rose before now

@@ -1,3 +1,4 @@
+pub mod Counts
 pub mod Field
 pub mod Journal
 pub mod Encoding

@@ -1,6 +1,7 @@
 // The A extension (RISC-V Unprivileged ISA 20191213, 8.2 and 8.4).
-ghost use Rattle.std.specs.Prelude.{◌≡◌, ◌⊎◌, ◌<◌, IfOk, IfSome, OnErr, OnOk, Ok, Some};
-ghost use Rattle.rv_step.specs.Effect.{changes_word, fails_unheld, loads_reserved, stores_conditional, stores_held};
+ghost use Rattle.std.specs.Prelude.{◌≡◌, ◌⊎◌, ◌<◌, false, true, IfOk, IfSome, OnErr, OnOk, Ok, Some};
+ghost use Rattle.rv_step.specs.Contention.{AccountsOk, AccountsSc};
+ghost use Rattle.rv_step.specs.Effect.{changes_word, fails_unheld, is_held, loads_reserved, stores_conditional, stores_held};
 ghost use Rattle.rv_step.specs.Step.{answer_for, hart_after, memory_after};
 
 use crate::control::write;
@@ -36,6 +37,7 @@ pub fn load_reserved<M: Mem>(
     ensures stays { IfOk result (λ stepped. (stepped ≡ Stepped.Went) ⊎ (hart.new ≡ hart.old)) }
     ensures err { OnErr result (hart.new ≡ hart.old) }
     ensures err_memory { IfSome (M.memory memory.old) (λ m. OnErr result (M.memory memory.new ≡ Some m)) }
+    ensures counted { AccountsOk result (M.contention memory.old) (M.contention memory.new) }
 {
     if at % 4 != 0 {
         return Ok(trap(LOAD_MISALIGNED, at));
@@ -65,6 +67,7 @@ pub fn store_conditional<M: Mem>(
     ensures stays { IfOk result (λ stepped. (stepped ≡ Stepped.Went) ⊎ (hart.new ≡ hart.old)) }
     ensures err { OnErr result (hart.new ≡ hart.old) }
     ensures err_memory { IfSome (M.memory memory.old) (λ m. OnErr result (M.memory memory.new ≡ Some m)) }
+    ensures counted { AccountsSc rd (is_held at hart.old.held) result hart.old hart.new (M.contention memory.old) (M.contention memory.new) }
 {
     if at % 4 != 0 {
         return Ok(trap(STORE_MISALIGNED, at));
@@ -90,6 +93,7 @@ fn store_held<M: Mem>(
     ensures stays { IfOk result (λ stepped. (stepped ≡ Stepped.Went) ⊎ (hart.new ≡ hart.old)) }
     ensures err { OnErr result (hart.new ≡ hart.old) }
     ensures err_memory { IfSome (M.memory memory.old) (λ m. OnErr result (M.memory memory.new ≡ Some m)) }
+    ensures counted { AccountsSc rd true result hart.old hart.new (M.contention memory.old) (M.contention memory.new) }
 {
     match memory.store_conditional(at, value) {
         Ok(Access::Done(stored)) => {
@@ -115,6 +119,7 @@ fn fail_unheld<M: Mem>(
     ensures stays { IfOk result (λ stepped. (stepped ≡ Stepped.Went) ⊎ (hart.new ≡ hart.old)) }
     ensures err { OnErr result (hart.new ≡ hart.old) }
     ensures err_memory { IfSome (M.memory memory.old) (λ m. OnErr result (M.memory memory.new ≡ Some m)) }
+    ensures counted { AccountsSc rd false result hart.old hart.new (M.contention memory.old) (M.contention memory.new) }
 {
     match memory.can_store(at) {
         Access::Done(()) => {
@@ -142,6 +147,7 @@ pub fn change_word<M: Mem>(
     ensures stays { IfOk result (λ stepped. (stepped ≡ Stepped.Went) ⊎ (hart.new ≡ hart.old)) }
     ensures err { OnErr result (hart.new ≡ hart.old) }
     ensures err_memory { IfSome (M.memory memory.old) (λ m. OnErr result (M.memory memory.new ≡ Some m)) }
+    ensures counted { AccountsOk result (M.contention memory.old) (M.contention memory.new) }
 {
     if at % 4 != 0 {
         return Ok(trap(STORE_MISALIGNED, at));

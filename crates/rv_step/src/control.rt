@@ -1,6 +1,8 @@
 // What an instruction does to its hart alone.
 ghost use Rattle.std.specs.Prelude.{◌≡◌, ◌⊎◌, ◌<◌, ◌+◌, ◌*◌, ◌/◌};
 ghost use Rattle.dp_base.specs.Memory.{Memory};
+ghost use Rattle.dp_base.specs.Counts.{Contention};
+ghost use Rattle.rv_step.specs.Contention.{Accounts};
 ghost use Rattle.rv_step.specs.Effect.{address, branches, jumps};
 ghost use Rattle.guest_state.specs.Register.{next, with_register, wrapped};
 ghost use Rattle.rv_step.specs.Step.{answer_for, hart_after};
@@ -50,6 +52,7 @@ pub fn jump_register(hart: &mut Hart, rd: u8, rs1: u8, imm: u32) -> Stepped
     ensures answer { (m : Memory) → result ≡ answer_for (jumps rd (address hart.old rs1 imm / 2 * 2) hart.old m) }
     ensures hart { (m : Memory) → hart.new ≡ hart_after (jumps rd (address hart.old rs1 imm / 2 * 2) hart.old m) hart.old }
     ensures stays { (result ≡ Stepped.Went) ⊎ (hart.new ≡ hart.old) }
+    ensures counted { (counts : Contention) → Accounts result counts counts }
 {
     let target = address(hart, rs1, imm) / 2 * 2;
     jump(hart, rd, target)
@@ -62,6 +65,7 @@ pub fn jump(hart: &mut Hart, rd: u8, target: u32) -> Stepped
     ensures answer { (m : Memory) → result ≡ answer_for (jumps rd target hart.old m) }
     ensures hart { (m : Memory) → hart.new ≡ hart_after (jumps rd target hart.old m) hart.old }
     ensures stays { (result ≡ Stepped.Went) ⊎ (hart.new ≡ hart.old) }
+    ensures counted { (counts : Contention) → Accounts result counts counts }
 {
     if target % 4 != 0 {
         return Stepped::Trap {
@@ -80,6 +84,7 @@ pub fn branch(hart: &mut Hart, taken: bool, imm: u32) -> Stepped
     ensures answer { (m : Memory) → result ≡ answer_for (branches taken imm hart.old m) }
     ensures hart { (m : Memory) → hart.new ≡ hart_after (branches taken imm hart.old m) hart.old }
     ensures stays { (result ≡ Stepped.Went) ⊎ (hart.new ≡ hart.old) }
+    ensures counted { (counts : Contention) → Accounts result counts counts }
 {
     if taken {
         let target = hart.pc.wrapping_add(imm);

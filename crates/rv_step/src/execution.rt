@@ -1,5 +1,6 @@
 // What each instruction does (RISC-V Unprivileged ISA 20191213, chapters 2 and 8), a row for each.
 ghost use Rattle.std.specs.Prelude.{◌≡◌, ◌⊎◌, ◌<◌, IfOk, IfSome, OnErr, OnOk, Ok, Some};
+ghost use Rattle.rv_step.specs.Contention.{AccountsFor};
 ghost use Rattle.rv_step.specs.Execution.{executed};
 ghost use Rattle.rv_step.specs.Operands.{AreOperands};
 ghost use Rattle.rv_step.specs.Step.{answer_for, hart_after, memory_after};
@@ -15,7 +16,7 @@ use guest_state::Hart;
 
 const BREAKPOINT: u8 = 3;
 
-/// Does an instruction. After all but `Went` nothing has changed.
+/// Does an instruction. After all but `Went` the hart is unchanged, and so is a memory whose pages are known.
 #[inline(always)]
 pub fn execute<M: Mem>(
     instr: Instr,
@@ -29,6 +30,7 @@ pub fn execute<M: Mem>(
     ensures stays { IfOk result (λ stepped. (stepped ≡ Stepped.Went) ⊎ (hart.new ≡ hart.old)) }
     ensures err { OnErr result (hart.new ≡ hart.old) }
     ensures err_memory { IfSome (M.memory memory.old) (λ m. OnErr result (M.memory memory.new ≡ Some m)) }
+    ensures counted { AccountsFor instr result hart.old hart.new (M.contention memory.old) (M.contention memory.new) }
 {
     match instr {
         Instr::Lui { rd, imm } => Ok(write(hart, rd, imm)),

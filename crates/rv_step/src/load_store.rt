@@ -1,5 +1,6 @@
 // Loads and stores (RISC-V Unprivileged ISA 20191213, 2.6).
 ghost use Rattle.std.specs.Prelude.{◌≡◌, ◌⊎◌, ◌<◌, IfOk, IfSome, OnErr, OnOk, Ok, Some};
+ghost use Rattle.rv_step.specs.Contention.{AccountsOk};
 ghost use Rattle.rv_step.specs.Effect.{loads, sign_extended_byte, sign_extended_half, stores};
 ghost use Rattle.rv_step.specs.Extension.{extended};
 ghost use Rattle.rv_step.specs.Step.{answer_for, hart_after, memory_after};
@@ -72,6 +73,7 @@ pub fn load<M: Mem>(
     ensures stays { IfOk result (λ stepped. (stepped ≡ Stepped.Went) ⊎ (hart.new ≡ hart.old)) }
     ensures err { OnErr result (hart.new ≡ hart.old) }
     ensures err_memory { IfSome (M.memory memory.old) (λ m. OnErr result (M.memory memory.new ≡ Some m)) }
+    ensures counted { AccountsOk result (M.contention memory.old) (M.contention memory.new) }
 {
     match memory.load(at, width) {
         Access::Done(value) => Ok(write(hart, rd, extended(value, width, extension))),
@@ -98,6 +100,7 @@ pub fn store<M: Mem>(
     ensures stays { IfOk result (λ stepped. (stepped ≡ Stepped.Went) ⊎ (hart.new ≡ hart.old)) }
     ensures err { OnErr result (hart.new ≡ hart.old) }
     ensures err_memory { IfSome (M.memory memory.old) (λ m. OnErr result (M.memory memory.new ≡ Some m)) }
+    ensures counted { AccountsOk result (M.contention memory.old) (M.contention memory.new) }
 {
     match memory.store(at, width, value) {
         Ok(Access::Done(())) => {

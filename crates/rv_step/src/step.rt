@@ -1,5 +1,6 @@
 // One step of a hart.
 ghost use Rattle.std.specs.Prelude.{◌≡◌, ◌⊎◌, ◌<◌, IfOk, IfSome, OnErr, OnOk, Ok, Some};
+ghost use Rattle.rv_step.specs.Contention.{AccountsForWord, StepAccounts};
 ghost use Rattle.rv_step.specs.Decoding.{decoded};
 ghost use Rattle.rv_step.specs.Step.{answer_for, effect, hart_after, memory_after, of_instruction};
 
@@ -15,8 +16,9 @@ const INSTRUCTION_DENIED: u8 = 1;
 
 const ILLEGAL_INSTRUCTION: u8 = 2;
 
-/// Takes one step of a hart. After all but `Went` hart and memory are unchanged, and so they are after an `Err`, where the
-/// memory's pages are known. Where they are, `Busy` never comes; where they aren't, only if a call of the memory answered it.
+/// Takes one step of a hart. After all but `Went`, and after an `Err`, the hart is unchanged, and so is a memory whose pages are
+/// known; over such a memory `Busy` is never returned. Over any memory, by what it counts, `Busy` is returned if an access answered it,
+/// and in no other case. An SC whose reservation the memory has lost goes on, and writes 1 to its register.
 #[inline(always)]
 #[tactic(auto, unfolding(crate::specs::Step::effect))]
 pub fn exec<M: Mem>(hart: &mut Hart, memory: &mut M) -> Result<Stepped, OutOfMemory>
@@ -26,6 +28,7 @@ pub fn exec<M: Mem>(hart: &mut Hart, memory: &mut M) -> Result<Stepped, OutOfMem
     ensures stays { IfOk result (λ stepped. (stepped ≡ Stepped.Went) ⊎ (hart.new ≡ hart.old)) }
     ensures err { OnErr result (hart.new ≡ hart.old) }
     ensures err_memory { IfSome (M.memory memory.old) (λ m. OnErr result (M.memory memory.new ≡ Some m)) }
+    ensures counted { StepAccounts result hart.old hart.new (M.contention memory.old) (M.contention memory.new) }
 {
     if hart.pc % 4 != 0 {
         return Ok(Stepped::Trap {
@@ -51,6 +54,7 @@ fn execute_word<M: Mem>(word: u32, hart: &mut Hart, memory: &mut M) -> Result<St
     ensures stays { IfOk result (λ stepped. (stepped ≡ Stepped.Went) ⊎ (hart.new ≡ hart.old)) }
     ensures err { OnErr result (hart.new ≡ hart.old) }
     ensures err_memory { IfSome (M.memory memory.old) (λ m. OnErr result (M.memory memory.new ≡ Some m)) }
+    ensures counted { AccountsForWord (decoded word) result hart.old hart.new (M.contention memory.old) (M.contention memory.new) }
 {
     match decode(word) {
         Some(instr) => execute(instr, hart, memory),

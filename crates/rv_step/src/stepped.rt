@@ -1,4 +1,4 @@
-/// The outcome of a step of a hart. After all but `Went` hart and memory are unchanged.
+/// The outcome of a step of a hart. After all but `Went` the hart is unchanged, and so is a memory whose pages are known.
 #[derive(Clone, Copy, Debug, PartialEq, Eq)]
 pub enum Stepped {
     /// The instruction is done.

@@ -1,5 +1,6 @@
 // A memory for the tests.
-ghost use Rattle.std.specs.Prelude.{None};
+ghost use Rattle.std.specs.Prelude.{◌≡◌, None};
+ghost use Rattle.dp_base.specs.Counts.{Counted};
 
 use dp_base::{Access, AmoOp, Mem, OutOfMemory, Width};
 
@@ -15,6 +16,10 @@ pub struct SmallMemory {
     pub writes: Access<()>,
     /// Whether an SC stores.
     pub keeps_reservations: bool,
+    /// How often it has answered `Busy`.
+    pub busy: u64,
+    /// How often an SC hasn't stored.
+    pub lost: u64,
 }
 
 impl SmallMemory {
@@ -26,6 +31,8 @@ impl SmallMemory {
             reads: Access::Done(()),
             writes: Access::Done(()),
             keeps_reservations: true,
+            busy: 0,
+            lost: 0,
         }
     }
 
@@ -38,6 +45,20 @@ impl SmallMemory {
         let offset = address.wrapping_sub(BASE) as usize;
         if offset < 64 {
             self.bytes[offset] = byte;
+        }
+    }
+
+    // Answers an access, and counts it if it is busy.
+    fn answer<T: Copy>(&mut self, answer: Access<()>, value: T) -> Access<T>
+        ensures counted { Counted result (record { busy = self.old.busy; lost = self.old.lost }) (record { busy = self.new.busy; lost = self.new.lost }) }
+    {
+        match answer {
+            Access::Done(()) => Access::Done(value),
+            Access::Denied => Access::Denied,
+            Access::Busy => {
+                self.busy = self.busy.saturating_add(1);
+                Access::Busy
+            }
         }
     }
 
@@ -62,14 +83,6 @@ impl SmallMemory {
     }
 }
 
-fn answer_with<T: Copy>(answer: Access<()>, value: T) -> Access<T> {
-    match answer {
-        Access::Done(()) => Access::Done(value),
-        Access::Denied => Access::Denied,
-        Access::Busy => Access::Busy,
-    }
-}
-
 fn bytes_of(width: Width) -> u32 {
     match width {
         Width::One => 1,
@@ -81,8 +94,11 @@ fn bytes_of(width: Width) -> u32 {
 impl Mem for SmallMemory {
     ghost memory = { λ _. None };
 
+    ghost contention = { λ m. record { busy = m.busy; lost = m.lost } };
+
     fn fetch(&mut self, address: u32) -> Access<u32> {
-        answer_with(self.fetches, self.word(address))
+        let word = self.word(address);
+        self.answer(self.fetches, word)
     }
 
     fn load(&mut self, address: u32, width: Width) -> Access<u32> {
@@ -92,14 +108,14 @@ impl Mem for SmallMemory {
             Width::Two => word & 0xffff,
             Width::Four => word,
         };
-        answer_with(self.reads, value)
+        self.answer(self.reads, value)
     }
 
     fn store(&mut self, address: u32, width: Width, value: u32) -> Result<Access<()>, OutOfMemory> {
         if self.writes == Access::Done(()) {
             self.put(address, bytes_of(width), value);
         }
-        Ok(self.writes)
+        Ok(self.answer(self.writes, ()))
     }
 
     // Only what the tests ask for: the two maxima.
@@ -110,26 +126,31 @@ impl Mem for SmallMemory {
             _ => old.max(value),
         };
         if self.reads != Access::Done(()) {
-            return Ok(answer_with(self.reads, old));
+            return Ok(self.answer(self.reads, old));
         }
         if self.writes == Access::Done(()) {
             self.put(address, 4, greatest);
         }
-        Ok(answer_with(self.writes, old))
+        Ok(self.answer(self.writes, old))
     }
 
     fn load_reserved(&mut self, address: u32) -> Access<u32> {
-        answer_with(self.reads, self.word(address))
+        let word = self.word(address);
+        self.answer(self.reads, word)
     }
 
     fn store_conditional(&mut self, address: u32, value: u32) -> Result<Access<bool>, OutOfMemory> {
-        if self.writes == Access::Done(()) && self.keeps_reservations {
+        if self.writes == Access::Done(()) && !self.keeps_reservations {
+            self.lost = self.lost.saturating_add(1);
+            return Ok(Access::Done(false));
+        }
+        if self.writes == Access::Done(()) {
             self.put(address, 4, value);
         }
-        Ok(answer_with(self.writes, self.keeps_reservations))
+        Ok(self.answer(self.writes, true))
     }
 
     fn can_store(&mut self, _address: u32) -> Access<()> {
-        self.writes
+        self.answer(self.writes, ())
     }
 }

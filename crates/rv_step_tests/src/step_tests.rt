@@ -237,7 +237,7 @@ fn reservations(rt: HostRuntime) -> Result<(), Fail> {
     Ok(())
 }
 
-// A step at a word, and whether it left hart and memory as they were.
+// A step at a word, and whether it left hart and memory as they were, but for the count of busy answers.
 fn stop(word: u32, place: Place, ways: Ways) -> Result<(Stepped, bool), OutOfMemory> {
     let (pc, x5, held) = place;
     let view = View {
@@ -253,6 +253,10 @@ fn stop(word: u32, place: Place, ways: Ways) -> Result<(Stepped, bool), OutOfMem
         ..memory_of(view, word)
     };
     let (stepped, hart, memory) = take_step(hart_of(view), before)?;
+    let before = SmallMemory {
+        busy: memory.busy,
+        ..before
+    };
     Ok((stepped, hart == hart_of(view) && memory == before))
 }
 
