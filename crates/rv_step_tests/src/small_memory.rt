@@ -41,13 +41,6 @@ impl SmallMemory {
         if offset < 64 { self.bytes[offset] } else { 0 }
     }
 
-    fn put_byte(&mut self, address: u32, byte: u8) {
-        let offset = address.wrapping_sub(BASE) as usize;
-        if offset < 64 {
-            self.bytes[offset] = byte;
-        }
-    }
-
     // Answers an access, and counts it if it is busy.
     fn answer<T: Copy>(&mut self, answer: Access<()>, value: T) -> Access<T>
         ensures counted { Counted result (record { busy = self.old.busy; lost = self.old.lost }) (record { busy = self.new.busy; lost = self.new.lost }) }
@@ -73,12 +66,20 @@ impl SmallMemory {
     }
 
     /// Writes so many of a value's four bytes at an address.
-    pub(crate) fn put(&mut self, address: u32, count: u32, value: u32) {
-        let [a, b, c, d] = value.to_le_bytes();
-        for (place, byte) in [(0, a), (1, b), (2, c), (3, d)] {
-            if place < count {
-                self.put_byte(address.wrapping_add(place), byte);
-            }
+    pub(crate) fn put(&mut self, address: u32, count: u32, value: u32)
+        ensures busy { self.new.busy ≡ self.old.busy }
+        ensures lost { self.new.lost ≡ self.old.lost }
+    {
+        put_value(&mut self.bytes, address, count, value);
+    }
+}
+
+fn put_value(bytes: &mut [u8; 64], address: u32, count: u32, value: u32) {
+    let [a, b, c, d] = value.to_le_bytes();
+    for (place, byte) in [(0, a), (1, b), (2, c), (3, d)] {
+        let offset = address.wrapping_add(place).wrapping_sub(BASE) as usize;
+        if place < count && offset < 64 {
+            bytes[offset] = byte;
         }
     }
 }
@@ -140,14 +141,21 @@ impl Mem for SmallMemory {
     }
 
     fn store_conditional(&mut self, address: u32, value: u32) -> Result<Access<bool>, OutOfMemory> {
-        if self.writes == Access::Done(()) && !self.keeps_reservations {
-            self.lost = self.lost.saturating_add(1);
-            return Ok(Access::Done(false));
+        match self.writes {
+            Access::Done(()) if self.keeps_reservations => {
+                self.put(address, 4, value);
+                Ok(Access::Done(true))
+            }
+            Access::Done(()) => {
+                self.lost = self.lost.saturating_add(1);
+                Ok(Access::Done(false))
+            }
+            Access::Denied => Ok(Access::Denied),
+            Access::Busy => {
+                self.busy = self.busy.saturating_add(1);
+                Ok(Access::Busy)
+            }
         }
-        if self.writes == Access::Done(()) {
-            self.put(address, 4, value);
-        }
-        Ok(self.answer(self.writes, true))
     }
 
     fn can_store(&mut self, _address: u32) -> Access<()> {
