@@ -64,8 +64,12 @@ abbrev pub AccountsForWord : Option Instr → Result Stepped OutOfMemory → (ha
 AccountsForWord None result hart after before now = AccountsOk result before now
 AccountsForWord (Some instruction) result hart after before now = AccountsFor instruction result hart after before now
 
+-- the instruction of a word
+unfoldable pub AccountsAt : (word : ℕ) → Result Stepped OutOfMemory → (hart after : Hart) → (before now : Contention) → Type 0
+AccountsAt word result hart after before now = AccountsForWord (decoded word) result hart after before now
+
 -- a step does what some word is decoded to, or nothing
 pub record StepAccounts (result : Result Stepped OutOfMemory) (hart after : Hart) (before now : Contention) : Type 0 where
   pub word : ℕ
   pub is_word : word < 2 ^ 32
-  pub counted : AccountsForWord (decoded word) result hart after before now
+  pub counted : AccountsAt word result hart after before now

@@ -1,6 +1,6 @@
 // One step of a hart.
 ghost use Rattle.std.specs.Prelude.{◌≡◌, ◌⊎◌, ◌<◌, IfOk, IfSome, OnErr, OnOk, Ok, Some};
-ghost use Rattle.rv_step.specs.Contention.{AccountsForWord, StepAccounts};
+ghost use Rattle.rv_step.specs.Contention.{AccountsAt, StepAccounts};
 ghost use Rattle.rv_step.specs.Decoding.{decoded};
 ghost use Rattle.rv_step.specs.Step.{answer_for, effect, hart_after, memory_after, of_instruction};
 
@@ -20,7 +20,7 @@ const ILLEGAL_INSTRUCTION: u8 = 2;
 /// known; over such a memory `Busy` is never returned. Over any memory, by what it counts, `Busy` is returned if an access answered it,
 /// and in no other case. An SC whose reservation the memory has lost goes on, and writes 1 to its register.
 #[inline(always)]
-#[tactic(auto, unfolding(crate::specs::Step::effect))]
+#[tactic(auto, unfolding(crate::specs::Step::effect, crate::specs::Contention::AccountsAt))]
 pub fn exec<M: Mem>(hart: &mut Hart, memory: &mut M) -> Result<Stepped, OutOfMemory>
     ensures answer { IfSome (M.memory memory.old) (λ m. IfOk result (λ stepped. stepped ≡ answer_for (effect hart.old m))) }
     ensures hart { IfSome (M.memory memory.old) (λ m. OnOk result (hart.new ≡ hart_after (effect hart.old m) hart.old)) }
@@ -47,6 +47,7 @@ pub fn exec<M: Mem>(hart: &mut Hart, memory: &mut M) -> Result<Stepped, OutOfMem
 }
 
 #[inline]
+#[tactic(auto, unfolding(crate::specs::Contention::AccountsAt))]
 fn execute_word<M: Mem>(word: u32, hart: &mut Hart, memory: &mut M) -> Result<Stepped, OutOfMemory>
     ensures answer { IfSome (M.memory memory.old) (λ m. IfOk result (λ stepped. stepped ≡ answer_for (of_instruction hart.old m word (decoded word)))) }
     ensures hart { IfSome (M.memory memory.old) (λ m. OnOk result (hart.new ≡ hart_after (of_instruction hart.old m word (decoded word)) hart.old)) }
@@ -54,7 +55,7 @@ fn execute_word<M: Mem>(word: u32, hart: &mut Hart, memory: &mut M) -> Result<St
     ensures stays { IfOk result (λ stepped. (stepped ≡ Stepped.Went) ⊎ (hart.new ≡ hart.old)) }
     ensures err { OnErr result (hart.new ≡ hart.old) }
     ensures err_memory { IfSome (M.memory memory.old) (λ m. OnErr result (M.memory memory.new ≡ Some m)) }
-    ensures counted { AccountsForWord (decoded word) result hart.old hart.new (M.contention memory.old) (M.contention memory.new) }
+    ensures counted { AccountsAt word result hart.old hart.new (M.contention memory.old) (M.contention memory.new) }
 {
     match decode(word) {
         Some(instr) => execute(instr, hart, memory),
