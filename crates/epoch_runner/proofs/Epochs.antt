@@ -29,7 +29,7 @@ use Rattle.epoch_runner.proofs.Courses.{course-alike, course-from}
 use Rattle.epoch_runner.specs.KernelLaws.{ReservationLaw, RunLaws, TurnLaws}
 use Rattle.epoch_runner.proofs.Nexts.{at_start_next, ends_next, last_next, rules, same_next, turn_next}
 use Rattle.epoch_runner.proofs.Readiness.{ready_runs, ready_some}
-use Rattle.epoch_runner.proofs.Reservations.{closed_answers, closed_counts, closed_end, closed_input, closed_output, closed_ready}
+use Rattle.epoch_runner.proofs.Reservations.{closed_answers, closed_counts, closed_end, closed_output, closed_ready}
 use Rattle.epoch_runner.proofs.Slicing.{IsOpen, ends_by_left}
 use Rattle.supply.specs.Supplied.{Supplied}
 
@@ -47,7 +47,6 @@ pub record EpochSoFar (start : State) (w : Supplied) (bounds : Bounds) (slices :
   pub turns_are : steps_of slices ≡ count
   pub few_answers : length t.answers ≤ count
   pub are_answers : AllByRecursion IsAnswer t.answers
-  pub place : s.input ≡ start.input + length (bytes_read t.answers)
   pub each : AllByRecursion IsSlice slices
   pub many : length slices ≤ count
   pub begun : following ≡ None → 0 < count
@@ -104,7 +103,6 @@ nothing_done start w bounds tid is =
       turns_are = omega arith;
       few_answers = omega arith;
       are_answers = tt;
-      place = omega arith;
       each = tt;
       many = omega arith;
       begun = λ never. absurd cc;
@@ -187,11 +185,10 @@ module _ (turn_laws : TurnLaws) (run_laws : RunLaws) (reserved : ReservationLaw)
 
   pub slice_more : (start : State) (w : Supplied) (bounds : Bounds) (slices : List Slice) (left : ℕ) (s : State) (t : Traced) (tid : Tid) (steps : ℕ) (after : State) (behind : Traced) (following : Option Tid)
       → EpochSoFar start w bounds slices left s t (Some tid) → IsSliceRun w bounds tid left s t steps after behind
-      → after.input + length (bytes_read t.answers) ≡ s.input + length (bytes_read behind.answers)
       → begins_with following ≡ next_slice after w (length behind.output) (length (bytes_read behind.answers)) (left - steps) (tid.0 + 1)
       → tid.0 < 2 ^ 16
       → EpochSoFar start w bounds (slices ++ record { tid = tid; steps = steps } ∷ []) (left - steps) (without_reservation after tid) behind following
-  slice_more start w bounds slices left s t tid steps after behind following so_far more place next_is numbered =
+  slice_more start w bounds slices left s t tid steps after behind following so_far more next_is numbered =
       let x : Slice = record { tid = tid; steps = steps } in
       let sums : steps_of (slices ++ x ∷ []) ≡ steps_of slices + steps = sum_by_push (λ (y : Slice). y.steps) slices x in
       let sum_before : steps_of slices + left ≡ bounds.steps = omega (arith, so_far.sum, so_far.turns_are) in
@@ -214,7 +211,6 @@ module _ (turn_laws : TurnLaws) (run_laws : RunLaws) (reserved : ReservationLaw)
         turns_are = omega (arith, sums, so_far.turns_are);
         few_answers = omega (arith, more.few_answers, so_far.few_answers);
         are_answers = more.are_answers so_far.are_answers;
-        place = omega (arith, closed_input there (Some tid), place, so_far.place);
         each = all-push IsSlice slices x so_far.each (number_of s.threads tid (ready_runs s w (thread_at s.threads tid) opened.is_open.ready), numbered, more.some, few);
         many = omega (arith, length_push slices x, so_far.many, more.some);
         begun = λ last. omega (arith, more.some);

@@ -1,10 +1,11 @@
 -- A thread that can step has a turn, with what the supply answers to it.
-use Rattle.std.proofs.Common.{◌≡◌, ◌-◌, ◌≤◌, ℕ, zero, suc, Bool, true, false, cond, not, ◌&&◌, List, [], ◌∷◌, length, take, drop, Option, Some, None, Ok, Err, refl, sym, ap, subst, ◌∙◌, arith}
+use Rattle.std.proofs.Common.{◌≡◌, ◌-◌, ◌^◌, ◌<◌, ◌≤◌, ℕ, zero, suc, Bool, true, false, cond, not, ◌&&◌, List, [], ◌∷◌, length, take, drop, Option, Some, None, Ok, Err, refl, sym, ap, subst, ◌∙◌, arith}
 use Rattle.std.specs.Prelude.{◌==◌, is_some, nat_le, nat_lt, slice_get}
 use Rattle.std.specs.List.{list_any}
-use Rattle.std.proofs.lemmas.Bool.{and_from, and_parts, cond-false, cond-true, le-leb, not-true, not_from_false, or_left, or_right}
+use Rattle.std.proofs.lemmas.Bool.{and_from, and_parts, cond-false, cond-true, eqb-true, le-leb, ltb-true, not-true, not_from_false, or_left, or_right}
 use Rattle.std.proofs.lemmas.List.{length-take}
 use Rattle.dp_base.specs.declared.answer.Answer.{Answer}
+use Rattle.dp_base.specs.declared.limits.TheConstants.{MAX_CALL_BYTES}
 use Rattle.dp_base.specs.declared.tid.Tid.{Tid}
 use Rattle.guest_state.specs.declared.thread.Thread.{Thread}
 use Rattle.guest_kernel.specs.declared.state.State.{State}
@@ -15,7 +16,7 @@ use Rattle.guest_kernel.specs.Threads.{is_running, runs_by, thread_at}
 use Rattle.guest_kernel.specs.Turn.{turn}
 use Rattle.epoch_runner.specs.Answering.{answer_to, answers_for, is_ready, is_unanswered, read_of, ready_at, ready_by}
 use Rattle.epoch_runner.specs.KernelLaws.{TurnLaws}
-use Rattle.supply.specs.Supplied.{Supplied, answer_at, end_of}
+use Rattle.supply.specs.Supplied.{IsSupply, Supplied, answer_at, end_of}
 use Rattle.turn_peek.specs.declared.peek.Peek.{Peek}
 use Rattle.turn_peek.specs.declared.peek.Peek.TheVariants as peeks
 use Rattle.turn_peek.specs.Peek.{thread_peeked}
@@ -31,6 +32,23 @@ few_by max rest bytes false false is = absurd cc
 pub answer_few : (w : Supplied) (place max : ℕ) (bytes : List ℕ) → answer_at place max w ≡ Some bytes → length bytes ≤ max
 answer_few w place max bytes is =
     few_by max (drop (place - w.place) w.window) bytes (nat_le w.place place && nat_lt place (end_of w)) (w.ended && (place == end_of w)) is
+
+-- an answer is at a place of the window, or at its end
+answered_within : (w : Supplied) (place : ℕ) (some : List ℕ) (a b : Bool) → (nat_le w.place place && nat_lt place (end_of w)) ≡ a → (w.ended && (place == end_of w)) ≡ b
+    → (bytes : List ℕ) → cond a (Some some) (cond b (Some []) None) ≡ Some bytes → place ≤ end_of w
+answered_within w place some true b inside last bytes is = omega (arith, ltb-true place (end_of w) (and_parts (nat_le w.place place) (nat_lt place (end_of w)) inside).1)
+answered_within w place some false true inside last bytes is = omega (arith, eqb-true place (end_of w) (and_parts w.ended (place == end_of w) last).1)
+answered_within w place some false false inside last bytes is = absurd cc
+
+pub answer_within : (w : Supplied) (place max : ℕ) (bytes : List ℕ) → IsSupply w → answer_at place max w ≡ Some bytes → place < 2 ^ 64 - MAX_CALL_BYTES
+answer_within w place max bytes window is =
+    omega (
+      arith,
+      window.early,
+      window.within,
+      window.small,
+      answered_within w place (take max (drop (place - w.place) w.window)) (nat_le w.place place && nat_lt place (end_of w)) (w.ended && (place == end_of w)) refl refl bytes is,
+    )
 
 -- ---- what a ready thread's turn is
 

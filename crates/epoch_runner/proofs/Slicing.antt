@@ -41,7 +41,6 @@ pub record SliceSoFar (w : Supplied) (bounds : Bounds) (tid : Tid) (left most : 
   pub counted : after.steps ≡ s.steps + steps
   pub few_answers : length behind.answers ≤ length before.answers + steps
   pub are_answers : AllByRecursion IsAnswer before.answers → AllByRecursion IsAnswer behind.answers
-  pub place : after.input + length (bytes_read before.answers) ≡ s.input + length (bytes_read behind.answers)
   pub at_start : steps ≡ 0 → (after ≡ s) × (behind ≡ before) × (yielded ≡ false)
   pub went : (done : List Slice) → steps_of done + left ≡ bounds.steps → course steps w bounds (inside s before done tid 0 false) ≡ Some (inside after behind done tid steps yielded)
 
@@ -52,21 +51,18 @@ no_step w bounds tid left most s before = record {
   counted = omega arith;
   few_answers = omega arith;
   are_answers = λ are. are;
-  place = refl;
   at_start = λ none. (refl, refl, refl);
   went = λ done sum. refl;
 }
 
 pub more_steps : (w : Supplied) (bounds : Bounds) (tid : Tid) (left most : ℕ) (s : State) (before : Traced) (steps : ℕ) (mid : State) (so_far : Traced) (n : ℕ) (yielded : Bool) (after : State) (behind : Traced)
     → most ≤ left → most ≤ bounds.slice → steps < most → SliceSoFar w bounds tid left most s before steps false mid so_far → IsMoved w tid (most - steps) mid so_far n yielded after behind
-    → after.input + length (bytes_read so_far.answers) ≡ mid.input + length (bytes_read behind.answers)
     → SliceSoFar w bounds tid left most s before (steps + n) yielded after behind
-more_steps w bounds tid left most s before steps mid so_far n yielded after behind within short below first moved place = record {
+more_steps w bounds tid left most s before steps mid so_far n yielded after behind within short below first moved = record {
   few = omega (arith, moved.few, below);
   counted = omega (arith, moved.counted, first.counted);
   few_answers = omega (arith, moved.few_answers, first.few_answers);
   are_answers = λ are. moved.are_answers (first.are_answers are);
-  place = omega (arith, place, first.place);
   at_start = λ none. absurd (omega (arith, none, moved.some));
   went = λ done sum.
       course-from steps n w bounds (inside s before done tid 0 false) (inside mid so_far done tid steps false) (first.went done sum)

@@ -21,11 +21,10 @@ use Rattle.epoch_runner.specs.Answering.{answers_for, ready_at}
 use Rattle.epoch_runner.specs.Schedule.{course, followed, progress, step, turned}
 use Rattle.epoch_runner.specs.SliceRun.{IsMoved, Traced, inside}
 use Rattle.dp_base.proofs.Lists.{all_append}
-use Rattle.epoch_runner.proofs.AnswerLists.{read_length}
 use Rattle.epoch_runner.proofs.Courses.{course-step, one_course}
 use Rattle.epoch_runner.specs.KernelLaws.{TurnLaws}
 use Rattle.epoch_runner.proofs.Nexts.{same_next}
-use Rattle.epoch_runner.proofs.Readiness.{ready_some, ready_turn, silent_rest, silent_turn}
+use Rattle.epoch_runner.proofs.Readiness.{ready_some, ready_turn, silent_turn}
 use Rattle.supply.specs.Supplied.{Supplied}
 
 turn_first : (taken n : ℕ) (tid : Tid) (here after : After) → turn here.state tid here.rest ≡ Ok after → turns taken (suc n) tid here ≡ turns (taken + 1) n tid (joined here after)
@@ -130,20 +129,6 @@ module _ (laws : TurnLaws) where
     went = λ bounds done before slice epoch. stretch steps 0 w bounds s there t done tid before (record { slice = slice; epoch = epoch; little = little; little_read = little_read }) is no_yield;
   }
 
-  -- none of them moves the place of the input
-  pub stretch_place : (n taken : ℕ) (tid : Tid) (s there : State) → turns taken n tid (at s [] []) ≡ Ok (at there [] []) → there.input ≡ s.input
-  stretch_place zero taken tid s there is = let same = no_turns taken tid (at s [] []) (at there [] []) is in ap (λ (x : After). x.state.input) (sym same)
-  stretch_place (suc n) taken tid s there is =
-      let one = first_turn taken n tid (at s [] []) (at there [] []) is in
-      let after = one.0 in
-      let silent : after.output ≡ [] = nil_from_length after.output (omega (arith, turns_write n (taken + 1) tid (joined (at s [] []) after) (at there [] []) one.2)) in
-      let rest : after.rest ≡ [] = silent_rest laws s tid after one.1 in
-      let here : joined (at s [] []) after ≡ at after.state [] [] = ap (λ o. at after.state o after.rest) silent ∙ ap (at after.state []) rest in
-      let others : turns (taken + 1) n tid (at after.state [] []) ≡ Ok (at there [] []) = ap (turns (taken + 1) n tid) (sym here) ∙ one.2 in
-      let place = laws.place s tid [] after one.1 in
-      let none : length (bytes_read after.rest) ≡ 0 = ap (λ r. length (bytes_read r)) rest in
-      omega (arith, place, none, stretch_place n (taken + 1) tid after.state there others)
-
   -- one turn of any kind, which takes what the supply answers
   pub turn_moved : (w : Supplied) (tid : Tid) (limit : ℕ) (s there : State) (t behind : Traced) (log : List Answer) (used yielded : Bool) → length t.output < EPOCH_END_BYTES → length (bytes_read t.answers) < EPOCH_END_BYTES → 0 < limit
       → has_ended s.end ≡ false → ready_at s w tid ≡ true → log ≡ answers_for s w tid → length log ≤ 1 → AllByRecursion IsAnswer log
@@ -176,18 +161,6 @@ module _ (laws : TurnLaws) where
             ∙ ap (λ b. Some (inside there b done tid (before + 1) (yields s tid))) behind_is
             ∙ ap (λ y. Some (inside there behind done tid (before + 1) y)) (sym yield_is);
       }
-
-  -- the input's place moves on by what it has read
-  pub turn_place : (w : Supplied) (tid : Tid) (s there : State) (t behind : List Answer) (log : List Answer) → has_ended s.end ≡ false → ready_at s w tid ≡ true → log ≡ answers_for s w tid
-      → there ≡ state_after s (turn s tid log) → behind ≡ t ++ log → there.input + length (bytes_read t) ≡ s.input + length (bytes_read behind)
-  turn_place w tid s there t behind log alive ready log_is there_is answers_are =
-      let has = ready_turn laws s w tid alive ready in
-      let after = has.0 in
-      let is : turn s tid log ≡ Ok after = ap (turn s tid) log_is ∙ has.1 in
-      let state_is : there.input ≡ after.state.input = ap (λ (x : State). x.input) (there_is ∙ ap (state_after s) is) in
-      let none : length (bytes_read after.rest) ≡ 0 = ap (λ r. length (bytes_read r)) has.2 in
-      let sums : length (bytes_read behind) ≡ length (bytes_read t) + length (bytes_read log) = ap (λ a. length (bytes_read a)) answers_are ∙ read_length t log in
-      omega (arith, laws.place s tid log after is, state_is, none, sums)
 
   -- a thread that can step has a turn, so it is answered so
   pub turn_taken : (w : Supplied) (tid : Tid) (s : State) (log : List Answer) (answer : Turn) → has_ended s.end ≡ false → ready_at s w tid ≡ true → log ≡ answers_for s w tid → answer ≡ turn_answer (yields s tid) log (turn s tid log)

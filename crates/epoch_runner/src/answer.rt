@@ -1,9 +1,10 @@
 // What a supply answers to a turn, and which threads can step with it.
-ghost use Rattle.std.specs.Prelude.{◌≡◌, ◌≤◌, IfOk, length};
+ghost use Rattle.std.specs.Prelude.{◌≡◌, ◌<◌, ◌≤◌, ◌-◌, ◌^◌, IfOk, length};
 ghost use Rattle.std.specs.List.{AllByRecursion, list_any};
 ghost use Rattle.std.specs.Option.{option_to_list};
 ghost use Rattle.dp_base.specs.declared.answer.Answer.TheVariants.{Read};
 ghost use Rattle.dp_base.specs.Journal.{IsAnswer};
+ghost use Rattle.guest_kernel.specs.Turn.{HasRead};
 ghost use Rattle.epoch_runner.specs.Answering.{answers_for, can_step, input_due, is_ready, is_unanswered, read_of, ready_at, waits_for_input};
 ghost use Rattle.dp_base.specs.declared.limits.TheConstants.{MAX_CALL_BYTES};
 ghost use Rattle.supply.specs.Supplied.{answer_at};
@@ -92,6 +93,7 @@ pub(crate) fn answer_for(
 ) -> Result<Option<Answer>, OutOfMemory>
     ensures is { IfOk result (λ answer. option_to_list answer ≡ answers_for state.now supply.now tid) }
     ensures is_answer { IfOk result (λ answer. AllByRecursion IsAnswer (option_to_list answer)) }
+    ensures place { IfOk result (λ answer. HasRead (option_to_list answer) → state.now.input < 2 ^ 64 - MAX_CALL_BYTES) }
 {
     turn_peek::laws::a_read_starts_where_the_input_is();
     match state.peek(tid) {
@@ -114,6 +116,7 @@ fn read_answer(
     requires few { max ≤ MAX_CALL_BYTES }
     ensures is { IfOk result (λ answer. option_to_list answer ≡ read_of (answer_at place max supply.now)) }
     ensures is_answer { IfOk result (λ answer. AllByRecursion IsAnswer (option_to_list answer)) }
+    ensures place { IfOk result (λ answer. HasRead (option_to_list answer) → place < 2 ^ 64 - MAX_CALL_BYTES) }
 {
     let Some(bytes) = supply.answer(place, max) else {
         return Ok(None);

@@ -26,7 +26,6 @@ pub fn run_epoch(
     bounds: Bounds,
 ) -> Result<Ran, OutOfMemory>
     requires countable { start.steps + bounds.steps < 2 ^ 64 }
-    requires little_input { start.input < 2 ^ 63 }
     ensures { IfOk result (HasRun start supply.now bounds) }
 {
     let Some(first) = next_thread(&start, supply, 0, 0, bounds.steps, bounds.first as usize) else {
@@ -45,7 +44,6 @@ fn run_from(
 ) -> Result<EpochRun, OutOfMemory>
     requires first { begins_with (Some first) ≡ next_slice start supply.now 0 0 bounds.steps bounds.first }
     requires countable { start.steps + bounds.steps < 2 ^ 64 }
-    requires little_input { start.input < 2 ^ 63 }
     ensures { IfOk result (HasRunEpoch start supply.now bounds) }
 {
     turn_laws();

@@ -1,5 +1,5 @@
 // One slice of a thread.
-ghost use Rattle.std.specs.Prelude.{◌≡◌, ◌+◌, ◌<◌, ◌^◌, false, true, not, ◌&&◌, nat_lt, IfOk, OnOk, length};
+ghost use Rattle.std.specs.Prelude.{◌≡◌, ◌+◌, ◌<◌, ◌^◌, false, true, not, ◌&&◌, nat_lt, IfOk, length};
 ghost use Rattle.dp_base.specs.declared.limits.TheConstants.{EPOCH_END_BYTES};
 ghost use Rattle.guest_kernel.specs.Answers.{bytes_read};
 ghost use Rattle.guest_kernel.specs.State.{has_ended};
@@ -38,11 +38,9 @@ pub(crate) fn run_slice(
     requires ready { ready_at state.old supply.now tid ≡ true }
     requires little { length trace.old.out.items < EPOCH_END_BYTES }
     requires little_read { length (bytes_read trace.old.answers) < EPOCH_END_BYTES }
-    requires little_input { state.old.input < 2 ^ 63 + length (bytes_read trace.old.answers) }
     requires some { 0 < left }
     requires countable { state.old.steps + left < 2 ^ 64 }
-    ensures run { IfOk result (λ steps. IsSliceRun supply.now bounds tid left state.old (traced trace.old) steps state.new (traced trace.new)) }
-    ensures place { OnOk result (state.new.input + length (bytes_read trace.old.answers) ≡ state.old.input + length (bytes_read trace.new.answers)) }
+    ensures { IfOk result (λ steps. IsSliceRun supply.now bounds tid left state.old (traced trace.old) steps state.new (traced trace.new)) }
 {
     let most = left.min(bounds.slice);
     let mut steps = 0;
@@ -80,11 +78,9 @@ fn advance(
     requires ready { ready_at state.old supply.now tid ≡ true }
     requires little { length trace.old.out.items < EPOCH_END_BYTES }
     requires little_read { length (bytes_read trace.old.answers) < EPOCH_END_BYTES }
-    requires little_input { state.old.input < 2 ^ 63 + length (bytes_read trace.old.answers) }
     requires some { 0 < limit }
     requires countable { state.old.steps + limit < 2 ^ 64 }
-    ensures moved { IfOk result (λ a. IsMoved supply.now tid limit state.old (traced trace.old) a.steps a.yielded state.new (traced trace.new)) }
-    ensures place { OnOk result (state.new.input + length (bytes_read trace.old.answers) ≡ state.old.input + length (bytes_read trace.new.answers)) }
+    ensures { IfOk result (λ a. IsMoved supply.now tid limit state.old (traced trace.old) a.steps a.yielded state.new (traced trace.new)) }
 {
     turn_laws();
     let steps = state.go_on(tid, limit);

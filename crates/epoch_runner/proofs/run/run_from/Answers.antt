@@ -76,7 +76,7 @@ slices-preserved c =
     ∙ ap (λ n. next_slice after w (length behind.output) n (l.left - steps) (tid.0 + 1)) c.run_slice.new.trace.counted in
     let numbered : tid.0 < 2 ^ 16 = omega arith in
     let more = slice_more c.turn_laws.ensures c.run_laws.ensures c.a_reservation_asks_for_nothing.ensures c.args.start w c.args.bounds l.slices l.left l.state (traced l.trace) tid steps after behind next
-    so_far c.in_ok-steps.ensures.run c.in_ok-steps.ensures.place next_is numbered in
+    so_far c.in_ok-steps.ensures next_is numbered in
     subst (λ (xs : List Slice). EpochSoFar c.args.start w c.args.bounds xs (l.left - steps) c.end_slice.new.self behind next) (sym c.in_ok-put.ensures.ok)
     (subst (λ (s : State). EpochSoFar c.args.start w c.args.bounds (l.slices ++ record { tid = tid; steps = steps } ∷ []) (l.left - steps) s behind next) (sym c.end_slice.ensures) more)
 

@@ -15,10 +15,10 @@ turns-preserved c =
     let so_far : SliceSoFar w c.args.bounds c.args.tid c.args.left most c.args.state.now before l.steps false l.state (traced l.trace) =
     subst (λ y. SliceSoFar w c.args.bounds c.args.tid c.args.left most c.args.state.now before l.steps y l.state (traced l.trace)) c.if-not-has_yielded.true l.invariant in
     more_steps w c.args.bounds c.args.tid c.args.left most c.args.state.now before l.steps l.state (traced l.trace) c.in_ok-moved.moved.steps c.in_ok-moved.moved.yielded c.advance.new.state (traced c.advance.new.trace)
-    (omega (arith, c.min-most.ensures)) (omega (arith, c.min-most.ensures)) c.turns-test.true so_far c.in_ok-moved.ensures.moved c.in_ok-moved.ensures.place
+    (omega (arith, c.min-most.ensures)) (omega (arith, c.min-most.ensures)) c.turns-test.true so_far c.in_ok-moved.ensures
 
-pub returns-after-turns-clause-run : goal.returns-after-turns-clause-run
-returns-after-turns-clause-run c =
+pub returns-after-turns : goal.returns-after-turns
+returns-after-turns c =
     let l = c.turns in
     let w = c.args.supply.now in
     let most = c.min-most.result in
@@ -28,8 +28,8 @@ returns-after-turns-clause-run c =
     some_most (omega (arith, c.min-most.ensures)) (lesser c.args.left c.args.bounds.slice most c.min-most.ensures) opened l.invariant
     (inl c.turns-test.false)
 
-pub returns-else-not-has_yielded-clause-run : goal.returns-else-not-has_yielded-clause-run
-returns-else-not-has_yielded-clause-run c =
+pub returns-else-not-has_yielded : goal.returns-else-not-has_yielded
+returns-else-not-has_yielded c =
     let l = c.turns in
     let w = c.args.supply.now in
     let most = c.min-most.result in
@@ -39,8 +39,8 @@ returns-else-not-has_yielded-clause-run c =
     some_most (omega (arith, c.min-most.ensures)) (lesser c.args.left c.args.bounds.slice most c.min-most.ensures) opened l.invariant
     (inr (inl c.if-not-has_yielded.false))
 
-pub returns-else-goes_on-clause-run : goal.returns-else-goes_on-clause-run
-returns-else-goes_on-clause-run c =
+pub returns-else-goes_on : goal.returns-else-goes_on
+returns-else-goes_on c =
     let l = c.turns in
     let w = c.args.supply.now in
     let most = c.min-most.result in
