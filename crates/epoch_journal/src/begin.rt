@@ -51,7 +51,6 @@ impl Journal {
         guest: &[u8],
         room: u64,
     ) -> Result<Journal, BeginFault>
-        requires few { length guest.now < 2 ^ 29 }
         requires room { room ≤ 2 ^ 30 }
         ensures history { IfKnown (Begun guest.now result) (W.history world.old) (W.history world.new) }
         ensures numbers { HasBegun (length guest.now) room result }
