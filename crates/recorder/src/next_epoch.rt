@@ -23,7 +23,6 @@ pub(crate) fn next_epoch(
     requires some_steps { 0 < bounds.steps }
     requires can { can_step start supply.now ≡ true }
     requires countable { start.steps + bounds.steps < 2 ^ 64 }
-    requires little_input { start.input < 2 ^ 63 }
     ensures run { IfOk result (λ next. HasRunEpoch start supply.now bounds next.1) }
     ensures frame { IfOk result (λ next. next.0 ≡ frame (epoch_body (epoch_of next.1.epoch))) }
     ensures some { IfOk result (λ next. 0 < length next.0) }
