@@ -10,3 +10,4 @@ mod Choosing
 mod Epochs
 mod Waiting
 mod Supplies
+mod SuppliedTurns

@@ -148,7 +148,7 @@ known_by w mid max bytes false true from some inside at_end is =
     record { taken = sym same ∙ sym (take_none max (drop (mid - w.place) w.window) past); none = λ empty. end }
 known_by w mid max bytes false false from some inside at_end is = absurd cc
 
-known : (w : Supplied) (mid max : ℕ) (bytes : List ℕ) → w.place ≤ mid → 0 < max → answer_at mid max w ≡ Some bytes → IsKnown w mid max bytes
+pub known : (w : Supplied) (mid max : ℕ) (bytes : List ℕ) → w.place ≤ mid → 0 < max → answer_at mid max w ≡ Some bytes → IsKnown w mid max bytes
 known w mid max bytes from some is =
     known_by w mid max bytes (nat_le w.place mid && nat_lt mid (end_of w)) (w.ended && (mid == end_of w)) from some
     (λ inside. ltb-true mid (end_of w) (and_parts (nat_le w.place mid) (nat_lt mid (end_of w)) inside).1)
@@ -175,7 +175,7 @@ answer_more w place mid behind log peeks.Clock from so_far reads answered moved 
 -- ---- courses
 
 module _ (turn_laws : TurnLaws) (reserved : ReservationLaw) (read_law : ReadLaw) where
-  thread_read : (m : Memory) (input at max : ℕ) (o : Option Thread) → thread_peeked m input o ≡ peeks.Read at max → (at ≡ input) × (0 < max)
+  pub thread_read : (m : Memory) (input at max : ℕ) (o : Option Thread) → thread_peeked m input o ≡ peeks.Read at max → (at ≡ input) × (0 < max)
   thread_read m input at max None is = absurd cc
   thread_read m input at max (Some (Runs hart clear)) is = let read = read_law hart m input at max is in (read.0, read.1.0)
   thread_read m input at max (Some (Waits addr hart clear)) is = absurd cc

@@ -14,7 +14,7 @@ ghost use Rattle.guest_kernel.specs.Threads.{is_running};
 ghost use Rattle.epoch_runner.specs.Answering.{can_step, input_due, ready_at};
 ghost use Rattle.epoch_runner.specs.declared.bounds.Bounds.{Bounds};
 ghost use Rattle.epoch_runner.specs.Schedule.{IsScheduled, Progress, next, turn_of};
-ghost use Rattle.epoch_runner.specs.Supplying.{IsSuppliedBy};
+ghost use Rattle.epoch_runner.specs.Supplying.{IsSuppliedBy, IsSuppliedRun};
 ghost use Rattle.supply.specs.Supplied.{IsSupply, Supplied, end_of, refilled};
 
 use crate::kernel::{run_laws, turn_laws};
@@ -59,6 +59,18 @@ pub fn an_epoch_ends_by_a_rule()
     turn_laws();
     run_laws();
     turn_peek::laws::a_reservation_asks_for_nothing();
+}
+
+/// Each turn of an epoch takes its answer from the supply. A read takes the window's bytes from the state's place on, as many as there
+/// are and at most as many as it asks for, and none only at the end of the input. A clock call takes the stamp.
+pub fn each_turn_is_supplied()
+    ensures { (start : State) (w : Supplied) (bounds : Bounds) (e : Epoch) (output : List ℕ) (end : State) →
+        IsScheduled start w bounds e output end → w.place ≤ start.input → IsSuppliedRun start w e.slices e.answers }
+{
+    turn_laws();
+    run_laws();
+    turn_peek::laws::a_reservation_asks_for_nothing();
+    turn_peek::laws::a_read_starts_where_the_input_is();
 }
 
 /// The answers that an epoch takes are the supply's: its reads take the bytes of the window from the state's place on, one after
