@@ -8,6 +8,7 @@ use Rattle.dp_base.specs.declared.answer.Answer.{Answer}
 use Rattle.dp_base.specs.declared.limits.TheConstants.{MAX_CALL_BYTES}
 use Rattle.dp_base.specs.declared.tid.Tid.{Tid}
 use Rattle.guest_state.specs.declared.thread.Thread.{Thread}
+use Rattle.guest_state.specs.declared.thread.Thread.TheVariants.{Runs, Waits, Gone}
 use Rattle.guest_kernel.specs.declared.state.State.{State}
 use Rattle.guest_kernel.specs.Call.{After}
 use Rattle.guest_kernel.specs.Peek.{peeked, rest_by, rest_of}
@@ -15,11 +16,12 @@ use Rattle.guest_kernel.specs.State.{has_ended}
 use Rattle.guest_kernel.specs.Threads.{is_running, runs_by, thread_at}
 use Rattle.guest_kernel.specs.Turn.{turn}
 use Rattle.epoch_runner.specs.Answering.{answer_to, answers_for, is_ready, is_unanswered, read_of, ready_at, ready_by}
-use Rattle.epoch_runner.specs.KernelLaws.{TurnLaws}
+use Rattle.epoch_runner.specs.SliceRun.{IsEarlyRead, can_take}
+use Rattle.epoch_runner.specs.KernelLaws.{ReadLaw, TurnLaws}
 use Rattle.supply.specs.Supplied.{IsSupply, Supplied, answer_at, end_of}
 use Rattle.turn_peek.specs.declared.peek.Peek.{Peek}
 use Rattle.turn_peek.specs.declared.peek.Peek.TheVariants as peeks
-use Rattle.turn_peek.specs.Peek.{thread_peeked}
+use Rattle.turn_peek.specs.Peek.{hart_peeked, thread_peeked}
 
 -- ---- answers of a supply
 
@@ -144,3 +146,45 @@ module _ (laws : TurnLaws) where
       let answered : is_unanswered w (thread_peeked s.pages s.input (thread_at s.threads tid)) ≡ false =
       ap (is_unanswered w) (sym (peeked_alive s tid (laws.going s tid [] after is))) ∙ silent.1 in
       (silent.0, ready_from s w (thread_at s.threads tid) (laws.runs s tid [] after is) answered, silent.2)
+
+  -- a turn can be taken where the guest hasn't ended and its thread can step
+  pub can_take_is : (s : State) (w : Supplied) (tid : Tid) → can_take w (peeked s tid) ≡ (not (has_ended s.end) && ready_at s w tid)
+  can_take_is s w tid = by_end (has_ended s.end) refl
+    where
+      by_peek : (p : Peek) → (p ≡ peeks.NotRunnable → ⊥) → can_take w p ≡ not (is_unanswered w p)
+      by_peek peeks.NotRunnable never = absurd (never refl)
+      by_peek other never = refl
+
+      by_thread : (o : Option Thread) → (runs_by o ≡ true → thread_peeked s.pages s.input o ≡ peeks.NotRunnable → ⊥) → can_take w (thread_peeked s.pages s.input o) ≡ ready_by s w o
+      by_thread None never = refl
+      by_thread (Some (Runs hart clear)) never = by_peek (hart_peeked hart s.pages s.input) (never refl)
+      by_thread (Some (Waits addr hart clear)) never = refl
+      by_thread (Some (Gone code)) never = refl
+
+      by_end : (b : Bool) → has_ended s.end ≡ b → can_take w (cond b peeks.NotRunnable (thread_peeked s.pages s.input (thread_at s.threads tid))) ≡ (not b && ready_at s w tid)
+      by_end true ended = refl
+      by_end false alive = by_thread (thread_at s.threads tid) (λ runs none. laws.has_peek s tid alive runs (peeked_alive s tid alive ∙ none))
+
+  pub taken_open : (s : State) (w : Supplied) (tid : Tid) (p : Peek) → p ≡ peeked s tid → can_take w p ≡ true → (has_ended s.end ≡ false) × (ready_at s w tid ≡ true)
+  taken_open s w tid p is can =
+      let both = and_parts (not (has_ended s.end)) (ready_at s w tid) (sym (can_take_is s w tid) ∙ sym (ap (can_take w) is) ∙ can) in
+      (not-true (has_ended s.end) both.0, both.1)
+
+module _ (read_law : ReadLaw) where
+  -- a read starts where the input is
+  pub peeked_read : (s : State) (tid : Tid) (place max : ℕ) → peeked s tid ≡ peeks.Read place max → (place ≡ s.input) × ((0 < max) × (max ≤ MAX_CALL_BYTES))
+  peeked_read s tid place max is = by_end (has_ended s.end) is
+    where
+      by_thread : (o : Option Thread) → thread_peeked s.pages s.input o ≡ peeks.Read place max → (place ≡ s.input) × ((0 < max) × (max ≤ MAX_CALL_BYTES))
+      by_thread None e = absurd cc
+      by_thread (Some (Runs hart clear)) e = read_law hart s.pages s.input place max e
+      by_thread (Some (Waits addr hart clear)) e = absurd cc
+      by_thread (Some (Gone code)) e = absurd cc
+
+      by_end : (b : Bool) → cond b peeks.NotRunnable (thread_peeked s.pages s.input (thread_at s.threads tid)) ≡ peeks.Read place max → (place ≡ s.input) × ((0 < max) × (max ≤ MAX_CALL_BYTES))
+      by_end true e = absurd cc
+      by_end false e = by_thread (thread_at s.threads tid) e
+
+  pub early_input : (s : State) (tid : Tid) (p : Peek) → p ≡ peeked s tid → IsEarlyRead p → s.input < 2 ^ 64 - MAX_CALL_BYTES
+  early_input s tid (peeks.Read place max) is early = omega (arith, early, (peeked_read s tid place max (sym is)).0)
+  early_input s tid other is early = absurd early

@@ -13,9 +13,13 @@ use Rattle.guest_kernel.specs.State.{has_ended}
 use Rattle.epoch_runner.specs.Answering.{can_step, is_ready, ready_at}
 use Rattle.epoch_runner.specs.declared.bounds.Bounds.{Bounds}
 use Rattle.epoch_runner.specs.Schedule.{Progress, begins_from, course, ends, ends_epoch, next, progress}
-use Rattle.epoch_runner.specs.SliceRun.{IsMoved, IsSliceRun, Traced, inside, next_slice}
+use Rattle.epoch_runner.specs.SliceRun.{IsMoved, IsSliceRun, Traced, can_take, inside, next_slice}
 use Rattle.epoch_runner.proofs.Courses.{course-from}
+use Rattle.epoch_runner.specs.KernelLaws.{TurnLaws}
 use Rattle.epoch_runner.proofs.Nexts.{ends_now, over_next}
+use Rattle.epoch_runner.proofs.Readiness.{can_take_is}
+use Rattle.guest_kernel.specs.Peek.{peeked}
+use Rattle.turn_peek.specs.declared.peek.Peek.{Peek}
 use Rattle.supply.specs.Supplied.{Supplied}
 
 -- ---- the epoch's end, by the steps that are left
@@ -35,6 +39,12 @@ ends_by_left s w bounds p left sum = ap (λ b. not (can_step s w) || b || nat_le
 -- whether it goes on, by the guest and by what is traced
 abbrev pub goes_on : State → Supplied → Tid → Traced → Bool
 goes_on s w tid t = not (has_ended s.end) && ready_at s w tid && nat_lt (length t.output) EPOCH_END_BYTES && nat_lt (length (bytes_read t.answers)) EPOCH_END_BYTES
+
+-- by the peek of its next turn
+pub goes_on_is : TurnLaws → (s : State) (w : Supplied) (tid : Tid) (t : Traced) (p : Peek) → p ≡ peeked s tid
+    → goes_on s w tid t ≡ (can_take w p && nat_lt (length t.output) EPOCH_END_BYTES && nat_lt (length (bytes_read t.answers)) EPOCH_END_BYTES)
+goes_on_is laws s w tid t p is =
+    ap (λ b. b && nat_lt (length t.output) EPOCH_END_BYTES && nat_lt (length (bytes_read t.answers)) EPOCH_END_BYTES) (sym (can_take_is laws s w tid) ∙ sym (ap (can_take w) is))
 
 pub record SliceSoFar (w : Supplied) (bounds : Bounds) (tid : Tid) (left most : ℕ) (s : State) (before : Traced) (steps : ℕ) (yielded : Bool) (after : State) (behind : Traced) : Type 0 where
   pub few : steps ≤ most

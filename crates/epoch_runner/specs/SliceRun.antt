@@ -1,17 +1,19 @@
 -- A slice, and parts of one, as they are run. These serve the contracts of this crate's own steps. This machine's own.
-use Rattle.std.specs.Prelude.{◌≡◌, ◌+◌, ◌-◌, ◌<◌, ◌≤◌, ℕ, Bool, false, not, ◌==◌, ◌||◌, nat_le, if◌then◌else◌, List, length, Some}
+use Rattle.std.specs.Prelude.{◌≡◌, ◌+◌, ◌-◌, ◌^◌, ◌<◌, ◌≤◌, ℕ, Bool, false, not, ◌==◌, ◌||◌, nat_le, if◌then◌else◌, List, length, Some}
 use Rattle.std.specs.List.{AllByRecursion}
 use Rattle.dp_base.specs.declared.answer.Answer.{Answer}
-use Rattle.dp_base.specs.declared.limits.TheConstants.{EPOCH_END_BYTES}
+use Rattle.dp_base.specs.declared.limits.TheConstants.{EPOCH_END_BYTES, MAX_CALL_BYTES}
 use Rattle.dp_base.specs.declared.slice.Slice.{Slice}
 use Rattle.dp_base.specs.declared.tid.Tid.{Tid}
 use Rattle.dp_base.specs.Journal.{IsAnswer, steps_of}
 use Rattle.guest_kernel.specs.Answers.{bytes_read}
 use Rattle.guest_kernel.specs.declared.state.State.{State}
 use Rattle.epoch_runner.specs.declared.bounds.Bounds.{Bounds}
-use Rattle.epoch_runner.specs.Answering.{can_step}
+use Rattle.epoch_runner.specs.Answering.{can_step, is_unanswered}
 use Rattle.epoch_runner.specs.Schedule.{Course, Next, begins_from, course, ends, next, progress}
 use Rattle.supply.specs.Supplied.{Supplied}
+use Rattle.turn_peek.specs.declared.peek.Peek.{Peek}
+use Rattle.turn_peek.specs.declared.peek.Peek.TheVariants as peeks
 
 -- what an epoch has written and taken so far
 pub record Traced : Type 0 where
@@ -22,6 +24,16 @@ pub record Traced : Type 0 where
 abbrev pub next_slice : State → Supplied → (output read left least : ℕ) → Next
 next_slice s w output read left least =
     if not (can_step s w) || (left == 0) || nat_le EPOCH_END_BYTES output || nat_le EPOCH_END_BYTES read then ends else begins_from s w least
+
+-- there is a turn, and it can be taken: it isn't a read whose answer isn't known
+abbrev pub can_take : Supplied → Peek → Bool
+can_take w peeks.NotRunnable = false
+can_take w peek = not (is_unanswered w peek)
+
+-- the turn is a read from a place that leaves room behind it in a u64
+abbrev pub IsEarlyRead : Peek → Type 0
+IsEarlyRead (peeks.Read place max) = place < 2 ^ 64 - MAX_CALL_BYTES
+IsEarlyRead peek = ⊥
 
 -- in a slice of a thread, behind so many steps of it
 abbrev pub inside : State → Traced → List Slice → Tid → ℕ → Bool → Course

@@ -1,15 +1,16 @@
 // What a supply answers to a turn, and which threads can step with it.
-ghost use Rattle.std.specs.Prelude.{◌≡◌, ◌<◌, ◌≤◌, ◌-◌, ◌^◌, IfOk, length};
+ghost use Rattle.std.specs.Prelude.{◌≡◌, ◌<◌, ◌≤◌, ◌-◌, ◌^◌, ℕ, IfOk, length};
 ghost use Rattle.std.specs.List.{AllByRecursion, list_any};
 ghost use Rattle.std.specs.Option.{option_to_list};
 ghost use Rattle.dp_base.specs.declared.answer.Answer.TheVariants.{Read};
 ghost use Rattle.dp_base.specs.Journal.{IsAnswer};
 ghost use Rattle.guest_kernel.specs.Turn.{HasRead};
-ghost use Rattle.epoch_runner.specs.Answering.{answers_for, can_step, input_due, is_ready, is_unanswered, read_of, ready_at, waits_for_input};
+ghost use Rattle.epoch_runner.specs.Answering.{answer_to, can_step, input_due, is_ready, is_unanswered, read_of, waits_for_input};
 ghost use Rattle.dp_base.specs.declared.limits.TheConstants.{MAX_CALL_BYTES};
+ghost use Rattle.epoch_runner.specs.SliceRun.{IsEarlyRead, can_take};
 ghost use Rattle.supply.specs.Supplied.{answer_at};
 
-use dp_base::{Answer, Bytes, OutOfMemory, Tid};
+use dp_base::{Answer, Bytes, OutOfMemory};
 use guest_kernel::{Peek, State, Thread, is_running};
 use std::alloc::Global;
 use supply::Supply;
@@ -45,16 +46,6 @@ fn any_waits(state: &State, supply: &Supply) -> bool
         .any(|thread| waits_for_input(state, supply, thread))
 }
 
-// Whether the thread with this number can step.
-pub(crate) fn is_ready_at(state: &State, supply: &Supply, tid: Tid) -> bool
-    ensures { result ≡ ready_at state.now supply.now tid }
-{
-    match state.threads.get(tid) {
-        Some(thread) => is_ready(state, supply, thread),
-        None => false,
-    }
-}
-
 // Whether a thread can step: it runs, and isn't at a read whose answer isn't known.
 pub(crate) fn is_ready(state: &State, supply: &Supply, thread: &Thread) -> bool
     ensures { result ≡ is_ready state.now supply.now thread.now }
@@ -84,19 +75,28 @@ fn is_unanswered(supply: &Supply, peek: Peek) -> bool
     }
 }
 
-// The answer that a thread's next turn takes, where it takes one and it is known.
-pub(crate) fn answer_for(
-    alloc: Global,
-    state: &State,
-    supply: &Supply,
-    tid: Tid,
-) -> Result<Option<Answer>, OutOfMemory>
-    ensures is { IfOk result (λ answer. option_to_list answer ≡ answers_for state.now supply.now tid) }
-    ensures is_answer { IfOk result (λ answer. AllByRecursion IsAnswer (option_to_list answer)) }
-    ensures place { IfOk result (λ answer. HasRead (option_to_list answer) → state.now.input < 2 ^ 64 - MAX_CALL_BYTES) }
+// Whether there is a turn, and it can be taken: it isn't a read whose answer isn't known.
+pub(crate) fn can_take(supply: &Supply, peek: Peek) -> bool
+    ensures { result ≡ can_take supply.now peek }
 {
-    turn_peek::laws::a_read_starts_where_the_input_is();
-    match state.peek(tid) {
+    match peek {
+        Peek::NotRunnable => false,
+        peek => !is_unanswered(supply, peek),
+    }
+}
+
+// The answer that a turn takes, where it takes one and it is known.
+pub(crate) fn answer_to(
+    alloc: Global,
+    supply: &Supply,
+    peek: Peek,
+) -> Result<Option<Answer>, OutOfMemory>
+    requires few { (place max : ℕ) → peek ≡ Peek.Read place max → max ≤ MAX_CALL_BYTES }
+    ensures is { IfOk result (λ answer. option_to_list answer ≡ answer_to supply.now peek) }
+    ensures is_answer { IfOk result (λ answer. AllByRecursion IsAnswer (option_to_list answer)) }
+    ensures place { IfOk result (λ answer. HasRead (option_to_list answer) → IsEarlyRead peek) }
+{
+    match peek {
         Peek::NotRunnable => Ok(None),
         Peek::Plain => Ok(None),
         Peek::Sync => Ok(None),

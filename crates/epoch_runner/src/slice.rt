@@ -1,19 +1,23 @@
 // One slice of a thread.
-ghost use Rattle.std.specs.Prelude.{◌≡◌, ◌+◌, ◌<◌, ◌^◌, false, true, not, ◌&&◌, nat_lt, IfOk, length};
+ghost use Rattle.std.specs.Prelude.{◌≡◌, ◌+◌, ◌<◌, ◌≤◌, ◌^◌, ℕ, false, true, ◌&&◌, nat_lt, [], Ok, IfOk, length};
 ghost use Rattle.dp_base.specs.declared.limits.TheConstants.{EPOCH_END_BYTES};
 ghost use Rattle.guest_kernel.specs.Answers.{bytes_read};
 ghost use Rattle.guest_kernel.specs.State.{has_ended};
 ghost use Rattle.epoch_runner.specs.Answering.{ready_at};
-ghost use Rattle.epoch_runner.specs.SliceRun.{IsMoved, IsSliceRun};
+ghost use Rattle.epoch_runner.specs.SliceRun.{IsMoved, IsSliceRun, can_take};
+ghost use Rattle.guest_kernel.specs.Call.{After};
+ghost use Rattle.guest_kernel.specs.Peek.{peeked};
+ghost use Rattle.guest_kernel.specs.Slices.{at, turns};
+ghost use Rattle.guest_kernel.specs.Turn.{yields};
 ghost use Rattle.epoch_runner.specs.Trace.{traced};
 
-use crate::answer::{answer_for, is_ready_at};
+use crate::answer::{answer_to, can_take};
 use crate::bounds::Bounds;
 use crate::choice::is_long;
 use crate::kernel::turn_laws;
 use crate::trace::Trace;
 use dp_base::{OutOfMemory, Tid};
-use guest_kernel::{State, Turn};
+use guest_kernel::{Peek, State, Turn};
 use std::alloc::Global;
 use supply::Supply;
 
@@ -42,40 +46,41 @@ pub(crate) fn run_slice(
     requires countable { state.old.steps + left < 2 ^ 64 }
     ensures { IfOk result (λ steps. IsSliceRun supply.now bounds tid left state.old (traced trace.old) steps state.new (traced trace.new)) }
 {
+    turn_laws();
     let most = left.min(bounds.slice);
     let mut steps = 0;
     let mut has_yielded = false;
-    'turns: while steps < most && !has_yielded && goes_on(state, supply, tid, trace) {
-        let moved = advance(alloc, state, supply, tid, most - steps, trace)?;
+    let mut peek = state.peek(tid);
+    'turns: while steps < most && !has_yielded && goes_on(supply, peek, trace) {
+        let moved = advance(alloc, state, supply, tid, peek, most - steps, trace)?;
         steps += moved.steps;
         has_yielded = moved.yielded;
+        peek = state.peek(tid);
     }
     Ok(steps)
 }
 
-// Whether a thread can step in a guest that hasn't ended, in an epoch that may write and read more.
-fn goes_on(state: &State, supply: &Supply, tid: Tid, trace: &Trace) -> bool
-    ensures { result ≡ (not (has_ended state.now.end) && ready_at state.now supply.now tid
+// Whether a turn can be taken, in an epoch that may write and read more.
+fn goes_on(supply: &Supply, peek: Peek, trace: &Trace) -> bool
+    ensures { result ≡ (can_take supply.now peek
         && nat_lt (length trace.now.out.items) EPOCH_END_BYTES && nat_lt (length (bytes_read trace.now.answers)) EPOCH_END_BYTES) }
 {
-    !state.ended()
-        && is_ready_at(state, supply, tid)
-        && !is_long(trace.out.len())
-        && !is_long(trace.read)
+    can_take(supply, peek) && !is_long(trace.out.len()) && !is_long(trace.read)
 }
 
-// Takes turns of a thread that can step, at least one and at most so many: as many plain steps as there are, or else one turn of
-// another kind.
+// Takes turns of a thread, at least one and at most so many, where its next one can be taken: as many plain steps as there are, or else
+// one turn of another kind.
 fn advance(
     alloc: Global,
     state: &mut State,
     supply: &Supply,
     tid: Tid,
+    peek: Peek,
     limit: u32,
     trace: &mut Trace,
 ) -> Result<Moved, OutOfMemory>
-    requires alive { has_ended state.old.end ≡ false }
-    requires ready { ready_at state.old supply.now tid ≡ true }
+    requires peeked { peek ≡ peeked state.old tid }
+    requires can { can_take supply.now peek ≡ true }
     requires little { length trace.old.out.items < EPOCH_END_BYTES }
     requires little_read { length (bytes_read trace.old.answers) < EPOCH_END_BYTES }
     requires some { 0 < limit }
@@ -83,18 +88,34 @@ fn advance(
     ensures { IfOk result (λ a. IsMoved supply.now tid limit state.old (traced trace.old) a.steps a.yielded state.new (traced trace.new)) }
 {
     turn_laws();
-    let steps = state.go_on(tid, limit);
+    turn_peek::laws::a_read_starts_where_the_input_is();
+    let steps = stretch(state, tid, peek, limit);
     if steps > 0 {
         return Ok(Moved {
             steps,
             yielded: false,
         });
     }
-    let answer = answer_for(alloc, state, supply, tid)?;
+    let answer = answer_to(alloc, supply, peek)?;
     let Turn::Stepped { yielded, .. } = state.turn(alloc, tid, answer.as_ref(), &mut trace.out)?
     else {
         unreachable!();
     };
     trace.put(answer)?;
     Ok(Moved { steps: 1, yielded })
+}
+
+// Takes plain steps of a thread, at most so many. It has none where its next turn is a call or an AMO.
+fn stretch(state: &mut State, tid: Tid, peek: Peek, limit: u32) -> u32
+    requires { state.old.steps + limit < 2 ^ 64 }
+    ensures within { result ≤ limit }
+    ensures turns { turns 0 result tid (at state.old [] []) ≡ Ok (at state.new [] []) }
+    ensures no_yield { (count : ℕ) (mid : After) → count < result → turns 0 count tid (at state.old [] []) ≡ Ok mid → yields mid.state tid ≡ false }
+    ensures steps { state.new.steps ≡ state.old.steps + result }
+{
+    match peek {
+        Peek::Plain => state.go_on(tid, limit),
+        Peek::Sc => state.go_on(tid, limit),
+        _ => 0,
+    }
 }

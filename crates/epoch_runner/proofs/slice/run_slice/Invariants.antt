@@ -1,10 +1,13 @@
-use Rattle.std.proofs.Common.{◌-◌}
+use Rattle.std.proofs.Common.{◌≡◌, ◌-◌}
+use Rattle.guest_kernel.specs.Peek.{peeked}
 use Rattle.epoch_runner.specs.Trace.{traced}
 use Rattle.epoch_runner.proofs.Slicing.{SliceSoFar}
 use Rattle.epoch_runner.proofs.slice.run_slice.Given as goal
 
 abbrev pub invariant-turns : goal.invariant-turns
-invariant-turns l = SliceSoFar l.supply l.fn.bounds l.tid l.left l.most l.initial.state (traced l.initial.trace) l.steps l.has_yielded l.state (traced l.trace)
+invariant-turns l =
+    SliceSoFar l.supply l.fn.bounds l.tid l.left l.most l.initial.state (traced l.initial.trace) l.steps l.has_yielded l.state (traced l.trace)
+    × (l.peek ≡ peeked l.state l.tid)
 
 abbrev pub decreases-turns : goal.decreases-turns
 decreases-turns l = l.most - l.steps
