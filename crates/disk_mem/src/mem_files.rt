@@ -67,7 +67,6 @@ impl Files for MemFiles {
         ensures bytes { IfOk result (λ file. IsFetched (Some self.old.files) name.now file.items) }
         ensures few { IfOk result (λ file. length file.items ≤ MAX_FETCH_BYTES) }
         ensures kept { self.new.files ≡ self.old.files }
-        ensures none { OnOk result (self.new.faults ≡ self.old.faults) }
         ensures cause { IsErrOf result FetchFault.Failed → Rose self.old.faults self.new.faults }
         ensures count { self.old.faults ≤ self.new.faults }
         ensures planned { IsTrue (fetch_fails_next self.old) → IsErrOf result FetchFault.Failed }

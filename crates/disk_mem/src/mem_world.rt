@@ -153,7 +153,6 @@ impl World for MemWorld {
 
     fn attach(&mut self, _name: &str, _make: bool) -> Result<(), Failed>
         ensures history { self.new.history ≡ self.old.history }
-        ensures none { OnOk result (self.new.disk_faults ≡ self.old.disk_faults) }
         ensures cause { IsErr result → Rose self.old.disk_faults self.new.disk_faults }
         ensures count { self.old.disk_faults ≤ self.new.disk_faults }
         ensures sink { self.new.sink_faults ≡ self.old.sink_faults }

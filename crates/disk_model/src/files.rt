@@ -1,5 +1,5 @@
 // Files by name, which are read whole.
-ghost use Rattle.std.specs.Prelude.{◌≡◌, ◌≤◌, ℕ, List, Option, IfOk, OnOk, IsErrOf, length};
+ghost use Rattle.std.specs.Prelude.{◌≡◌, ◌≤◌, ℕ, List, Option, IfOk, IsErrOf, length};
 ghost use Rattle.disk_model.specs.Counts.{Rose};
 ghost use Rattle.disk_model.specs.Directory.{File, IsFetched};
 
@@ -57,7 +57,6 @@ pub trait Files {
         ensures bytes { IfOk result (λ file. IsFetched (directory self.old) name.now file.items) }
         ensures few { IfOk result (λ file. length file.items ≤ MAX_FETCH_BYTES) }
         ensures kept { directory self.new ≡ directory self.old }
-        ensures none { OnOk result (file_faults self.new ≡ file_faults self.old) }
         ensures cause { IsErrOf result FetchFault.Failed → Rose (file_faults self.old) (file_faults self.new) }
         ensures count { file_faults self.old ≤ file_faults self.new };
 }

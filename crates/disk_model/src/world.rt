@@ -38,7 +38,6 @@ pub trait World {
     /// `Failed` if the file can't be had, also if `make` is false and there is none.
     fn attach(&mut self, name: &str, make: bool) -> Result<(), Failed>
         ensures history { history self.new ≡ history self.old }
-        ensures none { OnOk result (disk_faults self.new ≡ disk_faults self.old) }
         ensures cause { IsErr result → Rose (disk_faults self.old) (disk_faults self.new) }
         ensures count { disk_faults self.old ≤ disk_faults self.new }
         ensures sink { sink_faults self.new ≡ sink_faults self.old };

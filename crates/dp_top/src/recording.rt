@@ -33,8 +33,8 @@ pub fn record_guest<R, I: Inlet, W: World>(
     ensures recorded { (answer : Result Report RecordFault) × (result.1 ≡ status_of answer)
         × Recorded guest.now start options (I.input inlet.old) (I.input inlet.new) (W.history world) (W.history result.0) answer }
     ensures moments { EachMoment guest.now start (I.input inlet.old) (I.input inlet.new) (W.history world) (W.history result.0) }
-    ensures none { result.1 ≡ Status.Ok → (W.disk_faults result.0 ≡ W.disk_faults world)
-        × (W.sink_faults result.0 ≡ W.sink_faults world) × (I.input_faults inlet.new ≡ I.input_faults inlet.old) }
+    ensures none { result.1 ≡ Status.Ok → (W.sink_faults result.0 ≡ W.sink_faults world)
+        × (I.input_faults inlet.new ≡ I.input_faults inlet.old) }
     ensures input_fault { result.1 ≡ Status.InputFault → Rose (I.input_faults inlet.old) (I.input_faults inlet.new) }
     ensures disk_fault { result.1 ≡ Status.DiskFault → Rose (W.disk_faults world) (W.disk_faults result.0) }
     ensures output_fault { result.1 ≡ Status.OutputFault → Rose (W.sink_faults world) (W.sink_faults result.0) }

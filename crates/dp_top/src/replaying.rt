@@ -23,8 +23,7 @@ pub fn replay_journal<R, W: World>(
     ensures replayed { ReplayedTo (W.history world) (W.history result.0) result.1 }
     ensures moments { OnDisk (known_disk (W.history world))
         (λ bytes. EachMoment (reads bytes) (W.history world) (W.history result.0)) }
-    ensures none { result.1 ≡ Status.Ok → (W.disk_faults result.0 ≡ W.disk_faults world)
-        × (W.sink_faults result.0 ≡ W.sink_faults world) }
+    ensures none { result.1 ≡ Status.Ok → W.sink_faults result.0 ≡ W.sink_faults world }
     ensures no_guest_fault { result.1 ≡ Status.GuestFault → ⊥ }
     ensures no_usage { result.1 ≡ Status.Usage → ⊥ }
     ensures disk_fault { result.1 ≡ Status.DiskFault → Rose (W.disk_faults world) (W.disk_faults result.0) }

@@ -60,10 +60,9 @@ pub fn run<R, F: Files, I: Inlet, W: World>(
     ensures every_replay_moment { AskedReplay words.now → OnDisk (known_disk (W.history world))
         (λ bytes. EachMoment (reads bytes) (W.history world) (W.history result.0)) }
 
-    // At `Ok` no call of a device failed.
-    ensures none { result.1 ≡ Status.Ok → (F.file_faults files.new ≡ F.file_faults files.old)
-        × (I.input_faults inlet.new ≡ I.input_faults inlet.old)
-        × (W.disk_faults result.0 ≡ W.disk_faults world) × (W.sink_faults result.0 ≡ W.sink_faults world) }
+    // At `Ok` no take and no emit failed.
+    ensures none { result.1 ≡ Status.Ok → (I.input_faults inlet.new ≡ I.input_faults inlet.old)
+        × (W.sink_faults result.0 ≡ W.sink_faults world) }
 
     // When each refusal comes.
     ensures usage { result.1 ≡ Status.Usage → are_taken words.now ≡ false }
@@ -118,9 +117,8 @@ fn do_command<R, F: Files, I: Inlet, W: World>(
         ⊎ (Asked words.now × IsBadImage result.1) → result.0 ≡ world }
     ensures replay_moments { AskedReplay words.now → OnDisk (known_disk (W.history world))
         (λ bytes. EachMoment (reads bytes) (W.history world) (W.history result.0)) }
-    ensures none { result.1 ≡ Status.Ok → (F.file_faults files.new ≡ F.file_faults files.old)
-        × (I.input_faults inlet.new ≡ I.input_faults inlet.old)
-        × (W.disk_faults result.0 ≡ W.disk_faults world) × (W.sink_faults result.0 ≡ W.sink_faults world) }
+    ensures none { result.1 ≡ Status.Ok → (I.input_faults inlet.new ≡ I.input_faults inlet.old)
+        × (W.sink_faults result.0 ≡ W.sink_faults world) }
     ensures complete_replay { AskedReplay words.now → IsKnownToEnd (known_disk (W.history world)) →
         (Rose (W.disk_faults world) (W.disk_faults result.0) → ⊥) →
         (Rose (W.sink_faults world) (W.sink_faults result.0) → ⊥) →
@@ -188,9 +186,8 @@ fn record_named<R, F: Files, I: Inlet, W: World>(
     ensures disk_fault { result.1 ≡ Status.DiskFault → Rose (W.disk_faults world) (W.disk_faults result.0) }
     ensures output_fault { result.1 ≡ Status.OutputFault → Rose (W.sink_faults world) (W.sink_faults result.0) }
     ensures no_call { (result.1 ≡ Status.GuestFault) ⊎ IsBadImage result.1 → result.0 ≡ world }
-    ensures none { result.1 ≡ Status.Ok → (F.file_faults files.new ≡ F.file_faults files.old)
-        × (I.input_faults inlet.new ≡ I.input_faults inlet.old)
-        × (W.disk_faults result.0 ≡ W.disk_faults world) × (W.sink_faults result.0 ≡ W.sink_faults world) }
+    ensures none { result.1 ≡ Status.Ok → (I.input_faults inlet.new ≡ I.input_faults inlet.old)
+        × (W.sink_faults result.0 ≡ W.sink_faults world) }
     ensures file_count { F.file_faults files.old ≤ F.file_faults files.new }
     ensures input_count { I.input_faults inlet.old ≤ I.input_faults inlet.new }
     ensures disk_count { W.disk_faults world ≤ W.disk_faults result.0 }
