@@ -55,9 +55,20 @@ pub(crate) fn run_slice(
         let moved = advance(alloc, state, supply, tid, peek, most - steps, trace)?;
         steps += moved.steps;
         has_yielded = moved.yielded;
-        peek = state.peek(tid);
+        peek = next_peek(state, tid, steps, most, has_yielded);
     }
     Ok(steps)
+}
+
+// What the thread's next turn is, where its slice may have one more. A slice that is over isn't peeked at.
+fn next_peek(state: &State, tid: Tid, steps: u32, most: u32, has_yielded: bool) -> Peek
+    ensures { steps < most → has_yielded ≡ false → result ≡ peeked state.now tid }
+{
+    if steps < most && !has_yielded {
+        state.peek(tid)
+    } else {
+        Peek::NotRunnable
+    }
 }
 
 // Whether a turn can be taken, in an epoch that may write and read more.

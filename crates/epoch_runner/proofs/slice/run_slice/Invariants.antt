@@ -1,4 +1,4 @@
-use Rattle.std.proofs.Common.{◌≡◌, ◌-◌}
+use Rattle.std.proofs.Common.{◌≡◌, ◌<◌, ◌-◌, false}
 use Rattle.guest_kernel.specs.Peek.{peeked}
 use Rattle.epoch_runner.specs.Trace.{traced}
 use Rattle.epoch_runner.proofs.Slicing.{SliceSoFar}
@@ -7,7 +7,7 @@ use Rattle.epoch_runner.proofs.slice.run_slice.Given as goal
 abbrev pub invariant-turns : goal.invariant-turns
 invariant-turns l =
     SliceSoFar l.supply l.fn.bounds l.tid l.left l.most l.initial.state (traced l.initial.trace) l.steps l.has_yielded l.state (traced l.trace)
-    × (l.peek ≡ peeked l.state l.tid)
+    × (l.steps < l.most → l.has_yielded ≡ false → l.peek ≡ peeked l.state l.tid)
 
 abbrev pub decreases-turns : goal.decreases-turns
 decreases-turns l = l.most - l.steps
