@@ -16,7 +16,7 @@ work=$(mktemp -d) || exit 1
 trap 'rm -rf "$work"' EXIT
 cd "$work" || exit 1
 
-checks=439 # how many there are below; one that isn't made must be missed
+checks=471 # how many there are below; one that isn't made must be missed
 passed=0
 failed=0
 
@@ -255,6 +255,114 @@ done
 run replay $'\xff.dpj'
 check "a word that isn't text: the status is $status, not Usage" ended_with 2
 check "a word that isn't text: another line" note_has "usage: dpcli "
+
+# ---- mistakes that would cost a recording
+
+# A journal that is also a stream, by its own name or by another one.
+for name in own.dpj linked.dpj; do
+  rm -f own.dpj linked.dpj
+  : >own.dpj
+  ln own.dpj linked.dpj
+  timeout 60 "$dpcli" record "$guests/hello.elf" $name >own.dpj 2>note </dev/null
+  status=$?
+  check "the output into its own journal $name: the status is $status, not DiskFault" ended_with 6
+  check "the output into its own journal $name: the journal isn't empty" is_empty own.dpj
+  timeout 60 "$dpcli" record "$guests/hello.elf" $name >out 2>own.dpj </dev/null
+  status=$?
+  check "the report into its own journal $name: the status is $status, not DiskFault" ended_with 6
+done
+cp hello.dpj own.dpj
+timeout 60 "$dpcli" replay own.dpj >>own.dpj 2>note
+status=$?
+check "a replay into its own journal: the status is $status, not DiskFault" ended_with 6
+check "a replay into its own journal: it is changed" same own.dpj hello.dpj
+
+# begin_slow JOURNAL: records a guest that waits for input, until it has sent a line.
+mkfifo slow_in
+begin_slow() {
+  rm -f "$1"
+  : >slow_out
+  "$dpcli" record "$guests/filter.elf" "$1" <slow_in >slow_out 2>slow_note &
+  recorder=$!
+  exec 6>slow_in
+  echo first >&6
+  while [[ ! -s slow_out ]] && kill -0 "$recorder" 2>/dev/null; do sleep 0.01; done
+}
+end_slow() {
+  echo second >&6
+  exec 6>&-
+  wait "$recorder"
+  status=$?
+  cp slow_note note
+}
+
+begin_slow busy.dpj
+run record "$guests/hello.elf" busy.dpj </dev/null
+check "a second recording into one journal: the status is $status, not DiskFault" ended_with 6
+run replay busy.dpj
+check "a replay during the recording: the status is $status, not DiskFault" ended_with 6
+end_slow
+check "a recording that others disturb: the status is $status" ended_with 0
+printf 'FIRST\nSECOND\n' >twice.out
+replays "a recording that others disturb" busy.dpj twice.out
+
+begin_slow removed.dpj
+rm removed.dpj
+end_slow
+check "a journal that is removed meanwhile: the status is $status, not DiskFault" ended_with 6
+printf 'FIRST\n' >once.out
+check "a journal that is removed meanwhile: more is sent" same slow_out once.out
+
+for length in 0 200; do
+  begin_slow cut_off.dpj
+  truncate -s "$length" cut_off.dpj
+  end_slow
+  check "a journal that is cut to $length bytes meanwhile: the status is $status, not DiskFault" ended_with 6
+done
+
+begin_slow replaced.dpj
+mv replaced.dpj moved.dpj
+end_slow
+check "a journal that gets another name meanwhile: the status is $status" ended_with 0
+replays "a journal that gets another name meanwhile" moved.dpj twice.out
+
+# Streams that don't block: perl sets the flag, which the program then shares.
+run_not_blocking() {
+  perl -MFcntl -e 'for (\*STDIN, \*STDOUT) { fcntl($_, F_SETFL, O_NONBLOCK) if -p $_ } exec @ARGV' timeout 60 "$dpcli" "$@" 2>note
+}
+{ sleep 0.3; echo late; sleep 0.3; echo later; } | run_not_blocking record "$guests/filter.elf" waits.dpj >out
+status=${PIPESTATUS[1]}
+printf 'LATE\nLATER\n' >late.out
+check "an input that would block: the status is $status" ended_with 0
+check "an input that would block: another output" same out late.out
+replays "an input that would block" waits.dpj late.out
+run_not_blocking record "$guests/filter.elf" waits2.dpj <long.in | { sleep 0.5; cat >out; }
+status=${PIPESTATUS[0]}
+check "an output that would block: the status is $status" ended_with 0
+check "an output that would block: another output" same out long.out
+
+# Where the signal of a file that grows too large is ignored, the write fails.
+(
+  trap '' XFSZ
+  ulimit -f 100 # in KiB
+  timeout 60 "$dpcli" record "$lines" large.dpj --slice 10 >out 2>note </dev/null
+)
+status=$?
+check "a file that may not grow: the status is $status, not DiskFault" ended_with 6
+cp out sent
+run replay large.dpj
+check "a file that may not grow: the replay's status is $status" ended_with 0
+check "a file that may not grow: the replay doesn't begin with what was sent" is_prefix sent out
+# The script ignores it.
+if [[ -z ${DPCLI:-} ]]; then
+  checks=$((checks + 1))
+  (
+    ulimit -f 100
+    timeout 60 "$here/../dpcli" record "$lines" large2.dpj --slice 10 >out 2>note </dev/null
+  )
+  status=$?
+  check "the script and a file that may not grow: the status is $status, not DiskFault" ended_with 6
+fi
 
 # ---- a journal that is cut
 

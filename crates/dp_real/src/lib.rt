@@ -4,8 +4,9 @@
 //! Promises: each form meets its trait: a call fails only where its own count of faults rises, or is at its greatest value, no
 //! count falls, and no count is touched by a call of another kind. A reader or a writer whose bytes are known gives, or takes, the
 //! next of them. Of what the system's own files, streams and clock hold nothing is known: what the system does is trusted, and
-//! tested. A read or a write that a signal interrupts is tried again, at most `MAX_TRIES` times in all. Stands on `disk_model` for
-//! the traits.
+//! tested. A read or a write is tried again if a signal interrupts it, until `MAX_INTERRUPTS` have, and if it would block, until it
+//! doesn't. Each form keeps the last refusal of the system. A journal's file is locked while it is attached, and a write or a sync
+//! of it fails if another program has removed it or changed its length. Stands on `disk_model` for the traits.
 //!
 //! ```text
 //! let mut files = RealFiles::new(rt);
@@ -16,15 +17,18 @@
 
 mod fault_count;
 mod file_at;
+mod journal_file;
 mod real_files;
 mod real_inlet;
 mod real_world;
+mod refusal;
 mod transfer;
 
 pub use real_files::RealFiles;
 pub use real_inlet::RealInlet;
 pub use real_world::RealWorld;
-pub use transfer::MAX_TRIES;
+pub use refusal::Refusal;
+pub use transfer::MAX_INTERRUPTS;
 
 #[cfg(test)]
 mod tests;

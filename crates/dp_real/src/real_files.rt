@@ -2,11 +2,13 @@
 ghost use Rattle.std.specs.Prelude.{◌≡◌, ◌≤◌, IfOk, IfSome, length, take};
 
 use crate::fault_count::FaultCount;
+use crate::refusal::{Refusal, tried};
 use crate::transfer::fill;
-use disk_model::{Failed, FetchFault, Files, MAX_FETCH_BYTES};
+use disk_model::{FetchFault, Files, MAX_FETCH_BYTES};
 use std::alloc::Global;
 use std::fs;
-use std::io::Read;
+use std::io::{self, Read};
+use std::time::Clock;
 
 /// The system's files. A name is a path, from the program's folder on where it doesn't begin with a slash.
 ///
@@ -27,6 +29,13 @@ impl RealFiles {
             file_faults: FaultCount::new(),
         }
     }
+
+    /// What the system last refused of a file.
+    pub fn file_refusal(&self) -> Option<Refusal>
+        ensures { result ≡ self.now.file_faults.last }
+    {
+        self.file_faults.last
+    }
 }
 
 impl Files for RealFiles {
@@ -37,32 +46,35 @@ impl Files for RealFiles {
     ghost file_faults = { λ f. f.file_faults.faults };
 
     fn fetch(&mut self, alloc: Global, name: &str) -> Result<Vec<u8>, FetchFault> {
-        let answer = match fs::open(&self.runtime, name) {
-            Ok(mut file) => first_bytes(alloc, &mut file, MAX_FETCH_BYTES),
-            Err(_) => Err(FetchFault::Failed),
-        };
-        match answer {
+        let buffer = vec![in alloc; 0u8; MAX_FETCH_BYTES]?;
+        match read_file(&self.runtime, name, buffer) {
             Ok(bytes) => Ok(bytes),
-            Err(FetchFault::Failed) => {
-                self.file_faults.count_fault();
+            Err(refusal) => {
+                self.file_faults.count_fault(refusal);
                 Err(FetchFault::Failed)
             }
-            Err(FetchFault::OutOfMemory) => Err(FetchFault::OutOfMemory),
         }
     }
 }
 
-// The bytes that a reader gives up to its end, or the first of them, at most so many.
-fn first_bytes<R: Read>(alloc: Global, reader: &mut R, most: usize) -> Result<Vec<u8>, FetchFault>
-    ensures few { IfOk result (λ bytes. length bytes.items ≤ most) }
-    ensures bytes { IfOk result (λ bytes. IfSome (R.remaining reader.old) (λ known. bytes.items ≡ take most known)) }
+// The first bytes of a file, at most as many as the buffer has.
+fn read_file(runtime: &HostRuntime, name: &str, buffer: Vec<u8>) -> Result<Vec<u8>, Refusal>
+    ensures few { IfOk result (λ bytes. length bytes.items ≤ length buffer.items) }
 {
-    let mut bytes = vec![in alloc; 0u8; most]?;
-    match fill(reader, &mut bytes) {
-        Ok(count) => {
-            bytes.truncate(count);
-            Ok(bytes)
-        }
-        Err(Failed) => Err(FetchFault::Failed),
-    }
+    let mut file = tried("open", fs::open(runtime, name))?;
+    tried("read", first_bytes(runtime, &mut file, buffer))
+}
+
+// The bytes that a reader gives up to its end, or the first of them, at most as many as the buffer has.
+fn first_bytes<C: Clock, R: Read>(
+    clock: &C,
+    reader: &mut R,
+    mut buffer: Vec<u8>,
+) -> io::Result<Vec<u8>>
+    ensures few { IfOk result (λ bytes. length bytes.items ≤ length buffer.items) }
+    ensures bytes { IfOk result (λ bytes. IfSome (R.remaining reader.old) (λ known. bytes.items ≡ take (length buffer.items) known)) }
+{
+    let count = fill(clock, reader, &mut buffer)?;
+    buffer.truncate(count);
+    Ok(buffer)
 }

@@ -5,6 +5,7 @@ ghost use Rattle.std.specs.Duration.{as_nanos};
 ghost use Rattle.disk_model.specs.Counts.{Rose};
 
 use crate::fault_count::FaultCount;
+use crate::refusal::Refusal;
 use crate::transfer::read_start;
 use disk_model::{Failed, Inlet};
 use std::io::{Read, Stdin};
@@ -12,7 +13,8 @@ use std::time::{Duration, SystemTime, UNIX_EPOCH};
 
 /// A reader, standard input in a program, and the system's clock.
 ///
-/// A take is one read of at most 65,536 bytes: it waits until there is a byte, and gives what is there. Once a read gave the end
+/// A take is one read of at most 65,536 bytes: it waits until there is a byte, also where the read would block, and gives what is
+/// there. Once a read gave the end
 /// it stays the end, and nothing more is read. The clock gives nanoseconds since the beginning of 1970 UTC, as the system's
 /// wall clock has them: 0 before 1970 and where it can't be read, and 2^64 - 1 for all that is later. It may go back.
 #[derive(Drop)]
@@ -47,6 +49,13 @@ impl<R: Read> RealInlet<R> {
             input_faults: FaultCount::new(),
         }
     }
+
+    /// What the system last refused of the input.
+    pub fn input_refusal(&self) -> Option<Refusal>
+        ensures { result ≡ self.now.input_faults.last }
+    {
+        self.input_faults.last
+    }
 }
 
 // What the trait says of a known input holds of none. Beside its other clauses: an end that was seen stays.
@@ -72,9 +81,17 @@ impl<R: Read> Inlet for RealInlet<R> {
         if self.ended || buf.is_empty() {
             return Ok(0);
         }
-        let answer = read_start(&mut self.reader, buf);
-        self.ended = answer == Ok(0);
-        self.input_faults.counted(answer)
+        match read_start(&self.runtime, &mut self.reader, buf) {
+            Ok(count) => {
+                self.ended = count == 0;
+                Ok(count)
+            }
+            Err(reason) => {
+                let tried = "standard input: read";
+                self.input_faults.count_fault(Refusal { tried, reason });
+                Err(Failed)
+            }
+        }
     }
 
     fn clock(&mut self) -> u64 {

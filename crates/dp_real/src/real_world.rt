@@ -1,22 +1,22 @@
 // A journal's file, standard output and standard error.
-ghost use Rattle.std.specs.Prelude.{◌≡◌};
+ghost use Rattle.std.specs.Prelude.{◌≡◌, ◌≤◌, IsErr, OnErr, OnOk};
+ghost use Rattle.disk_model.specs.Counts.{Rose};
 
 use crate::fault_count::FaultCount;
-use crate::file_at::FileAt;
-use crate::transfer::{fill, write_some, write_whole};
+use crate::journal_file::JournalFile;
+use crate::refusal::{Refusal, tried};
+use crate::transfer::{write_some, write_whole};
 use disk_model::{Failed, Stream, World};
-use std::fs::{self, File};
-use std::io;
-use std::os::fd::AsRawFd;
+use std::io::{self, ErrorKind};
 
 /// A file of the system as the disk, with standard output as Out and standard error as Note.
 ///
 /// Before an attach that succeeds each call on the disk fails. An emit is one write. It fails where the stream is closed, and
-/// where it takes nothing.
+/// where it takes nothing. Where a stream would block it waits.
 #[derive(Drop)]
 pub struct RealWorld {
     runtime: HostRuntime,
-    file: Option<File>,
+    journal: Option<JournalFile>,
     pub(crate) disk_faults: FaultCount,
     pub(crate) sink_faults: FaultCount,
 }
@@ -28,10 +28,43 @@ impl RealWorld {
     {
         RealWorld {
             runtime,
-            file: None,
+            journal: None,
             disk_faults: FaultCount::new(),
             sink_faults: FaultCount::new(),
         }
+    }
+
+    /// What the system last refused of the disk.
+    pub fn disk_refusal(&self) -> Option<Refusal>
+        ensures { result ≡ self.now.disk_faults.last }
+    {
+        self.disk_faults.last
+    }
+
+    /// What the system last refused of the streams.
+    pub fn sink_refusal(&self) -> Option<Refusal>
+        ensures { result ≡ self.now.sink_faults.last }
+    {
+        self.sink_faults.last
+    }
+
+    /// Sends all of the bytes.
+    pub fn send(&mut self, to: Stream, bytes: &[u8]) -> Result<(), Failed>
+        ensures cause { IsErr result → Rose self.old.sink_faults.faults self.new.sink_faults.faults }
+        ensures count { self.old.sink_faults.faults ≤ self.new.sink_faults.faults }
+        ensures disk { self.new.disk_faults ≡ self.old.disk_faults }
+    {
+        let sent = match to {
+            Stream::Out => {
+                let answer = write_whole(&self.runtime, &mut self.runtime.stdout(), bytes);
+                tried("standard output: write", answer)
+            }
+            Stream::Note => {
+                let answer = write_whole(&self.runtime, &mut self.runtime.stderr(), bytes);
+                tried("standard error: write", answer)
+            }
+        };
+        self.sink_faults.counted(sent)
     }
 }
 
@@ -49,117 +82,92 @@ impl World for RealWorld {
     /// the file and the entry of its name in its folder are synced, so that an `Ok` finds both again after a crash. The
     /// folder's own name is not synced.
     ///
+    /// The file is locked until this world is dropped or attaches again: with `make` against all other worlds, of other programs
+    /// too, and without against those that attached with `make`.
+    ///
     /// # Errors
     ///
-    /// `Failed` if the path is of something else than a regular file, if the file can't be had, and, with `make`, if the file
-    /// or its folder can't be synced. A file that was made stays then, empty.
+    /// `Failed` if the path is of something else than a regular file, if the file can't be had, if it is also standard output or
+    /// standard error, if it can't be locked, and, with `make`, if the file or its folder can't be synced. A file that was made
+    /// stays then, empty.
     fn attach(&mut self, name: &str, make: bool) -> Result<(), Failed> {
-        self.file = open_journal(&self.runtime, name, make).ok();
-        let answer = match &self.file {
-            Some(_) => Ok(()),
-            None => Err(Failed),
-        };
-        self.disk_faults.counted(answer)
+        self.journal = None;
+        match JournalFile::open(&self.runtime, name, make) {
+            Ok(journal) => {
+                self.journal = Some(journal);
+                Ok(())
+            }
+            Err(refusal) => {
+                self.disk_faults.count_fault(refusal);
+                Err(Failed)
+            }
+        }
     }
 
     fn len(&mut self) -> Result<u64, Failed> {
-        let answer = match &self.file {
-            Some(file) => length_of(file),
-            None => Err(Failed),
+        let answer = match &self.journal {
+            Some(journal) => journal.len(),
+            None => Err(not_attached("length")),
         };
         self.disk_faults.counted(answer)
     }
 
     fn read_at(&mut self, at: u64, buf: &mut [u8]) -> Result<usize, Failed> {
-        let answer = match &self.file {
-            Some(file) => fill(&mut FileAt { file, at }, buf),
-            None => Err(Failed),
+        let answer = match &self.journal {
+            Some(journal) => journal.read_at(&self.runtime, at, buf),
+            None => Err(not_attached("read")),
         };
         self.disk_faults.counted(answer)
     }
 
+    /// # Errors
+    ///
+    /// Fails also if another program has removed the file or changed its length.
     fn write_at(&mut self, at: u64, bytes: &[u8]) -> Result<(), Failed> {
-        let answer = match &self.file {
-            Some(file) => write_whole(&mut FileAt { file, at }, bytes),
-            None => Err(Failed),
+        let answer = match &mut self.journal {
+            Some(journal) => journal.write_at(&self.runtime, at, bytes),
+            None => Err(not_attached("write")),
         };
         self.disk_faults.counted(answer)
     }
 
     fn cut(&mut self, len: u64) -> Result<(), Failed> {
-        let answer = match &self.file {
-            Some(file) => file.set_len(len).map_err(|_| Failed),
-            None => Err(Failed),
+        let answer = match &mut self.journal {
+            Some(journal) => journal.cut(len),
+            None => Err(not_attached("cut")),
         };
         self.disk_faults.counted(answer)
     }
 
+    /// # Errors
+    ///
+    /// Fails also if another program has removed the file or changed its length.
     fn sync(&mut self) -> Result<(), Failed> {
-        let answer = match &self.file {
-            Some(file) => file.sync_data().map_err(|_| Failed),
-            None => Err(Failed),
+        let answer = match &self.journal {
+            Some(journal) => journal.sync(),
+            None => Err(not_attached("sync")),
         };
         self.disk_faults.counted(answer)
     }
 
     fn emit(&mut self, to: Stream, bytes: &[u8]) -> Result<usize, Failed> {
         let answer = match to {
-            Stream::Out => write_some(&mut self.runtime.stdout(), bytes),
-            Stream::Note => write_some(&mut self.runtime.stderr(), bytes),
+            Stream::Out => {
+                let answer = write_some(&self.runtime, &mut self.runtime.stdout(), bytes);
+                tried("standard output: write", answer)
+            }
+            Stream::Note => {
+                let answer = write_some(&self.runtime, &mut self.runtime.stderr(), bytes);
+                tried("standard error: write", answer)
+            }
         };
         self.sink_faults.counted(answer)
     }
 }
 
-// How many bytes a file has.
-fn length_of(file: &File) -> Result<u64, Failed> {
-    match file.metadata() {
-        Ok(metadata) => Ok(metadata.len()),
-        Err(_) => Err(Failed),
-    }
-}
-
-// The regular file with this path, open for reading and writing. With `make` it is made if there is none, and its name stays.
-fn open_journal(runtime: &HostRuntime, name: &str, make: bool) -> io::Result<File> {
-    let file = open_file(runtime, name, make)?;
-    if !file.metadata()?.is_file() {
-        return Err(io::ErrorKind::Unsupported.into());
-    }
-    if make {
-        file.sync_all()?;
-        sync_folder_of(runtime, name)?;
-    }
-    apart_from_streams(file)
-}
-
-// A journal that may be read but not written can still be replayed.
-fn open_file(runtime: &HostRuntime, name: &str, make: bool) -> io::Result<File> {
-    let both = File::options()
-        .read(true)
-        .write(true)
-        .create(make)
-        .open(runtime, name);
-    match both {
-        Err(_) if !make => fs::open(runtime, name),
-        opened => opened,
-    }
-}
-
-// Syncs the folder of the file that a path leads to. That is another folder than the path's if the path is of a link.
-fn sync_folder_of(runtime: &HostRuntime, name: &str) -> io::Result<()> {
-    let path = fs::canonicalize(runtime, name)?;
-    match path.parent() {
-        Some(folder) => fs::open(runtime, folder)?.sync_all(),
-        None => Err(io::ErrorKind::NotFound.into()),
-    }
-}
-
-// The same file under a number that no standard stream has. Where a stream was closed before the program began, the file may
-// have got the stream's number, and what is meant for the stream would land in it.
-fn apart_from_streams(file: File) -> io::Result<File> {
-    if file.as_raw_fd() <= 2 {
-        file.try_clone()
-    } else {
-        Ok(file)
+fn not_attached(tried: &'static str) -> Refusal {
+    Refusal {
+        tried,
+        reason: io::Error::new(ErrorKind::NotFound, "no file is attached"),
     }
 }

@@ -24,8 +24,11 @@ struct Answers {
     read: [u8; 8],
     len_after_cut: u64,
     read_past_the_end: usize,
-    // of the world that made the file, and of one that found it
-    faults: (u64, u64),
+    // of the world that made the file
+    faults: u64,
+    // of one that found it: what it answered while the first had it, and its faults
+    locked: [Result<(), Failed>; 2],
+    other_faults: u64,
 }
 
 // Writes a file, reads it, cuts it, and finds it again.
@@ -41,6 +44,9 @@ fn write_and_read(rt: HostRuntime, name: &str) -> Result<Answers, Failed> {
     world.cut(3)?;
     world.sync()?;
     let mut other = RealWorld::new(rt);
+    let faults = world.disk_faults.faults;
+    let locked = [other.attach(name, true), other.attach(name, false)];
+    drop(world);
     other.attach(name, true)?;
     other.attach(name, false)?;
     let len_after_cut = other.len()?;
@@ -52,7 +58,9 @@ fn write_and_read(rt: HostRuntime, name: &str) -> Result<Answers, Failed> {
         read,
         len_after_cut,
         read_past_the_end,
-        faults: (world.disk_faults.faults, other.disk_faults.faults),
+        faults,
+        locked,
+        other_faults: other.disk_faults.faults,
     })
 }
 
@@ -66,7 +74,9 @@ fn a_file_is_a_disk(rt: HostRuntime) -> Result<(), Fail> {
         read: *b"bcdXYZ..",
         len_after_cut: 3,
         read_past_the_end: 0,
-        faults: (2, 1),
+        faults: 2,
+        locked: [Err(Failed), Err(Failed)],
+        other_faults: 3,
     };
     assert_eq!(rt; answers, Ok(expected));
     Ok(())
@@ -134,9 +144,11 @@ fn files_that_are_fetched(rt: HostRuntime) -> Result<(), Fail> {
     Ok(())
 }
 
-// A stream that interrupts its first calls, and then gives or takes a few bytes a call, as long as some are left.
+// A stream that would block at its first call if it has interrupts at all, interrupts the next ones, and then gives or takes a few
+// bytes a call, as long as some are left.
 #[derive(Drop)]
 struct Slow {
+    would_block: bool,
     interrupts: u32,
     most: usize,
     left: usize,
@@ -146,6 +158,10 @@ impl Slow {
     fn moved(&mut self, room: usize) -> io::Result<usize>
         ensures { IfOk result (λ n. n ≤ room) }
     {
+        if self.would_block {
+            self.would_block = false;
+            return Err(io::ErrorKind::WouldBlock.into());
+        }
         if 0 < self.interrupts {
             self.interrupts -= 1;
             return Err(io::ErrorKind::Interrupted.into());
@@ -174,9 +190,17 @@ impl Write for Slow {
 
 fn stream_of(interrupts: u32, most: usize, left: usize) -> Slow {
     Slow {
+        would_block: 0 < interrupts,
         interrupts,
         most,
         left,
+    }
+}
+
+fn counted(answer: io::Result<usize>) -> Result<usize, Failed> {
+    match answer {
+        Ok(count) => Ok(count),
+        Err(_) => Err(Failed),
     }
 }
 
@@ -199,10 +223,10 @@ fn streams_that_interrupt(rt: HostRuntime) -> Result<(), Fail> {
     for (interrupts, most, left, expected) in cases {
         let mut buf = [0; 8];
         let answers = [
-            read_some(&mut stream_of(interrupts, most, left), &mut buf),
-            write_some(&mut stream_of(interrupts, most, left), &buf),
-            fill(&mut stream_of(interrupts, most, left), &mut buf),
-            write_whole(&mut stream_of(interrupts, most, left), &buf).map(|()| 8),
+            counted(read_some(&rt, &mut stream_of(interrupts, most, left), &mut buf)),
+            counted(write_some(&rt, &mut stream_of(interrupts, most, left), &buf)),
+            counted(fill(&rt, &mut stream_of(interrupts, most, left), &mut buf)),
+            counted(write_whole(&rt, &mut stream_of(interrupts, most, left), &buf).map(|()| 8)),
         ];
         assert_eq!(rt; answers, expected, "{interrupts} {most} {left}");
     }
