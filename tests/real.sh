@@ -16,7 +16,7 @@ work=$(mktemp -d) || exit 1
 trap 'rm -rf "$work"' EXIT
 cd "$work" || exit 1
 
-checks=471 # how many there are below; one that isn't made must be missed
+checks=557 # how many there are below; one that isn't made must be missed
 passed=0
 failed=0
 
@@ -256,6 +256,85 @@ run replay $'\xff.dpj'
 check "a word that isn't text: the status is $status, not Usage" ended_with 2
 check "a word that isn't text: another line" note_has "usage: dpcli "
 
+# ---- what is said of a mistake
+
+# says WHAT LINE: this line follows the status's line.
+says() { check "$1: it isn't told as '$2'" note_has "$2"; }
+
+run record nobody.elf nobody.dpj </dev/null
+says "a guest that isn't there" "dpcli: nobody.elf: open: No such file or directory"
+run record "$guests" folder.dpj </dev/null
+says "a folder as a guest" "dpcli: $guests: read: Is a directory"
+run record "$guests/hello.elf" nowhere/hello.dpj </dev/null
+says "a journal in a folder that isn't there" "dpcli: nowhere/hello.dpj: open: No such file or directory"
+run record "$guests/hello.elf" "$work" </dev/null
+says "a folder as the journal" "dpcli: $work: open: Is a directory"
+run replay nobody.dpj
+says "the replay of no file" "dpcli: nobody.dpj: open: No such file or directory"
+run replay "$work"
+says "the replay of a folder" "dpcli: $work: open: not a regular file"
+run record "$guests/filter.elf" closed2.dpj <&-
+says "no input at all" "dpcli: standard input: read: Bad file descriptor"
+run record "$guests/filter.elf" folder_in2.dpj <"$work"
+says "a folder as the input" "dpcli: standard input: read: Is a directory"
+into_closed_pipe record "$guests/hello.elf" closed_pipe2.dpj
+says "recorded into a closed pipe" "dpcli: standard output: write: Broken pipe"
+timeout 60 "$dpcli" record "$guests/hello.elf" full2.dpj >/dev/full 2>note </dev/null
+says "recorded into a full device" "dpcli: standard output: write: No space left on device"
+run replay $'\xff.dpj'
+says "a path that isn't UTF-8" "dpcli: an argument isn't UTF-8, and a path must be"
+
+# usage WORDS.. -- LINE: the words are no command, and this line says why.
+usage() {
+  local words=()
+  while [[ $1 != -- ]]; do
+    words+=("$1")
+    shift
+  done
+  run "${words[@]}" </dev/null
+  check "the words '${words[*]}': the status is $status, not Usage" ended_with 2
+  check "the words '${words[*]}': some output" is_empty out
+  says "the words '${words[*]}'" "$2"
+}
+usage -- "error: 'dpcli' requires a subcommand"
+usage play a -- "error: unrecognized subcommand 'play'"
+usage record a -- "  <JOURNAL>"
+usage record a b c -- "error: unexpected argument 'c' found"
+usage record a b --slic 7 -- "error: unexpected argument '--slic' found"
+usage record a b --epoch x -- "error: invalid value 'x' for '--epoch <N>'"
+
+# option NAME LEAST MOST RANGE DEFAULT: an option of record takes exactly these numbers, and the help says so.
+help=$here/../crates/dpcli/stdout
+option() {
+  local name=$1 least=$2 most=$3 number
+  for number in "$least" "$most"; do
+    run record nobody.elf nobody.dpj "--$name" "$number" </dev/null
+    check "--$name $number: the status is $status, not GuestFault" ended_with 3
+  done
+  usage record a b "--$name" "$((most + 1))" -- "error: invalid value '$((most + 1))' for '--$name <N>': $((most + 1)) is not in $least..=$most"
+  check "--$name: the help doesn't say $4 and $5" grep -q -- "--$name <N> .*$4.*\[default: $5\]" "$help"
+}
+option epoch 1 1000000 "1 to 1,000,000" 20000
+option slice 1 100000 "1 to 100,000" 1000
+option limit 1 1000000000000 "1 to 1,000,000,000,000" 1000000000
+option mark 0 1000 "0 to 1,000" 16
+option workers 1 64 "1 to 64" 4
+option ahead 1 64 "1 to 64" 16
+
+for words in --help -h help "record --help" "replay -h" "help record"; do
+  # shellcheck disable=SC2086
+  run $words </dev/null
+  check "$words: the status is $status, not Usage" ended_with 2
+  check "$words: another text than the help's" same out "$help"
+done
+run --version
+check "--version: the status is $status, not Usage" ended_with 2
+check "--version: another line" grep -q -x 'dpcli 0\.1, proved by rattle-kit-.* logic .*' out
+if command -v rt >/dev/null; then
+  checks=$((checks + 1))
+  check "--version: another toolchain than this one" grep -q -F "proved by $(rt version)" out
+fi
+
 # ---- mistakes that would cost a recording
 
 # A journal that is also a stream, by its own name or by another one.
@@ -267,6 +346,7 @@ for name in own.dpj linked.dpj; do
   status=$?
   check "the output into its own journal $name: the status is $status, not DiskFault" ended_with 6
   check "the output into its own journal $name: the journal isn't empty" is_empty own.dpj
+  check "the output into its own journal $name: no reason" note_has "dpcli: $name: open: the file is also standard output or standard error"
   timeout 60 "$dpcli" record "$guests/hello.elf" $name >out 2>own.dpj </dev/null
   status=$?
   check "the report into its own journal $name: the status is $status, not DiskFault" ended_with 6
@@ -299,6 +379,7 @@ end_slow() {
 begin_slow busy.dpj
 run record "$guests/hello.elf" busy.dpj </dev/null
 check "a second recording into one journal: the status is $status, not DiskFault" ended_with 6
+check "a second recording into one journal: no reason" note_has "dpcli: busy.dpj: lock: another recording or replay has locked the file"
 run replay busy.dpj
 check "a replay during the recording: the status is $status, not DiskFault" ended_with 6
 end_slow
@@ -310,6 +391,7 @@ begin_slow removed.dpj
 rm removed.dpj
 end_slow
 check "a journal that is removed meanwhile: the status is $status, not DiskFault" ended_with 6
+check "a journal that is removed meanwhile: no reason" note_has "another program removed the file"
 printf 'FIRST\n' >once.out
 check "a journal that is removed meanwhile: more is sent" same slow_out once.out
 
@@ -318,6 +400,7 @@ for length in 0 200; do
   truncate -s "$length" cut_off.dpj
   end_slow
   check "a journal that is cut to $length bytes meanwhile: the status is $status, not DiskFault" ended_with 6
+  check "a journal that is cut to $length bytes meanwhile: no reason" note_has "dpcli: cut_off.dpj: write: another program changed the file's length"
 done
 
 begin_slow replaced.dpj
@@ -349,6 +432,7 @@ check "an output that would block: another output" same out long.out
 )
 status=$?
 check "a file that may not grow: the status is $status, not DiskFault" ended_with 6
+check "a file that may not grow: no reason" note_has "dpcli: large.dpj: write: File too large"
 cp out sent
 run replay large.dpj
 check "a file that may not grow: the replay's status is $status" ended_with 0

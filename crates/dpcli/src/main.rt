@@ -1,37 +1,44 @@
 //! The program: does what its words say to the files, the input, the clock and the streams of the system, and ends with the
-//! status's number.
+//! status's number. `run` says on standard error what came of it; `explain` adds what the system refused, or which word is wrong.
 #![tactic(auto)]
+
+mod explain;
+mod help;
 
 use dp_real::{RealFiles, RealInlet, RealWorld};
 use dp_report::emit_fault;
 use dp_top::{Status, run};
-use std::alloc::AllocError;
+use explain::{explain_bytes, explain_fault, explain_words};
 use std::env;
-use std::io::ErrorKind;
+use std::io::{self, ErrorKind};
 use std::process::ExitCode;
 
 fn main(rt: HostRuntime) -> ExitCode {
+    let alloc = rt.alloc();
     let mut world = RealWorld::new(rt);
-    let status = match program_words(&rt) {
-        Ok(words) => {
-            let mut files = RealFiles::new(rt);
-            let mut inlet = RealInlet::new(rt);
-            run(&rt, rt.alloc(), &words, &mut files, &mut inlet, world).1
-        }
-        Err(AllocError) => {
+    let (words, are_text) = match program_words(&rt) {
+        Ok(words) => (words, true),
+        Err(error) if error.kind() == ErrorKind::OutOfMemory => {
             // The status stays if its line can't be sent.
             let _ = emit_fault(&mut world, &Status::OutOfMemory);
-            Status::OutOfMemory
+            return ExitCode::from(Status::OutOfMemory.number());
         }
+        // No words are no command either.
+        Err(_) => (Vec::new(alloc), false),
+    };
+    let mut files = RealFiles::new(rt);
+    let mut inlet = RealInlet::new(rt);
+    let (mut world, status) = run(&rt, alloc, &words, &mut files, &mut inlet, world);
+    // The status stays if there is no memory for a line, or if it can't be sent.
+    let _ = match status {
+        Status::Usage if are_text => explain_words(alloc, &words, &mut world),
+        Status::Usage => explain_bytes(&mut world),
+        _ => explain_fault(alloc, status, &words, &files, &inlet, &mut world),
     };
     ExitCode::from(status.number())
 }
 
-// The program's words, its name first. Where one isn't text there are none: these are no command either.
-fn program_words(rt: &HostRuntime) -> Result<Vec<String>, AllocError> {
-    match env::args(rt) {
-        Ok(words) => words.collect(rt.alloc()),
-        Err(error) if error.kind() == ErrorKind::OutOfMemory => Err(AllocError),
-        Err(_) => Ok(Vec::new(rt.alloc())),
-    }
+// The program's words, its name first. Fails also if one isn't text.
+fn program_words(rt: &HostRuntime) -> io::Result<Vec<String>> {
+    Ok(env::args(rt)?.collect(rt.alloc())?)
 }

@@ -1,0 +1,142 @@
+// The command line with its help. `dp_words` decides what is a command; this line says why not, and takes the same.
+use clap::builder::ValueParser;
+use clap::{Arg, ArgAction, Command};
+use dp_base::limits::{MAX_EPOCH_STEPS, MAX_JOBS, MAX_WORKERS};
+use std::alloc::{AllocError, Global};
+
+// The toolchain's line is that of `rt version`.
+const VERSION: &str = "0.1, proved by rattle-kit-13f logic dac8208d650f15bf";
+
+/// The whole command line. It fails only if an allocation does.
+pub fn command_line<'a>(alloc: Global) -> Result<Command<'a>, AllocError> {
+    Command::new(alloc, "dpcli")
+        .bin_name("dpcli")?
+        .version(VERSION)
+        .about("Records a multithreaded RV32IA guest, and replays it exactly.")
+        .after_help(
+            "The report goes to standard error, and so does what went wrong. docs/TUTORIAL.md has each status.",
+        )
+        .subcommand_required(true)
+        .subcommand(record(alloc)?)?
+        .subcommand(replay(alloc)?)
+}
+
+/// What each command does, and what it takes: the help of all of them. It fails only if an allocation does.
+pub fn help(alloc: Global) -> Result<String, AllocError> {
+    let mut text = command_line(alloc)?.render_help()?;
+    text.push_str("\n")?;
+    text.push_str(record(alloc)?.render_help()?.as_str())?;
+    text.push_str("\n")?;
+    text.push_str(replay(alloc)?.render_help()?.as_str())?;
+    Ok(text)
+}
+
+fn record<'a>(alloc: Global) -> Result<Command<'a>, AllocError> {
+    Command::new(alloc, "record")
+        .bin_name("dpcli record")?
+        .about(
+            "Runs a guest and writes a journal of it. Standard input is the guest's input, standard output its output.",
+        )
+        .arg(text(
+            alloc,
+            "guest",
+            "GUEST",
+            "The guest's file: an ELF file for RV32IA",
+        ))?
+        .arg(text(
+            alloc,
+            "journal",
+            "JOURNAL",
+            "The journal's file: a new one, or an empty one",
+        ))?
+        .arg(number(
+            alloc,
+            "epoch",
+            1,
+            MAX_EPOCH_STEPS as u64,
+            "20000",
+            "Steps of an epoch, 1 to 1,000,000: each epoch is synced to the disk before its output is sent",
+        ))?
+        .arg(number(
+            alloc,
+            "slice",
+            1,
+            100_000,
+            "1000",
+            "Steps that one thread takes before another gets its turn, 1 to 100,000",
+        ))?
+        .arg(number(
+            alloc,
+            "limit",
+            1,
+            1_000_000_000_000,
+            "1000000000",
+            "Steps of the whole recording, 1 to 1,000,000,000,000: it stops there, with status 11",
+        ))?
+        .arg(number(
+            alloc,
+            "mark",
+            0,
+            1000,
+            "16",
+            "0 to 1,000; changes nothing yet",
+        ))?
+        .arg(number(
+            alloc,
+            "workers",
+            1,
+            MAX_WORKERS as u64,
+            "4",
+            "1 to 64; changes nothing yet",
+        ))?
+        .arg(number(
+            alloc,
+            "ahead",
+            1,
+            MAX_JOBS as u64,
+            "16",
+            "1 to 64; changes nothing yet",
+        ))
+}
+
+fn replay<'a>(alloc: Global) -> Result<Command<'a>, AllocError> {
+    Command::new(alloc, "replay")
+        .bin_name("dpcli replay")?
+        .about("Runs the guest of a journal again. Its output goes to standard output.")
+        .arg(text(alloc, "journal", "JOURNAL", "The journal's file"))?
+        .arg(number(
+            alloc,
+            "workers",
+            1,
+            MAX_WORKERS as u64,
+            "4",
+            "1 to 64; changes nothing yet",
+        ))
+}
+
+// A text that must be there.
+fn text<'a>(alloc: Global, id: &'a str, shown: &'a str, help: &'a str) -> Arg<'a> {
+    Arg::new(alloc, id)
+        .value_name(shown)
+        .help(help)
+        .required(true)
+        .action(ArgAction::Set)
+}
+
+// An option: a number with its bounds and its default.
+fn number<'a>(
+    alloc: Global,
+    name: &'a str,
+    least: u64,
+    most: u64,
+    default: &'a str,
+    help: &'a str,
+) -> Arg<'a> {
+    Arg::new(alloc, name)
+        .long(name)
+        .value_name("N")
+        .help(help)
+        .action(ArgAction::Set)
+        .value_parser(ValueParser::unsigned(least, most))
+        .default_value(default)
+}
