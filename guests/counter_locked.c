@@ -1,30 +1,34 @@
 // Four threads count together, each time under a lock. It shows threads, and that the sum is the same in every schedule.
-#include "runtime/guest.h"
+#include <stdio.h>
+#include <threads.h>
 
 #define THREADS 4
 #define ROUNDS 2500
 
-static struct lock lock;
+static mtx_t lock;
 static volatile unsigned counter;
 
-static unsigned count(void *unused) {
+static int count(void *unused) {
     (void)unused;
     for (unsigned i = 0; i < ROUNDS; i++) {
-        lock_take(&lock);
+        mtx_lock(&lock);
         counter += 1;
-        lock_give(&lock);
+        mtx_unlock(&lock);
     }
     return 0;
 }
 
 int main(void) {
-    struct thread *threads[THREADS];
+    mtx_init(&lock, mtx_plain);
+    thrd_t threads[THREADS];
     for (unsigned i = 0; i < THREADS; i++) {
-        threads[i] = thread_start(count, NULL);
+        if (thrd_create(&threads[i], count, NULL) != thrd_success) {
+            return 1;
+        }
     }
     for (unsigned i = 0; i < THREADS; i++) {
-        thread_join(threads[i]);
+        thrd_join(threads[i], NULL);
     }
-    print("%u threads counted %u times each: %u\n", THREADS, ROUNDS, counter);
+    printf("%u threads counted %u times each: %u\n", THREADS, ROUNDS, counter);
     return 0;
 }

@@ -1,14 +1,15 @@
 // Four threads count together without a lock, which is a race: where a slice ends between a thread's load and its store, all that
 // the others count meanwhile is lost. It shows what a recording is for: the sum depends on the schedule, and each replay comes to
 // the same one.
-#include "runtime/guest.h"
+#include <stdio.h>
+#include <threads.h>
 
 #define THREADS 4
 #define ROUNDS 2500
 
 static volatile unsigned counter;
 
-static unsigned count(void *unused) {
+static int count(void *unused) {
     (void)unused;
     for (unsigned i = 0; i < ROUNDS; i++) {
         counter += 1;
@@ -20,13 +21,15 @@ static unsigned count(void *unused) {
 }
 
 int main(void) {
-    struct thread *threads[THREADS];
+    thrd_t threads[THREADS];
     for (unsigned i = 0; i < THREADS; i++) {
-        threads[i] = thread_start(count, NULL);
+        if (thrd_create(&threads[i], count, NULL) != thrd_success) {
+            return 1;
+        }
     }
     for (unsigned i = 0; i < THREADS; i++) {
-        thread_join(threads[i]);
+        thrd_join(threads[i], NULL);
     }
-    print("%u threads counted %u times each: %u\n", THREADS, ROUNDS, counter);
+    printf("%u threads counted %u times each: %u\n", THREADS, ROUNDS, counter);
     return 0;
 }

@@ -1,7 +1,8 @@
 // The least guest: it writes a line and ends. It shows how a guest is built, recorded and replayed.
-#include "runtime/guest.h"
+#include <stdio.h>
+#include <threads.h>
 
 int main(void) {
-    print("hello from thread %u\n", gettid());
+    printf("hello from thread %u\n", thrd_current());
     return 0;
 }

@@ -16,7 +16,7 @@ work=$(mktemp -d) || exit 1
 trap 'rm -rf "$work"' EXIT
 cd "$work" || exit 1
 
-checks=557 # how many there are below; one that isn't made must be missed
+checks=567 # how many there are below; one that isn't made must be missed
 passed=0
 failed=0
 
@@ -77,6 +77,7 @@ example() {
 
 example hello /dev/null "exit 0"
 example filter "$guests/filter.in" "exit 0"
+example words "$guests/words.in" "exit 0"
 example counter_locked /dev/null "exit 0"
 example counter_racing /dev/null "exit 0"
 example producer_consumer /dev/null "exit 0"

@@ -1,10 +1,18 @@
-# Where a guest starts: thread 1, sp at the top of its stack, all other registers 0. gp and tp stay 0, as in every thread that
-# spawn makes; guest.ld leaves out the symbol that would let a linker use gp.
+# Where a guest and its threads start. All registers are 0 but sp, and a0 of a thread that spawn made. tp points to the thread's
+# own thread-local storage. gp stays 0: guest.ld defines no __global_pointer$, so no code uses it.
+    .file "start.S"
     .section .text.start, "ax", @progbits
     .globl _start
     .type _start, @function
 _start:
-    call main
-    li a7, 1                # exit_all with main's answer
-    ecall
+    la tp, main_tls
+    call guest_main
     .size _start, . - _start
+
+# A thread that thrd_create made. a0 is its record, of which the first word is its tp.
+    .globl thread_start
+    .type thread_start, @function
+thread_start:
+    lw tp, 0(a0)
+    tail thread_main
+    .size thread_start, . - thread_start
