@@ -7,6 +7,6 @@ use dp_base::{Log, Tid};
 pub struct ThreadLog {
     pub tid: Tid,
     pub steps: u32,
-    /// The ticket of each step that synchronises, and what it is. The tickets don't fall.
+    /// The ticket of each step that synchronises, and what the step is.
     pub entries: Log<(u64, Sc)>,
 }
