@@ -1,7 +1,7 @@
 //! What follows from the definitions alone. Each function's contract is a law over all instructions, harts and memories; a call
 //! of it costs nothing and hands the law to the caller's proof.
 
-ghost use Rattle.std.specs.Prelude.{◌≡◌, ◌⊎◌, ◌<◌, ◌≤◌, ℕ, Bool};
+ghost use Rattle.std.specs.Prelude.{◌≡◌, ◌⊎◌, ◌<◌, ◌≤◌, ℕ, Bool, Option};
 ghost use Rattle.dp_base.specs.declared.limits.TheConstants.{MAX_CALL_BYTES};
 ghost use Rattle.dp_base.specs.Memory.{Memory};
 ghost use Rattle.guest_state.specs.declared.hart.Hart.{Hart};
@@ -19,6 +19,11 @@ pub fn an_instruction_asks_for_nothing()
 pub fn a_reservation_asks_for_nothing()
     ensures { (f : Peek → Bool) (hart : Hart) (memory : Memory) (input : ℕ) → f Peek.Plain ≡ f Peek.Sync → f Peek.Sc ≡ f Peek.Sync
         → f (hart_peeked (record hart { held = None }) memory input) ≡ f (hart_peeked hart memory input) }
+{}
+
+/// A hart's next turn is the same over any reservation.
+pub fn a_peek_needs_no_reservation()
+    ensures { (hart : Hart) (held : Option ℕ) (memory : Memory) (input : ℕ) → hart_peeked (record hart { held = held }) memory input ≡ hart_peeked hart memory input }
 {}
 
 /// A read takes its input from where the guest's input is, and at least one byte, and no more than a call moves.
