@@ -1,2 +1,3 @@
 pub mod Reservations
 mod ReadTurns
+pub mod PlainWords

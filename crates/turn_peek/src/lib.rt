@@ -20,7 +20,9 @@
 pub mod arguments;
 pub mod laws;
 mod peek;
+mod plain;
 mod read_call;
 
 pub use peek::{Peek, peek_thread};
+pub use plain::is_plain;
 pub use read_call::read_at_once;
