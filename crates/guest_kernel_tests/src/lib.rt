@@ -24,6 +24,8 @@ mod one_turn;
 #[cfg(test)]
 mod peek_tests;
 #[cfg(test)]
+mod plain_tests;
+#[cfg(test)]
 mod slice_tests;
 #[cfg(test)]
 mod stands;
