@@ -3,8 +3,9 @@
 //!
 //! Promises: `peek_thread` tells the next turn of a thread by its memory and by how much of the input the guest has read
 //! (`specs/Peek.antt`), and changes nothing; `read_at_once` tells the answer of a read that takes no input
-//! (`specs/ReadCall.antt`). `laws` says what follows from the definitions alone. Stands on `dp_base`, on `cow_pages` for
-//! `Pages`, on `rv_step` for the instructions, and on `guest_state` for harts and threads.
+//! (`specs/ReadCall.antt`); `is_plain` tells by the word at pc whether a turn is plain if the hart goes on. `laws` says what
+//! follows from the definitions alone. Stands on `dp_base`, on `cow_pages` for `Pages`, on `rv_step` for the instructions, and on
+//! `guest_state` for harts and threads.
 //!
 //! ```text
 //! match peek_thread(&thread, &pages, input) {
