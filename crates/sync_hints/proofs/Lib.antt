@@ -1,0 +1,2 @@
+mod ByKey
+pub mod Orders

@@ -1,5 +1,5 @@
 -- Logs of threads, merged by ticket. This project's own.
-use Rattle.std.specs.Prelude.{◌≡◌, ℕ, List, map}
+use Rattle.std.specs.Prelude.{◌≡◌, ◌==◌, Bool, ℕ, List, map}
 use Rattle.std.specs.List.{flat_map}
 use Rattle.std.specs.List.Sorted.{IsNonDecreasingBy, IsPermutation, IsStableByKey}
 use Rattle.std.specs.Ordering.{nat_cmp}
@@ -31,3 +31,6 @@ pub record IsMerged (logs : List ThreadLog) (counts : List (Tid × ℕ)) (order 
   pub once : IsPermutation (all_entries logs) entries
   pub by_ticket : IsNonDecreasingBy (λ e. e.ticket) entries
   pub stable : IsStableByKey (λ e. e.ticket) nat_cmp (all_entries logs) entries
+
+abbrev pub is_of : (tid other : Tid) → Bool
+is_of tid other = other.0 == tid.0
