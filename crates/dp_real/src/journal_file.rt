@@ -1,5 +1,5 @@
 // The file of a journal: opened, locked, and as this program left it.
-ghost use Rattle.std.specs.Prelude.{◌≤◌, IfOk, length};
+ghost use Rattle.std.specs.Prelude.{◌≡◌, ◌<◌, ◌≤◌, ◌+◌, ◌^◌, IfOk, OnErr, OnOk, length, max};
 
 use crate::file_at::FileAt;
 use crate::refusal::{Refusal, tried};
@@ -23,7 +23,11 @@ pub struct JournalFile {
 impl JournalFile {
     /// Opens and locks the regular file with this path. With `make` it is made if there is none, the lock is exclusive, and the file
     /// and its name are synced. Without, the lock is shared, and a file that can't be written is opened for reading alone.
-    pub fn open(runtime: &HostRuntime, name: &str, make: bool) -> Result<JournalFile, Refusal> {
+    pub(crate) fn open(
+        runtime: &HostRuntime,
+        name: &str,
+        make: bool,
+    ) -> Result<JournalFile, Refusal> {
         let file = tried("open", open_regular(runtime, name, make))?;
         tried("lock", lock(&file, make))?;
         if make {
@@ -35,12 +39,17 @@ impl JournalFile {
     }
 
     /// Returns how many bytes the file has.
-    pub fn len(&self) -> Result<u64, Refusal> {
+    pub(crate) fn len(&self) -> Result<u64, Refusal> {
         tried("length", length_of(&self.file))
     }
 
     /// Reads bytes from offset `at` on until the buffer is full or the file ends. Returns how many.
-    pub fn read_at(&self, runtime: &HostRuntime, at: u64, buf: &mut [u8]) -> Result<usize, Refusal>
+    pub(crate) fn read_at(
+        &self,
+        runtime: &HostRuntime,
+        at: u64,
+        buf: &mut [u8],
+    ) -> Result<usize, Refusal>
         ensures within { IfOk result (λ n. n ≤ length buf.old) }
     {
         let file = &self.file;
@@ -52,12 +61,16 @@ impl JournalFile {
     /// # Errors
     ///
     /// Fails if the file isn't as this program left it, and if the system refuses the write.
-    pub fn write_at(
+    pub(crate) fn write_at(
         &mut self,
         runtime: &HostRuntime,
         at: u64,
         bytes: &[u8],
-    ) -> Result<(), Refusal> {
+    ) -> Result<(), Refusal>
+        ensures longer { OnOk result (0 < length bytes.now → at + length bytes.now < 2 ^ 64 → self.new.len ≡ max self.old.len (at + length bytes.now)) }
+        ensures nothing { length bytes.now ≡ 0 → self.new.len ≡ self.old.len }
+        ensures failed { OnErr result (self.new.len ≡ self.old.len) }
+    {
         tried("write", self.is_as_left())?;
         let file = &self.file;
         tried(
@@ -72,7 +85,10 @@ impl JournalFile {
     }
 
     /// Cuts the file to a length, in bytes.
-    pub fn cut(&mut self, len: u64) -> Result<(), Refusal> {
+    pub(crate) fn cut(&mut self, len: u64) -> Result<(), Refusal>
+        ensures cut { OnOk result (self.new.len ≡ len) }
+        ensures failed { OnErr result (self.new.len ≡ self.old.len) }
+    {
         tried("cut", self.file.set_len(len))?;
         self.len = len;
         Ok(())
@@ -83,7 +99,7 @@ impl JournalFile {
     /// # Errors
     ///
     /// Fails if the system refuses the sync, and if the file isn't as this program left it.
-    pub fn sync(&self) -> Result<(), Refusal> {
+    pub(crate) fn sync(&self) -> Result<(), Refusal> {
         tried("sync", self.file.sync_data())?;
         tried("sync", self.is_as_left())
     }
