@@ -9,7 +9,7 @@ use std::alloc::{AllocError, Global};
 use std::io::Stdin;
 
 /// Says what the system refused, if that is the cause of this status: which file, what was tried, and the system's reason.
-pub fn explain_fault(
+pub(crate) fn explain_fault(
     alloc: Global,
     status: Status,
     words: &[String],
@@ -64,7 +64,7 @@ fn refusal_line(
 }
 
 /// Says which argument is wrong. If the arguments ask for help or the version, sends these to standard output.
-pub fn explain_words(
+pub(crate) fn explain_words(
     alloc: Global,
     words: &[String],
     world: &mut RealWorld,
@@ -81,7 +81,7 @@ pub fn explain_words(
 }
 
 /// Says that an argument isn't text.
-pub fn explain_bytes(world: &mut RealWorld) -> Result<(), AllocError> {
+pub(crate) fn explain_bytes(world: &mut RealWorld) -> Result<(), AllocError> {
     let _ = world.send(
         Stream::Note,
         b"dpcli: an argument isn't UTF-8, and a path must be\n",
