@@ -7,6 +7,7 @@ use Rattle.guest_kernel.specs.declared.state.State.{State}
 use Rattle.epoch_runner.specs.declared.bounds.Bounds.{Bounds}
 use Rattle.epoch_runner.specs.Schedule.{Course, IsScheduled, closed, course, ends, followed, next, progress, starting, step}
 use Rattle.supply.specs.Supplied.{Supplied}
+use Rattle.sync_hints.specs.declared.hints.Hints.{Hints}
 
 bind-bind : {X Y Z : Type 0} (o : Option X) (f : X → Option Y) (g : Y → Option Z) (h : X → Option Z) → ((x : X) → h x ≡ (f x >>= g)) → ((o >>= f) >>= g) ≡ (o >>= h)
 bind-bind None f g h is = refl
@@ -72,10 +73,10 @@ one_end m n w bounds c d e went stops other ends_too =
 same_epoch : (a b : Epoch) → a.slices ≡ b.slices → a.answers ≡ b.answers → a ≡ b
 same_epoch a b slices answers = ap (λ xs. record { slices = xs; answers = a.answers }) slices ∙ ap (λ xs. record { slices = b.slices; answers = xs }) answers
 
-pub one_schedule : (start : State) (w : Supplied) (bounds : Bounds) (e f : Epoch) (output other : List ℕ) (end otherwise : State) → IsScheduled start w bounds e output end → IsScheduled start w bounds f other otherwise
+pub one_schedule : (start : State) (hints : Hints) (w : Supplied) (bounds : Bounds) (e f : Epoch) (output other : List ℕ) (end otherwise : State) → IsScheduled start hints w bounds e output end → IsScheduled start hints w bounds f other otherwise
     → (e ≡ f) × (output ≡ other) × (end ≡ otherwise)
-one_schedule start w bounds e f output other end otherwise a b =
-    let same : a.last ≡ b.last = one_end a.turns b.turns w bounds (starting start) a.last b.last a.went a.stops b.went b.stops in (
+one_schedule start hints w bounds e f output other end otherwise a b =
+    let same : a.last ≡ b.last = one_end a.turns b.turns w bounds (starting start hints) a.last b.last a.went a.stops b.went b.stops in (
       same_epoch e f (a.slices_are ∙ ap (λ c. (closed c).done) same ∙ sym b.slices_are) (a.answers_are ∙ ap (λ (c : Course). c.answers) same ∙ sym b.answers_are),
       a.output_is ∙ ap (λ (c : Course). c.output) same ∙ sym b.output_is,
       a.end_is ∙ ap (λ c. (closed c).state) same ∙ sym b.end_is,

@@ -1,4 +1,7 @@
 pub mod AnswerLists
+mod LeftSteps
+mod LowestThreads
+mod HintTurns
 mod Readiness
 mod Nexts
 mod Courses
@@ -6,8 +9,8 @@ mod Reservations
 mod CourseRuns
 mod Stretch
 mod Slicing
-mod Choosing
 mod Epochs
+mod Hinting
 mod Waiting
 mod Supplies
 mod SuppliedTurns

@@ -1,79 +1,69 @@
 -- What is next, taken apart.
-use Rattle.std.proofs.Common.{◌≡◌, ◌⊎◌, inl, inr, ◌+◌, ◌-◌, ◌<◌, ◌≤◌, ℕ, zero, suc, Bool, true, false, cond, not, ◌&&◌, ◌||◌, List, [], ◌∷◌, drop, zero-add, Option, Some, None, refl, sym, ap, subst, ◌∙◌, arith}
-use Rattle.std.specs.Prelude.{◌==◌, nat_le, nat_lt, position, slice_get}
+use Rattle.std.proofs.Common.{◌≡◌, ◌⊎◌, inl, inr, ◌+◌, ◌-◌, ◌<◌, ◌≤◌, ℕ, suc, Bool, true, false, cond, not, ◌&&◌, ◌||◌, List, [], ◌∷◌, length, Option, Some, None, refl, sym, ap, subst, ◌∙◌, arith}
+use Rattle.std.specs.Prelude.{◌==◌, max, nat_le, nat_lt, slice_get}
 use Rattle.std.specs.List.{list_any}
-use Rattle.std.specs.Option.{option_map, option_or}
-use Rattle.std.specs.List.{position_from}
-use Rattle.std.proofs.lemmas.Iterator.Adapters.{position_from-zero}
-use Rattle.std.proofs.lemmas.List.Quantifiers.{position-Some}
-use Rattle.std.proofs.lemmas.Option.{slice_get-get_or, slice_get_past}
-use Rattle.std.proofs.lemmas.Bool.{both_ways, and_from, and_parts, cond-false, cond-true, leb-false, leb-true, lt-leb, lt-ltb, ne_eqb, not-true, not_from_false, or_cases, or_from, or_parts}
+use Rattle.std.specs.Option.{option_or}
+use Rattle.std.proofs.lemmas.Bool.{both_ways, and_from, and_parts, cond-false, cond-true, eqb-true, leb-false, leb-true, lt-leb, lt-ltb, ltb-true, ne_eqb, not-true, not_from_false, or_cases, or_from, or_parts}
 use Rattle.dp_base.specs.declared.limits.TheConstants.{EPOCH_END_BYTES}
 use Rattle.dp_base.specs.declared.tid.Tid.{Tid}
 use Rattle.guest_state.specs.declared.thread.Thread.{Thread}
-use Rattle.guest_state.specs.declared.thread.Thread.TheVariants.{Gone}
-use Rattle.guest_state.proofs.Many.{none_mapped}
+use Rattle.guest_state.specs.declared.thread.Thread.TheVariants.{Runs, Waits, Gone}
 use Rattle.guest_kernel.specs.declared.state.State.{State}
+use Rattle.guest_kernel.specs.Peek.{peeked}
 use Rattle.guest_kernel.specs.State.{has_ended}
 use Rattle.guest_kernel.specs.Threads.{thread_at}
 use Rattle.epoch_runner.specs.declared.bounds.Bounds.{Bounds}
-use Rattle.epoch_runner.specs.Answering.{can_step, is_ready, ready_at, ready_by}
-use Rattle.epoch_runner.specs.Schedule.{Next, Progress, begins_from, begins_with, by_last, ends, ends_epoch, lowest_from, next, turn_of}
+use Rattle.epoch_runner.specs.declared.stage.Stage.{Stage}
+use Rattle.epoch_runner.specs.declared.stage.Stage.TheVariants.{Others, Own, Last}
+use Rattle.epoch_runner.specs.Answering.{can_step, is_ready, is_unanswered, ready_at, ready_by}
+use Rattle.epoch_runner.specs.Hinted.{Following, HintedTurn, any_left, by_last_rule, by_others, by_stage, entry_turn, goes_plain, hinted, is_plain, is_thread, last_rule, left_of, plain_turn, rule_1, rule_2, rule_3, rule_4}
+use Rattle.epoch_runner.specs.Lowest.{lowest_from}
+use Rattle.epoch_runner.specs.Schedule.{IsUsedUp, Next, Progress, after_last, begins_from, begins_with, by_hinted, by_hints, by_last, ends, ends_epoch, next, slice_goes_on, turn_of}
+use Rattle.epoch_runner.proofs.LowestThreads.{lowest_of-none, lowest_passes}
 use Rattle.supply.specs.Supplied.{Supplied}
+use Rattle.sync_hints.specs.declared.hints.SyncHint.{SyncHint}
+use Rattle.turn_peek.specs.Peek.{hart_peeked, thread_peeked}
+use Rattle.turn_peek.specs.declared.peek.Peek.{Peek}
+use Rattle.turn_peek.specs.declared.peek.Peek.TheVariants as peeks
 
 -- ---- the lowest thread that can step
 
-get_drop : {X : Type 0} (xs : List X) (k i : ℕ) → slice_get (drop k xs) i ≡ slice_get xs (k + i)
-get_drop xs zero i = ap (slice_get xs) (sym (zero-add i))
-get_drop [] (suc k) i = sym (slice_get_past [] (suc k + i) (omega arith))
-get_drop (x ∷ xs) (suc k) i = let one : suc k + i ≡ suc (k + i) = omega arith in get_drop xs k i ∙ sym (ap (slice_get (x ∷ xs)) one)
+pub lowest_ready : (s : State) (w : Supplied) (least : ℕ) (tid : Tid) → lowest_from (ready_at s w) least s.threads ≡ Some tid → ready_at s w tid ≡ true
+lowest_ready s w least tid is = lowest_passes (ready_at s w) least s.threads tid is
 
--- the first place where a thread can step
-first_ready : (s : State) (w : Supplied) (xs : List Thread) (i : ℕ) → position (is_ready s w) xs ≡ Some i → ready_by s w (slice_get xs i) ≡ true
-first_ready s w xs i found =
-    let is = position-Some (is_ready s w) xs i (Gone 0) found in
-    ap (ready_by s w) (slice_get-get_or xs i (Gone 0) is.0) ∙ is.1
+-- a place at which an item passes
+record PassesAt {X : Type 0} (f : X → Bool) (xs : List X) : Type 0 where
+  place : ℕ
+  item : X
+  there : slice_get xs place ≡ Some item
+  within : place < length xs
+  passes : f item ≡ true
 
-numbered : (threads : List Thread) (n : ℕ) → thread_at threads (record { 0 = n + 1 }) ≡ slice_get threads n
-numbered threads n =
+passes_at : {X : Type 0} (f : X → Bool) (xs : List X) → list_any f xs ≡ true → PassesAt f xs
+passes_at f [] some = absurd cc
+passes_at f (x ∷ xs) some = elim (or_cases (f x) (list_any f xs) some) [
+  | inl here ↦ record { place = 0; item = x; there = refl; within = omega arith; passes = here }
+  | inr behind ↦ (let other = passes_at f xs behind in record { place = suc other.place; item = other.item; there = other.there; within = omega (arith, other.within); passes = other.passes })
+]
+
+numbered_ready : (s : State) (w : Supplied) (n : ℕ) (t : Thread) → slice_get s.threads n ≡ Some t → is_ready s w t ≡ true → ready_at s w (record { 0 = n + 1 }) ≡ true
+numbered_ready s w n t there ready =
     let place : n + 1 - 1 ≡ n = omega arith in
-    cond-false (n + 1 == 0) None (slice_get threads (n + 1 - 1)) (ne_eqb (n + 1) 0 (λ none. absurd (omega (arith, none)))) ∙ ap (slice_get threads) place
+    ap (ready_by s w) (cond-false (n + 1 == 0) None (slice_get s.threads (n + 1 - 1)) (ne_eqb (n + 1) 0 (λ none. absurd (omega (arith, none)))) ∙ ap (slice_get s.threads) place ∙ there) ∙ ready
 
-pub lowest_ready : (s : State) (w : Supplied) (least : ℕ) (tid : Tid) → lowest_from (is_ready s w) least s.threads ≡ Some tid → ready_at s w tid ≡ true
-lowest_ready s w least tid is = of_position (position (is_ready s w) (drop (least - 1) s.threads)) refl is
-  where
-    of_position : (o : Option ℕ) → position (is_ready s w) (drop (least - 1) s.threads) ≡ o → option_map (λ i. record { 0 = (least - 1) + i + 1 }) o ≡ Some tid → ready_at s w tid ≡ true
-    of_position None found e = absurd cc
-    of_position (Some i) found e =
-        let number : Tid = record { 0 = (least - 1) + i + 1 } in
-        let same : number ≡ tid = cc in
-        subst (λ (t : Tid). ready_at s w t ≡ true) same
-        (ap (ready_by s w) (numbered s.threads ((least - 1) + i) ∙ sym (get_drop s.threads (least - 1) i)) ∙ first_ready s w (drop (least - 1) s.threads) i found)
-
-none_from : (f : Thread → Bool) (i : ℕ) (xs : List Thread) → position_from f i xs ≡ None → list_any f xs ≡ false
-none_from f i [] none = refl
-none_from f i (x ∷ xs) none =
-    or_from (f x) (list_any f xs) (first (f x) none) (none_from f (i + 1) xs (others (f x) none))
-  where
-    first : (b : Bool) → cond b (Some i) (position_from f (i + 1) xs) ≡ None → b ≡ false
-    first true e = absurd cc
-    first false e = refl
-
-    others : (b : Bool) → cond b (Some i) (position_from f (i + 1) xs) ≡ None → position_from f (i + 1) xs ≡ None
-    others true e = absurd cc
-    others false e = e
-
--- where a thread passes a test there is one from 1 on
-pub some_lowest : (f : Thread → Bool) (threads : List Thread) → list_any f threads ≡ true → lowest_from f 1 threads ≡ None → ⊥
-some_lowest f threads some none =
-    let nowhere : position f (drop 0 threads) ≡ None = none_mapped (λ i. record { 0 = (1 - 1) + i + 1 }) (position f (drop (1 - 1) threads)) none in
-    both_ways (list_any f threads) (none_from f 0 threads (sym (position_from-zero f threads) ∙ nowhere)) some
+-- where a thread can step there is one from 1 on
+pub some_lowest : (s : State) (w : Supplied) → list_any (is_ready s w) s.threads ≡ true → lowest_from (ready_at s w) 1 s.threads ≡ None → ⊥
+some_lowest s w some none =
+    let found = passes_at (is_ready s w) s.threads some in
+    both_ways (ready_at s w (record { 0 = found.place + 1 }))
+    (lowest_of-none (ready_at s w) (max 1 1) (length s.threads + 1 - max 1 1) (found.place + 1) none (omega arith) (omega (arith, found.within)))
+    (numbered_ready s w found.place found.item found.there found.passes)
 
 -- ---- what is next, and why
 
-pub begins_with_some : (o : Option Tid) (tid : Tid) (begins : Bool) → begins_with o ≡ turn_of tid begins → (o ≡ Some tid) × (begins ≡ true)
-begins_with_some None tid begins e = absurd cc
-begins_with_some (Some t) tid begins e = (cc, cc)
+pub begins_with_some : (o : Option Tid) (tid : Tid) (begins : Bool) (hints : Option Following) → begins_with o ≡ turn_of tid begins hints → (o ≡ Some tid) × (begins ≡ true)
+begins_with_some None tid begins hints e = absurd cc
+begins_with_some (Some t) tid begins hints e = (cc, cc)
 
 begins_with_none : (o : Option Tid) → begins_with o ≡ ends → o ≡ None
 begins_with_none None e = refl
@@ -88,25 +78,24 @@ neither None b e = e
 neither (Some t) b e = absurd cc
 
 -- a slice begins with a thread that can step
-pub begins_ready : (s : State) (w : Supplied) (least : ℕ) (tid : Tid) (begins : Bool) → begins_from s w least ≡ turn_of tid begins → ready_at s w tid ≡ true
-begins_ready s w least tid begins e =
-    let from = lowest_from (is_ready s w) least s.threads in
-    let lowest = lowest_from (is_ready s w) 1 s.threads in
-    elim (of_two from lowest tid (begins_with_some (option_or from lowest) tid begins e).0) [
-      | inl is ↦ lowest_ready s w least tid is
-      | inr is ↦ lowest_ready s w 1 tid is
-    ]
-
-pub begins_true : (s : State) (w : Supplied) (least : ℕ) (tid : Tid) (begins : Bool) → begins_from s w least ≡ turn_of tid begins → begins ≡ true
-begins_true s w least tid begins e =
-    (begins_with_some (option_or (lowest_from (is_ready s w) least s.threads) (lowest_from (is_ready s w) 1 s.threads)) tid begins e).1
+pub begins_ready : (s : State) (w : Supplied) (least : ℕ) (tid : Tid) (begins : Bool) (hints : Option Following) → begins_from s w least ≡ turn_of tid begins hints → (ready_at s w tid ≡ true) × (begins ≡ true)
+begins_ready s w least tid begins hints e =
+    let from = lowest_from (ready_at s w) least s.threads in
+    let lowest = lowest_from (ready_at s w) 1 s.threads in
+    let told = begins_with_some (option_or from lowest) tid begins hints e in (
+      elim (of_two from lowest tid told.0) [
+        | inl is ↦ lowest_ready s w least tid is
+        | inr is ↦ lowest_ready s w 1 tid is
+      ],
+      told.1,
+    )
 
 -- where a thread can step a slice begins
 pub begins_some : (s : State) (w : Supplied) (least : ℕ) → list_any (is_ready s w) s.threads ≡ true → begins_from s w least ≡ ends → ⊥
 begins_some s w least some e =
-    let from = lowest_from (is_ready s w) least s.threads in
-    let lowest = lowest_from (is_ready s w) 1 s.threads in
-    some_lowest (is_ready s w) s.threads some (neither from lowest (begins_with_none (option_or from lowest) e))
+    let from = lowest_from (ready_at s w) least s.threads in
+    let lowest = lowest_from (ready_at s w) 1 s.threads in
+    some_lowest s w some (neither from lowest (begins_with_none (option_or from lowest) e))
 
 -- one of two, by a test
 by_test : (b : Bool) (x y z : Next) → cond b x y ≡ z → ((b ≡ true) × (x ≡ z)) ⊎ ((b ≡ false) × (y ≡ z))
@@ -146,66 +135,231 @@ by_goes_on s w bounds p is =
     not_true {b = true} e = refl
     not_true {b = false} e = absurd cc
 
--- where a turn is next the epoch goes on, and the thread that ran last tells which
-pub turn_next : (s : State) (w : Supplied) (bounds : Bounds) (p : Progress) (tid : Tid) (begins : Bool) → next s w bounds p ≡ turn_of tid begins → GoesOn s w bounds p × (by_last s w bounds p p.last ≡ turn_of tid begins)
-unfolding next
-turn_next s w bounds p tid begins e =
-    elim (by_test (ends_epoch s w bounds p) ends (by_last s w bounds p p.last) (turn_of tid begins) e) [
-      | inl (tested, is) ↦ absurd cc
-      | inr (tested, is) ↦ (goes_on_by s w bounds p tested, is)
-    ]
+-- ---- by round robin
 
-pub last_next : (s : State) (w : Supplied) (bounds : Bounds) (p : Progress) (last : Option Tid) (tid : Tid) (begins : Bool) → by_last s w bounds p last ≡ turn_of tid begins
+last_next : (s : State) (w : Supplied) (bounds : Bounds) (p : Progress) (last : Option Tid) (tid : Tid) (begins : Bool) (hints : Option Following) → by_last s w bounds p last ≡ turn_of tid begins hints
     → (ready_at s w tid ≡ true) × ((begins ≡ true) ⊎ (last ≡ Some tid))
-last_next s w bounds p None tid begins e = (begins_ready s w bounds.first tid begins e, inl (begins_true s w bounds.first tid begins e))
-last_next s w bounds p (Some t) tid begins e =
-    elim (by_test (ready_at s w t && not p.yielded && nat_lt p.in_slice bounds.slice) (turn_of t false) (begins_from s w (t.0 + 1)) (turn_of tid begins) e) [
+last_next s w bounds p None tid begins hints e = let told = begins_ready s w bounds.first tid begins hints e in (told.0, inl told.1)
+last_next s w bounds p (Some t) tid begins hints e =
+    elim (by_test (slice_goes_on s w bounds p t) (turn_of t false None) (begins_from s w (t.0 + 1)) (turn_of tid begins hints) e) [
       | inl (tested, is) ↦ (let same : t ≡ tid = cc in let runs = (and_parts _ _ (and_parts _ _ tested).0).0 in (subst (λ x. ready_at s w x ≡ true) same runs, inr (ap (λ x. Some x) same)))
-      | inr (tested, is) ↦ (begins_ready s w (t.0 + 1) tid begins is, inl (begins_true s w (t.0 + 1) tid begins is))
+      | inr (tested, is) ↦ (let told = begins_ready s w (t.0 + 1) tid begins hints is in (told.0, inl told.1))
     ]
 
--- where a slice goes on
-pub same_next : (s : State) (w : Supplied) (bounds : Bounds) (p : Progress) (tid : Tid) → GoesOn s w bounds p → p.last ≡ Some tid → ready_at s w tid ≡ true → p.yielded ≡ false → p.in_slice < bounds.slice
-    → next s w bounds p ≡ turn_of tid false
+-- ---- by hints
+
+-- a thread whose turn is plain can step
+pub plain_ready : (s : State) (w : Supplied) (tid : Tid) → is_plain (peeked s tid) ≡ true → (has_ended s.end ≡ false) × (ready_at s w tid ≡ true)
+plain_ready s w tid plain = by_end (has_ended s.end) refl plain
+  where
+    by_peek : (p : Peek) → is_plain p ≡ true → not (is_unanswered w p) ≡ true
+    by_peek peeks.NotRunnable e = absurd cc
+    by_peek peeks.Plain e = refl
+    by_peek peeks.Sync e = absurd cc
+    by_peek peeks.Sc e = absurd cc
+    by_peek (peeks.Read place max) e = absurd cc
+    by_peek peeks.Clock e = absurd cc
+
+    by_thread : (o : Option Thread) → is_plain (thread_peeked s.pages s.input o) ≡ true → ready_by s w o ≡ true
+    by_thread None e = absurd cc
+    by_thread (Some (Runs hart clear)) e = by_peek (hart_peeked hart s.pages s.input) e
+    by_thread (Some (Waits addr hart clear)) e = absurd cc
+    by_thread (Some (Gone code)) e = absurd cc
+
+    by_end : (b : Bool) → has_ended s.end ≡ b → is_plain (cond b peeks.NotRunnable (thread_peeked s.pages s.input (thread_at s.threads tid))) ≡ true → (has_ended s.end ≡ false) × (ready_at s w tid ≡ true)
+    by_end true ended e = absurd cc
+    by_end false alive e = (alive, by_thread (thread_at s.threads tid) e)
+
+-- what hints ask of a turn's thread
+abbrev pub CanBeTaken : State → Supplied → List ℕ → Tid → Type 0
+CanBeTaken s w left tid = (ready_at s w tid ≡ true) × (0 < left_of left tid)
+
+goes_plain_can : (s : State) (w : Supplied) (left : List ℕ) (tid : Tid) → goes_plain s left tid ≡ true → CanBeTaken s w left tid
+goes_plain_can s w left tid goes =
+    let two = and_parts (nat_lt 0 (left_of left tid)) (is_plain (peeked s tid)) goes in ((plain_ready s w tid two.1).1, ltb-true 0 (left_of left tid) two.0)
+
+-- the turn that hints name can be taken, and its thread has steps left
+pub hinted_can : (s : State) (w : Supplied) (f : Following) (t : HintedTurn) → hinted s w f ≡ Some t → CanBeTaken s w f.left t.tid
+hinted_can s w f t is = by (f.stage) is
+  where
+    told : (tid : Tid) (fresh : Bool) (behind : Following) → Some (record { tid = tid; fresh = fresh; behind = behind }) ≡ Some t → CanBeTaken s w f.left tid → CanBeTaken s w f.left t.tid
+    told tid fresh behind e can = let same : tid ≡ t.tid = cc in subst (CanBeTaken s w f.left) same can
+
+    entry : (x : SyncHint) (b : Bool) → rule_4 s w f.left x ≡ b → cond b (entry_turn f x) None ≡ Some t → CanBeTaken s w f.left t.tid
+    entry x true rule e =
+        let two = and_parts (nat_lt 0 (left_of f.left x.tid) && not (is_plain (peeked s x.tid))) (ready_at s w x.tid) rule in
+        told x.tid (rule_3 x) _ e (two.1, ltb-true 0 (left_of f.left x.tid) (and_parts (nat_lt 0 (left_of f.left x.tid)) (not (is_plain (peeked s x.tid))) two.0).0)
+    entry x false rule e = absurd cc
+
+    own : (x : SyncHint) (b : Bool) → rule_2 s f.left x ≡ b → cond b (plain_turn f x.tid (Own x)) (cond (rule_4 s w f.left x) (entry_turn f x) None) ≡ Some t → CanBeTaken s w f.left t.tid
+    own x true rule e = told x.tid false _ e (goes_plain_can s w f.left x.tid rule)
+    own x false rule e = entry x (rule_4 s w f.left x) refl e
+
+    others : (x : SyncHint) (from : ℕ) (o : Option Tid) → rule_1 s f.left x from ≡ o → by_others s w f x o ≡ Some t → CanBeTaken s w f.left t.tid
+    others x from None rule e = own x (rule_2 s f.left x) refl e
+    others x from (Some tid) rule e =
+        let passes = lowest_passes (λ y. not (is_thread (Some x.tid) y) && goes_plain s f.left y) from s.threads tid rule in
+        told tid false _ e (goes_plain_can s w f.left tid (and_parts (not (is_thread (Some x.tid) tid)) (goes_plain s f.left tid) passes).1)
+
+    last : (from : ℕ) (o : Option Tid) → last_rule s f.left from ≡ o → by_last_rule f o ≡ Some t → CanBeTaken s w f.left t.tid
+    last from None rule e = absurd cc
+    last from (Some tid) rule e = told tid false _ e (goes_plain_can s w f.left tid (lowest_passes (goes_plain s f.left) from s.threads tid rule))
+
+    by : (stage : Stage) → by_stage s w f stage ≡ Some t → CanBeTaken s w f.left t.tid
+    by (Others x from) e = others x from (rule_1 s f.left x from) refl e
+    by (Own x) e = own x (rule_2 s f.left x) refl e
+    by (Last from) e = last from (last_rule s f.left from) refl e
+
+this_thread : (o : Option Tid) (tid : Tid) → is_thread o tid ≡ true → o ≡ Some tid
+this_thread None tid is = absurd cc
+this_thread (Some t) tid is = let same : t.0 ≡ tid.0 = eqb-true t.0 tid.0 is in ap (λ n. Some (record { 0 = n })) same
+
+-- a slice goes on only with the thread that ran last
+pub goes_on_with : (last : Option Tid) (tid : Tid) (fresh begins : Bool) → (fresh || not (is_thread last tid)) ≡ begins → (begins ≡ true) ⊎ (last ≡ Some tid)
+goes_on_with last tid fresh true is = inl refl
+goes_on_with last tid fresh false is = inr (this_thread last tid (of_not (is_thread last tid) (or_parts fresh (not (is_thread last tid)) is).1))
+  where
+    of_not : (b : Bool) → not b ≡ false → b ≡ true
+    of_not true e = refl
+    of_not false e = absurd cc
+
+by_hinted_next : (s : State) (w : Supplied) (bounds : Bounds) (p : Progress) (f : Following) (o : Option HintedTurn) → hinted s w f ≡ o → (tid : Tid) (begins : Bool) (hints : Option Following)
+    → by_hinted s w bounds p o ≡ turn_of tid begins hints → (ready_at s w tid ≡ true) × ((begins ≡ true) ⊎ (p.last ≡ Some tid))
+by_hinted_next s w bounds p f None none tid begins hints e = let told = begins_ready s w (after_last bounds p.last) tid begins hints e in (told.0, inl told.1)
+by_hinted_next s w bounds p f (Some t) is tid begins hints e =
+    let same : t.tid ≡ tid = cc in
+    let begins_is : (t.fresh || not (is_thread p.last t.tid)) ≡ begins = cc in
+    (subst (λ x. ready_at s w x ≡ true) same (hinted_can s w f t is).0, goes_on_with p.last tid t.fresh begins (ap (λ x. t.fresh || not (is_thread p.last x)) (sym same) ∙ begins_is))
+
+hints_next : (s : State) (w : Supplied) (bounds : Bounds) (p : Progress) (o : Option Following) (tid : Tid) (begins : Bool) (hints : Option Following) → by_hints s w bounds p o ≡ turn_of tid begins hints
+    → (ready_at s w tid ≡ true) × ((begins ≡ true) ⊎ (p.last ≡ Some tid))
+hints_next s w bounds p None tid begins hints e = last_next s w bounds p p.last tid begins hints e
+hints_next s w bounds p (Some f) tid begins hints e =
+    elim (by_test (any_left f.left) (by_hinted s w bounds p (hinted s w f)) ends (turn_of tid begins hints) e) [
+      | inl (tested, is) ↦ by_hinted_next s w bounds p f (hinted s w f) refl tid begins hints is
+      | inr (tested, is) ↦ absurd cc
+    ]
+
+-- where a turn is next the epoch goes on, its thread can step, and it goes on with its slice or begins one
+pub turn_next : (s : State) (w : Supplied) (bounds : Bounds) (p : Progress) (tid : Tid) (begins : Bool) (hints : Option Following) → next s w bounds p ≡ turn_of tid begins hints
+    → GoesOn s w bounds p × ((ready_at s w tid ≡ true) × ((begins ≡ true) ⊎ (p.last ≡ Some tid)))
 unfolding next
-same_next s w bounds p tid is last runs no_yield within =
-    cond-false (ends_epoch s w bounds p) ends (by_last s w bounds p p.last) (by_goes_on s w bounds p is)
-    ∙ ap (by_last s w bounds p) last
-    ∙ cond-true (ready_at s w tid && not p.yielded && nat_lt p.in_slice bounds.slice) (turn_of tid false) (begins_from s w (tid.0 + 1))
+turn_next s w bounds p tid begins hints e =
+    elim (by_test (ends_epoch s w bounds p) ends (by_hints s w bounds p p.hints) (turn_of tid begins hints) e) [
+      | inl (tested, is) ↦ absurd cc
+      | inr (tested, is) ↦ (goes_on_by s w bounds p tested, hints_next s w bounds p p.hints tid begins hints is)
+    ]
+
+-- where there are no hints there are none after a turn
+begins_no_hints : (o : Option Tid) (tid : Tid) (begins : Bool) (hints : Option Following) → begins_with o ≡ turn_of tid begins hints → hints ≡ None
+begins_no_hints None tid begins hints e = absurd cc
+begins_no_hints (Some t) tid begins hints e = cc
+
+last_no_hints : (s : State) (w : Supplied) (bounds : Bounds) (p : Progress) (last : Option Tid) (tid : Tid) (begins : Bool) (hints : Option Following) → by_last s w bounds p last ≡ turn_of tid begins hints → hints ≡ None
+last_no_hints s w bounds p None tid begins hints e = begins_no_hints (option_or (lowest_from (ready_at s w) bounds.first s.threads) (lowest_from (ready_at s w) 1 s.threads)) tid begins hints e
+last_no_hints s w bounds p (Some t) tid begins hints e =
+    elim (by_test (slice_goes_on s w bounds p t) (turn_of t false None) (begins_from s w (t.0 + 1)) (turn_of tid begins hints) e) [
+      | inl (tested, is) ↦ cc
+      | inr (tested, is) ↦ begins_no_hints (option_or (lowest_from (ready_at s w) (t.0 + 1) s.threads) (lowest_from (ready_at s w) 1 s.threads)) tid begins hints is
+    ]
+
+pub no_hints_next : (s : State) (w : Supplied) (bounds : Bounds) (p : Progress) (tid : Tid) (begins : Bool) (hints : Option Following) → p.hints ≡ None → next s w bounds p ≡ turn_of tid begins hints → hints ≡ None
+unfolding next
+no_hints_next s w bounds p tid begins hints none e =
+    elim (by_test (ends_epoch s w bounds p) ends (by_hints s w bounds p p.hints) (turn_of tid begins hints) e) [
+      | inl (tested, is) ↦ absurd cc
+      | inr (tested, is) ↦ last_no_hints s w bounds p p.last tid begins hints (ap (by_hints s w bounds p) (sym none) ∙ is)
+    ]
+
+-- without hints the thread that ran last tells what is next
+pub next_by_last : (s : State) (w : Supplied) (bounds : Bounds) (p : Progress) → p.hints ≡ None → next s w bounds p ≡ cond (ends_epoch s w bounds p) ends (by_last s w bounds p p.last)
+unfolding next
+next_by_last s w bounds p none = ap (λ o. cond (ends_epoch s w bounds p) ends (by_hints s w bounds p o)) none
+
+-- where a slice goes on by round robin
+pub same_next : (s : State) (w : Supplied) (bounds : Bounds) (p : Progress) (tid : Tid) → GoesOn s w bounds p → p.hints ≡ None → p.last ≡ Some tid → ready_at s w tid ≡ true → p.yielded ≡ false → p.in_slice < bounds.slice
+    → next s w bounds p ≡ turn_of tid false None
+unfolding next
+same_next s w bounds p tid is none last runs no_yield within =
+    cond-false (ends_epoch s w bounds p) ends (by_hints s w bounds p p.hints) (by_goes_on s w bounds p is)
+    ∙ ap (by_hints s w bounds p) none ∙ ap (by_last s w bounds p) last
+    ∙ cond-true (slice_goes_on s w bounds p tid) (turn_of tid false None) (begins_from s w (tid.0 + 1))
     (and_from _ _ (and_from _ _ runs (not_from_false _ no_yield)) (lt-ltb _ _ within))
 
 -- where a slice is over
-pub over_next : (s : State) (w : Supplied) (bounds : Bounds) (p : Progress) (tid : Tid) → p.last ≡ Some tid → (ready_at s w tid && not p.yielded && nat_lt p.in_slice bounds.slice) ≡ false
+pub over_next : (s : State) (w : Supplied) (bounds : Bounds) (p : Progress) (tid : Tid) → p.hints ≡ None → p.last ≡ Some tid → slice_goes_on s w bounds p tid ≡ false
     → next s w bounds p ≡ cond (ends_epoch s w bounds p) ends (begins_from s w (tid.0 + 1))
 unfolding next
-over_next s w bounds p tid last over =
-    ap (λ n. cond (ends_epoch s w bounds p) ends n) (ap (by_last s w bounds p) last ∙ cond-false (ready_at s w tid && not p.yielded && nat_lt p.in_slice bounds.slice) (turn_of tid false) (begins_from s w (tid.0 + 1)) over)
+over_next s w bounds p tid none last over =
+    ap (λ n. cond (ends_epoch s w bounds p) ends n)
+    (ap (by_hints s w bounds p) none ∙ ap (by_last s w bounds p) last ∙ cond-false (slice_goes_on s w bounds p tid) (turn_of tid false None) (begins_from s w (tid.0 + 1)) over)
 
-pub at_start_next : (s : State) (w : Supplied) (bounds : Bounds) (p : Progress) → p.last ≡ None → next s w bounds p ≡ cond (ends_epoch s w bounds p) ends (begins_from s w bounds.first)
+pub at_start_next : (s : State) (w : Supplied) (bounds : Bounds) (p : Progress) → p.hints ≡ None → p.last ≡ None → next s w bounds p ≡ cond (ends_epoch s w bounds p) ends (begins_from s w bounds.first)
 unfolding next
-at_start_next s w bounds p last = ap (λ n. cond (ends_epoch s w bounds p) ends n) (ap (by_last s w bounds p) last)
+at_start_next s w bounds p none last = ap (λ n. cond (ends_epoch s w bounds p) ends n) (ap (by_hints s w bounds p) none ∙ ap (by_last s w bounds p) last)
+
+-- where the next turn is by hints
+pub hinted_goes : (s : State) (w : Supplied) (bounds : Bounds) (p : Progress) (f : Following) (t : HintedTurn) → GoesOn s w bounds p → p.hints ≡ Some f → any_left f.left ≡ true → hinted s w f ≡ Some t
+    → next s w bounds p ≡ turn_of t.tid (t.fresh || not (is_thread p.last t.tid)) (Some t.behind)
+unfolding next
+hinted_goes s w bounds p f t is hints some turn =
+    cond-false (ends_epoch s w bounds p) ends (by_hints s w bounds p p.hints) (by_goes_on s w bounds p is)
+    ∙ ap (by_hints s w bounds p) hints ∙ cond-true (any_left f.left) (by_hinted s w bounds p (hinted s w f)) ends some ∙ ap (by_hinted s w bounds p) turn
+
+-- where hints are dropped a slice of the round robin begins
+pub dropped_next : (s : State) (w : Supplied) (bounds : Bounds) (p : Progress) (f : Following) → p.hints ≡ Some f → any_left f.left ≡ true → (ends_epoch s w bounds p ≡ true) ⊎ (hinted s w f ≡ None)
+    → next s w bounds p ≡ cond (ends_epoch s w bounds p) ends (begins_from s w (after_last bounds p.last))
+unfolding next
+dropped_next s w bounds p f hints some (inl ended) =
+    cond-true (ends_epoch s w bounds p) ends (by_hints s w bounds p p.hints) ended ∙ sym (cond-true (ends_epoch s w bounds p) ends (begins_from s w (after_last bounds p.last)) ended)
+dropped_next s w bounds p f hints some (inr none) =
+    ap (λ n. cond (ends_epoch s w bounds p) ends n)
+    (ap (by_hints s w bounds p) hints ∙ cond-true (any_left f.left) (by_hinted s w bounds p (hinted s w f)) ends some ∙ ap (by_hinted s w bounds p) none)
+
+-- an epoch ends where its hints are used up
+pub used_up_next : (s : State) (w : Supplied) (bounds : Bounds) (p : Progress) (f : Following) → p.hints ≡ Some f → any_left f.left ≡ false → next s w bounds p ≡ ends
+unfolding next
+used_up_next s w bounds p f hints none =
+    ap (λ n. cond (ends_epoch s w bounds p) ends n) (ap (by_hints s w bounds p) hints ∙ cond-false (any_left f.left) (by_hinted s w bounds p (hinted s w f)) ends none)
+    ∙ either_end (ends_epoch s w bounds p)
+  where
+    either_end : (b : Bool) → cond b ends ends ≡ ends
+    either_end true = refl
+    either_end false = refl
 
 -- ---- the rules
 
 pub ends_now : (s : State) (w : Supplied) (bounds : Bounds) (p : Progress) → ends_epoch s w bounds p ≡ true → next s w bounds p ≡ ends
 unfolding next
-ends_now s w bounds p ended = cond-true (ends_epoch s w bounds p) ends (by_last s w bounds p p.last) ended
+ends_now s w bounds p ended = cond-true (ends_epoch s w bounds p) ends (by_hints s w bounds p p.hints) ended
 
 last_some : (s : State) (w : Supplied) (bounds : Bounds) (p : Progress) (last : Option Tid) → list_any (is_ready s w) s.threads ≡ true → by_last s w bounds p last ≡ ends → ⊥
 last_some s w bounds p None some e = begins_some s w bounds.first some e
 last_some s w bounds p (Some t) some e =
-    elim (by_test (ready_at s w t && not p.yielded && nat_lt p.in_slice bounds.slice) (turn_of t false) (begins_from s w (t.0 + 1)) ends e) [
+    elim (by_test (slice_goes_on s w bounds p t) (turn_of t false None) (begins_from s w (t.0 + 1)) ends e) [
       | inl (tested, is) ↦ absurd cc
       | inr (tested, is) ↦ begins_some s w (t.0 + 1) some is
     ]
 
--- where an epoch ends, it is by a rule
-pub ends_next : (s : State) (w : Supplied) (bounds : Bounds) (p : Progress) → next s w bounds p ≡ ends → ends_epoch s w bounds p ≡ true
+by_hinted_some : (s : State) (w : Supplied) (bounds : Bounds) (p : Progress) (o : Option HintedTurn) → list_any (is_ready s w) s.threads ≡ true → by_hinted s w bounds p o ≡ ends → ⊥
+by_hinted_some s w bounds p None some e = begins_some s w (after_last bounds p.last) some e
+by_hinted_some s w bounds p (Some t) some e = absurd cc
+
+hints_some : (s : State) (w : Supplied) (bounds : Bounds) (p : Progress) (o : Option Following) → list_any (is_ready s w) s.threads ≡ true → by_hints s w bounds p o ≡ ends → IsUsedUp o
+hints_some s w bounds p None some e = absurd (last_some s w bounds p p.last some e)
+hints_some s w bounds p (Some f) some e =
+    elim (by_test (any_left f.left) (by_hinted s w bounds p (hinted s w f)) ends ends e) [
+      | inl (tested, is) ↦ absurd (by_hinted_some s w bounds p (hinted s w f) some is)
+      | inr (tested, is) ↦ tested
+    ]
+
+-- where an epoch ends, it is by a rule, or its hints are used up
+pub ends_next : (s : State) (w : Supplied) (bounds : Bounds) (p : Progress) → next s w bounds p ≡ ends → (ends_epoch s w bounds p ≡ true) ⊎ IsUsedUp p.hints
 unfolding next
 ends_next s w bounds p e =
-    elim (by_test (ends_epoch s w bounds p) ends (by_last s w bounds p p.last) ends e) [
-      | inl (tested, is) ↦ tested
-      | inr (tested, is) ↦ absurd (last_some s w bounds p p.last (goes_on_by s w bounds p tested).some is)
+    elim (by_test (ends_epoch s w bounds p) ends (by_hints s w bounds p p.hints) ends e) [
+      | inl (tested, is) ↦ inl tested
+      | inr (tested, is) ↦ inr (hints_some s w bounds p p.hints (goes_on_by s w bounds p tested).some is)
     ]
 
 pub rules : (s : State) (w : Supplied) (bounds : Bounds) (p : Progress) → ends_epoch s w bounds p ≡ true

@@ -1,5 +1,5 @@
 -- Parts of a slice so far, and where it is over.
-use Rattle.std.proofs.Common.{◌≡◌, ◌⊎◌, inl, inr, ◌+◌, ◌-◌, ◌<◌, ◌≤◌, ℕ, Bool, true, false, cond, not, ◌&&◌, ◌||◌, List, length, Some, refl, sym, ap, ◌∙◌, arith}
+use Rattle.std.proofs.Common.{◌≡◌, ◌⊎◌, inl, inr, ◌+◌, ◌-◌, ◌<◌, ◌≤◌, ℕ, Bool, true, false, cond, not, ◌&&◌, ◌||◌, List, length, Some, None, refl, sym, ap, ◌∙◌, arith}
 use Rattle.std.specs.Prelude.{◌==◌, min, nat_le, nat_lt}
 use Rattle.std.specs.List.{AllByRecursion, list_any}
 use Rattle.std.proofs.lemmas.Bool.{and_cases, and_from, both_ways, lt-ltb, and_left, and_right, cases_lt, cond-true, eq-eqb, le-leb, le-ltb, lt-leb, ltb-false, ne_eqb, not_from_false, not_from_true, or_left, or_right}
@@ -96,7 +96,7 @@ full : (bounds : Bounds) (p : Progress) (s : State) (w : Supplied) (tid : Tid) �
 full bounds p s w tid all = and_right (ready_at s w tid && not p.yielded) (nat_lt p.in_slice bounds.slice) (le-ltb p.in_slice bounds.slice all)
 
 -- the epoch ends by one of its four rules
-by_rule : (a b c d : Bool) → (a ≡ true) ⊎ ((b ≡ true) ⊎ ((c ≡ true) ⊎ (d ≡ true))) → (a || b || c || d) ≡ true
+pub by_rule : (a b c d : Bool) → (a ≡ true) ⊎ ((b ≡ true) ⊎ ((c ≡ true) ⊎ (d ≡ true))) → (a || b || c || d) ≡ true
 by_rule a b c d (inl is) = or_left (a || b || c) d (or_left (a || b) c (or_left a b is))
 by_rule a b c d (inr (inl is)) = or_left (a || b || c) d (or_left (a || b) c (or_right a b is))
 by_rule a b c d (inr (inr (inl is))) = or_left (a || b || c) d (or_right (a || b) c is)
@@ -145,16 +145,16 @@ slice_over w bounds tid left most s before steps yielded after behind some withi
   over = λ done sum.
       let p = progress (inside after behind done tid steps yielded) in
       let turns_are : p.turns + (left - steps) ≡ bounds.steps = omega (arith, sum, so_far.few, within) in
-      by_cases p refl (ends_by_left after w bounds p (left - steps) turns_are)
+      by_cases p refl refl (ends_by_left after w bounds p (left - steps) turns_are)
       (over_or_ends w bounds tid left most steps yielded after behind p refl refl refl refl turns_are most_is why);
 }
   where
-    by_cases : (p : Progress) → p.last ≡ Some tid → ends_epoch after w bounds p ≡ (not (can_step after w) || (left - steps == 0) || nat_le EPOCH_END_BYTES p.output || nat_le EPOCH_END_BYTES p.read)
+    by_cases : (p : Progress) → p.hints ≡ None → p.last ≡ Some tid → ends_epoch after w bounds p ≡ (not (can_step after w) || (left - steps == 0) || nat_le EPOCH_END_BYTES p.output || nat_le EPOCH_END_BYTES p.read)
         → ((ready_at after w tid && not p.yielded && nat_lt p.in_slice bounds.slice) ≡ false) ⊎ (ends_epoch after w bounds p ≡ true)
         → next after w bounds p ≡ next_slice after w p.output p.read (left - steps) (tid.0 + 1)
-    by_cases p last tested (inl over) =
-        over_next after w bounds p tid last over ∙ ap (λ b. cond b ends (begins_from after w (tid.0 + 1))) tested
-    by_cases p last tested (inr ended) =
+    by_cases p none last tested (inl over) =
+        over_next after w bounds p tid none last over ∙ ap (λ b. cond b ends (begins_from after w (tid.0 + 1))) tested
+    by_cases p none last tested (inr ended) =
         ends_now after w bounds p ended
         ∙ sym (cond-true (not (can_step after w) || (left - steps == 0) || nat_le EPOCH_END_BYTES p.output || nat_le EPOCH_END_BYTES p.read) ends (begins_from after w (tid.0 + 1)) (sym tested ∙ ended))
 

@@ -1,5 +1,5 @@
 -- Turns of a thread within its slice are a course.
-use Rattle.std.proofs.Common.{◌≡◌, ◌+◌, ◌<◌, ◌≤◌, ℕ, zero, suc, Bool, true, false, List, [], ◌++◌, length, Some, Result, Ok, Err, refl, sym, ap, subst, ◌∙◌, arith}
+use Rattle.std.proofs.Common.{◌≡◌, ◌+◌, ◌<◌, ◌≤◌, ℕ, zero, suc, Bool, true, false, List, [], ◌++◌, length, Option, Some, None, Result, Ok, Err, refl, sym, ap, subst, ◌∙◌, arith}
 use Rattle.std.specs.List.{AllByRecursion}
 use Rattle.std.proofs.lemmas.List.{append-nil, length-append, nil_from_length}
 use Rattle.dp_base.specs.declared.answer.Answer.{Answer}
@@ -18,7 +18,9 @@ use Rattle.guest_kernel.specs.Turn.{output_after, state_after, turn, turn_answer
 use Rattle.guest_kernel.proofs.SliceRuns.{first_turn}
 use Rattle.epoch_runner.specs.declared.bounds.Bounds.{Bounds}
 use Rattle.epoch_runner.specs.Answering.{answers_for, ready_at}
-use Rattle.epoch_runner.specs.Schedule.{course, followed, progress, step, turned}
+use Rattle.epoch_runner.specs.Hinted.{Following}
+use Rattle.epoch_runner.specs.HintRun.{HasTurned}
+use Rattle.epoch_runner.specs.Schedule.{Course, course, followed, next, progress, step, turn_of, turned}
 use Rattle.epoch_runner.specs.SliceRun.{IsMoved, Traced, inside}
 use Rattle.dp_base.proofs.Lists.{all_append}
 use Rattle.epoch_runner.proofs.Courses.{course-step, one_course}
@@ -75,28 +77,36 @@ nothing_more t output answers silent alone =
     ap (λ o. record { output = t.output ++ o; answers = t.answers ++ answers }) silent ∙ ap (λ a. record { output = t.output ++ []; answers = t.answers ++ a }) alone
     ∙ ap (λ o. record { output = o; answers = t.answers ++ [] }) (append-nil t.output) ∙ ap (λ a. record { output = t.output; answers = a }) (append-nil t.answers)
 
-module _ (laws : TurnLaws) where
-  -- one turn within a slice
-  pub one_step : (w : Supplied) (bounds : Bounds) (s : State) (t : Traced) (done : List Slice) (tid : Tid) (before : ℕ) (after : After) → HasRoom bounds t done before 1 → ready_at s w tid ≡ true
-      → turn s tid (answers_for s w tid) ≡ Ok after
-      → step w bounds (inside s t done tid before false) ≡ Some (inside after.state (traced_more t after.output (answers_for s w tid)) done tid (before + 1) (yields s tid))
-  one_step w bounds s t done tid before after room ready is =
-      let c = inside s t done tid before false in
-      let more = answers_for s w tid in
-      ap (followed w c) (same_next s w bounds (progress c) tid
-      (record { alive = laws.going s tid more after is; some = ready_some s w tid ready; few = omega (arith, room.epoch); little = room.little; little_read = room.little_read }) refl ready refl (omega (arith, room.slice)))
-      ∙ ap (turned c tid more) is
+-- in a slice of a thread, with what is left of the hints
+abbrev pub inside_by : State → Traced → List Slice → Tid → ℕ → Bool → Option Following → Course
+inside_by s t done tid in_slice yielded hints =
+    record { state = s; output = t.output; answers = t.answers; done = done; last = Some tid; in_slice = in_slice; yielded = yielded; hints = hints }
 
+-- one turn within a slice
+pub step_by : (w : Supplied) (bounds : Bounds) (s : State) (t : Traced) (done : List Slice) (tid : Tid) (before : ℕ) (hints left : Option Following) (after : After)
+    → next s w bounds (progress (inside_by s t done tid before false hints)) ≡ turn_of tid false left → turn s tid (answers_for s w tid) ≡ Ok after
+    → step w bounds (inside_by s t done tid before false hints) ≡ Some (inside_by after.state (traced_more t after.output (answers_for s w tid)) done tid (before + 1) (yields s tid) left)
+step_by w bounds s t done tid before hints left after goes is =
+    let c = inside_by s t done tid before false hints in
+    ap (followed w c) goes ∙ ap (turned c tid left (answers_for s w tid)) is
+
+-- While a slice goes on, by what is left of the hints after each of its steps.
+abbrev pub KeepsOn : Supplied → Bounds → State → Traced → List Slice → Tid → (before n : ℕ) → (hints : ℕ → Option Following) → Type 0
+KeepsOn w bounds s t done tid before n hints =
+    (j m : ℕ) (mid : After) → j < n → m ≡ before + j → turns 0 j tid (at s [] []) ≡ Ok mid → has_ended mid.state.end ≡ false → ready_at mid.state w tid ≡ true
+    → next mid.state w bounds (progress (inside_by mid.state t done tid m false (hints m))) ≡ turn_of tid false (hints (m + 1))
+
+module _ (laws : TurnLaws) where
   -- turns that write nothing and take nothing, of which none is a yield
-  pub stretch : (n taken : ℕ) (w : Supplied) (bounds : Bounds) (s there : State) (t : Traced) (done : List Slice) (tid : Tid) (before : ℕ) → HasRoom bounds t done before n
+  pub stretch_by : (n taken : ℕ) (w : Supplied) (bounds : Bounds) (s there : State) (t : Traced) (done : List Slice) (tid : Tid) (before : ℕ) (hints : ℕ → Option Following) → KeepsOn w bounds s t done tid before n hints
       → turns taken n tid (at s [] []) ≡ Ok (at there [] []) → ((count : ℕ) (mid : After) → count < n → turns 0 count tid (at s [] []) ≡ Ok mid → yields mid.state tid ≡ false)
-      → course n w bounds (inside s t done tid before false) ≡ Some (inside there t done tid (before + n) false)
+      → course n w bounds (inside_by s t done tid before false (hints before)) ≡ Some (inside_by there t done tid (before + n) false (hints (before + n)))
   unfolding course
-  stretch zero taken w bounds s there t done tid before room is no_yield =
+  stretch_by zero taken w bounds s there t done tid before hints keeps is no_yield =
       let same = no_turns taken tid (at s [] []) (at there [] []) is in
       let none : before ≡ before + zero = omega arith in
-      ap (λ (x : After). Some (inside x.state t done tid before false)) same ∙ ap (λ n. Some (inside there t done tid n false)) none
-  stretch (suc n) taken w bounds s there t done tid before room is no_yield =
+      ap (λ (x : After). Some (inside_by x.state t done tid before false (hints before))) same ∙ ap (λ n. Some (inside_by there t done tid n false (hints n))) none
+  stretch_by (suc n) taken w bounds s there t done tid before hints keeps is no_yield =
       let one = first_turn taken n tid (at s [] []) (at there [] []) is in
       let after = one.0 in
       let silent : after.output ≡ [] = nil_from_length after.output (omega (arith, turns_write n (taken + 1) tid (joined (at s [] []) after) (at there [] []) one.2)) in
@@ -105,15 +115,33 @@ module _ (laws : TurnLaws) where
       let others : turns (taken + 1) n tid (at after.state [] []) ≡ Ok (at there [] []) = ap (turns (taken + 1) n tid) (sym here) ∙ one.2 in
       let no_yield_now : yields s tid ≡ false = no_yield 0 (at s [] []) (omega arith) (none_yet tid (at s [] [])) in
       let taken_so : turn s tid (answers_for s w tid) ≡ Ok after = ap (turn s tid) alone.0 ∙ one.1 in
-      let stepped : step w bounds (inside s t done tid before false) ≡ Some (inside after.state t done tid (before + 1) false) =
-      one_step w bounds s t done tid before after (record { slice = omega (arith, room.slice); epoch = omega (arith, room.epoch); little = room.little; little_read = room.little_read }) alone.1 taken_so
-      ∙ ap (λ o. Some (inside after.state o done tid (before + 1) (yields s tid))) (nothing_more t after.output (answers_for s w tid) silent alone.0)
-      ∙ ap (λ y. Some (inside after.state t done tid (before + 1) y)) no_yield_now in
+      let goes = keeps 0 before (at s [] []) (omega arith) (omega arith) (none_yet tid (at s [] [])) (laws.going s tid [] after one.1) alone.1 in
+      let stepped : step w bounds (inside_by s t done tid before false (hints before)) ≡ Some (inside_by after.state t done tid (before + 1) false (hints (before + 1))) =
+      step_by w bounds s t done tid before (hints before) (hints (before + 1)) after goes taken_so
+      ∙ ap (λ o. Some (inside_by after.state o done tid (before + 1) (yields s tid) (hints (before + 1)))) (nothing_more t after.output (answers_for s w tid) silent alone.0)
+      ∙ ap (λ y. Some (inside_by after.state t done tid (before + 1) y (hints (before + 1)))) no_yield_now in
       let count : (before + 1) + n ≡ before + suc n = omega arith in
-      course-step n w bounds (inside s t done tid before false) (inside after.state t done tid (before + 1) false) stepped
-      ∙ stretch n (taken + 1) w bounds after.state there t done tid (before + 1) (record { slice = omega (arith, room.slice); epoch = omega (arith, room.epoch); little = room.little; little_read = room.little_read }) others
-      (λ k mid below ran. no_yield (suc k) mid (omega (arith, below)) (turn_first 0 k tid (at s [] []) after one.1 ∙ ap (turns (0 + 1) k tid) here ∙ turns_taken k 0 (0 + 1) tid (at after.state [] []) mid ran))
-      ∙ ap (λ m. Some (inside there t done tid m false)) count
+      let first : (k : ℕ) (mid : After) → turns 0 k tid (at after.state [] []) ≡ Ok mid → turns 0 (suc k) tid (at s [] []) ≡ Ok mid =
+      λ k mid ran. turn_first 0 k tid (at s [] []) after one.1 ∙ ap (turns (0 + 1) k tid) here ∙ turns_taken k 0 (0 + 1) tid (at after.state [] []) mid ran in
+      course-step n w bounds (inside_by s t done tid before false (hints before)) (inside_by after.state t done tid (before + 1) false (hints (before + 1))) stepped
+      ∙ stretch_by n (taken + 1) w bounds after.state there t done tid (before + 1) hints
+      (λ j m mid within m_is ran alive ready. keeps (suc j) m mid (omega (arith, within)) (omega (arith, m_is)) (first j mid ran) alive ready) others
+      (λ k mid below ran. no_yield (suc k) mid (omega (arith, below)) (first k mid ran))
+      ∙ ap (λ m. Some (inside_by there t done tid m false (hints m))) count
+
+  -- by round robin
+  keeps_on : (w : Supplied) (bounds : Bounds) (s : State) (t : Traced) (done : List Slice) (tid : Tid) (before n : ℕ) → HasRoom bounds t done before n → KeepsOn w bounds s t done tid before n (λ m. None)
+  keeps_on w bounds s t done tid before n room = λ j m mid within m_is ran alive ready.
+      same_next mid.state w bounds (progress (inside mid.state t done tid m false)) tid
+      (record { alive = alive; some = ready_some mid.state w tid ready; few = omega (arith, room.epoch, within, m_is); little = room.little; little_read = room.little_read }) refl refl ready refl (omega (arith, room.slice, within, m_is))
+
+  -- one turn within a slice, by round robin
+  pub one_step : (w : Supplied) (bounds : Bounds) (s : State) (t : Traced) (done : List Slice) (tid : Tid) (before : ℕ) (after : After) → HasRoom bounds t done before 1 → ready_at s w tid ≡ true
+      → turn s tid (answers_for s w tid) ≡ Ok after
+      → step w bounds (inside s t done tid before false) ≡ Some (inside after.state (traced_more t after.output (answers_for s w tid)) done tid (before + 1) (yields s tid))
+  one_step w bounds s t done tid before after room ready is =
+      step_by w bounds s t done tid before None None after
+      (keeps_on w bounds s t done tid before 1 room 0 before (at s [] []) (omega arith) (omega arith) (none_yet tid (at s [] [])) (laws.going s tid (answers_for s w tid) after is) ready) is
 
   -- a stretch of plain steps
   pub stretch_moved : (w : Supplied) (tid : Tid) (limit steps : ℕ) (s there : State) (t : Traced) → length t.output < EPOCH_END_BYTES → length (bytes_read t.answers) < EPOCH_END_BYTES → 0 < steps → steps ≤ limit
@@ -126,40 +154,53 @@ module _ (laws : TurnLaws) where
     counted = counted;
     few_answers = omega arith;
     are_answers = λ are. are;
-    went = λ bounds done before slice epoch. stretch steps 0 w bounds s there t done tid before (record { slice = slice; epoch = epoch; little = little; little_read = little_read }) is no_yield;
+    went = λ bounds done before slice epoch.
+        stretch_by steps 0 w bounds s there t done tid before (λ m. None) (keeps_on w bounds s t done tid before steps (record { slice = slice; epoch = epoch; little = little; little_read = little_read })) is no_yield;
   }
 
   -- one turn of any kind, which takes what the supply answers
-  pub turn_moved : (w : Supplied) (tid : Tid) (limit : ℕ) (s there : State) (t behind : Traced) (log : List Answer) (used yielded : Bool) → length t.output < EPOCH_END_BYTES → length (bytes_read t.answers) < EPOCH_END_BYTES → 0 < limit
-      → has_ended s.end ≡ false → ready_at s w tid ≡ true → log ≡ answers_for s w tid → length log ≤ 1 → AllByRecursion IsAnswer log
-      → answers.Stepped used yielded ≡ turn_answer (yields s tid) log (turn s tid log) → there ≡ state_after s (turn s tid log)
-      → behind.output ≡ output_after t.output (turn s tid log) → behind.answers ≡ t.answers ++ log
-      → IsMoved w tid limit s t 1 yielded there behind
-  turn_moved w tid limit s there t behind log used yielded little little_read some alive ready log_is one_answer is_answer answer there_is written_is answers_are =
-      let has = ready_turn laws s w tid alive ready in
-      let after = has.0 in
-      let is : turn s tid log ≡ Ok after = ap (turn s tid) log_is ∙ has.1 in
-      let state_is : there ≡ after.state = there_is ∙ ap (state_after s) is in
-      let output_is : behind.output ≡ t.output ++ after.output = written_is ∙ ap (output_after t.output) is in
-      let told = answer ∙ ap (turn_answer (yields s tid) log) is in
-      let yield_is : yielded ≡ yields s tid = cc in
-      let behind_is : traced_more t after.output (answers_for s w tid) ≡ behind =
-      ap (λ o. record { output = o; answers = t.answers ++ answers_for s w tid }) (sym output_is)
-      ∙ ap (λ a. record { output = behind.output; answers = t.answers ++ a }) (sym log_is)
-      ∙ ap (λ a. record { output = behind.output; answers = a }) (sym answers_are) in
-      let sums : length behind.answers ≡ length t.answers + length log = ap (λ a. length a) answers_are ∙ length-append t.answers log in
+  pub turn_moved : (w : Supplied) (tid : Tid) (limit : ℕ) (s there : State) (t behind : Traced) (yielded : Bool) → length t.output < EPOCH_END_BYTES → length (bytes_read t.answers) < EPOCH_END_BYTES → 0 < limit
+      → ready_at s w tid ≡ true → HasTurned w tid s t yielded there behind → IsMoved w tid limit s t 1 yielded there behind
+  turn_moved w tid limit s there t behind yielded little little_read some ready has =
+      let after = has.there in
+      let more = answers_for s w tid in
+      let behind_is : traced_more t after.output more ≡ behind =
+      ap (λ o. record { output = o; answers = t.answers ++ more }) (sym has.output_is) ∙ ap (λ a. record { output = behind.output; answers = a }) (sym has.answers_are) in
+      let sums : length behind.answers ≡ length t.answers + length more = ap (λ a. length a) has.answers_are ∙ length-append t.answers more in
       record {
         some = omega arith;
         few = omega (arith, some);
-        counted = ap (λ (t : State). t.steps) state_is ∙ laws.counts s tid log after is;
-        few_answers = omega (arith, sums, one_answer);
-        are_answers = λ are. subst (AllByRecursion IsAnswer) (sym answers_are) (all_append IsAnswer t.answers log are is_answer);
+        counted = ap (λ (t : State). t.steps) has.state_is ∙ laws.counts s tid more after has.took;
+        few_answers = omega (arith, sums, has.one_answer);
+        are_answers = λ are. subst (AllByRecursion IsAnswer) (sym has.answers_are) (all_append IsAnswer t.answers more are has.are_answers);
         went = λ bounds done before slice epoch.
             one_course w bounds (inside s t done tid before false)
-            ∙ one_step w bounds s t done tid before after (record { slice = slice; epoch = epoch; little = little; little_read = little_read }) ready has.1
-            ∙ ap (λ x. Some (inside x (traced_more t after.output (answers_for s w tid)) done tid (before + 1) (yields s tid))) (sym state_is)
+            ∙ one_step w bounds s t done tid before after (record { slice = slice; epoch = epoch; little = little; little_read = little_read }) ready has.took
+            ∙ ap (λ x. Some (inside x (traced_more t after.output more) done tid (before + 1) (yields s tid))) (sym has.state_is)
             ∙ ap (λ b. Some (inside there b done tid (before + 1) (yields s tid))) behind_is
-            ∙ ap (λ y. Some (inside there behind done tid (before + 1) y)) (sym yield_is);
+            ∙ ap (λ y. Some (inside there behind done tid (before + 1) y)) (sym has.yielded_is);
+      }
+
+  -- one turn as it was taken
+  pub has_turned : (w : Supplied) (tid : Tid) (s there : State) (t behind : Traced) (log : List Answer) (used yielded : Bool)
+      → has_ended s.end ≡ false → ready_at s w tid ≡ true → log ≡ answers_for s w tid → length log ≤ 1 → AllByRecursion IsAnswer log
+      → answers.Stepped used yielded ≡ turn_answer (yields s tid) log (turn s tid log) → there ≡ state_after s (turn s tid log)
+      → behind.output ≡ output_after t.output (turn s tid log) → behind.answers ≡ t.answers ++ log
+      → HasTurned w tid s t yielded there behind
+  has_turned w tid s there t behind log used yielded alive ready log_is one_answer is_answer answer there_is written_is answers_are =
+      let has = ready_turn laws s w tid alive ready in
+      let after = has.0 in
+      let is : turn s tid log ≡ Ok after = ap (turn s tid) log_is ∙ has.1 in
+      let told = answer ∙ ap (turn_answer (yields s tid) log) is in
+      record {
+        there = after;
+        took = has.1;
+        state_is = there_is ∙ ap (state_after s) is;
+        yielded_is = cc;
+        output_is = written_is ∙ ap (output_after t.output) is;
+        answers_are = answers_are ∙ ap (λ xs. t.answers ++ xs) log_is;
+        one_answer = subst (λ (xs : List Answer). length xs ≤ 1) log_is one_answer;
+        are_answers = subst (AllByRecursion IsAnswer) log_is is_answer;
       }
 
   -- a thread that can step has a turn, so it is answered so

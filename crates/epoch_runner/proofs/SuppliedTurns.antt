@@ -1,5 +1,5 @@
 -- Each turn of a course is supplied.
-use Rattle.std.proofs.Common.{◌≡◌, ◌⊎◌, inl, inr, ◌+◌, ◌-◌, ◌<◌, ◌≤◌, ℕ, zero, suc, Bool, true, false, not, List, [], ◌∷◌, ◌++◌, length, Option, Some, None, Result, Ok, Err, refl, sym, ap, subst, ◌∙◌, append_assoc, arith}
+use Rattle.std.proofs.Common.{◌≡◌, ◌⊎◌, inl, inr, ◌+◌, ◌<◌, ◌≤◌, ℕ, zero, suc, true, false, not, List, [], ◌∷◌, ◌++◌, length, Option, Some, None, Result, Ok, Err, refl, sym, ap, subst, ◌∙◌, append_assoc, arith}
 use Rattle.std.specs.Prelude.{IfOk, is_some, ⊤}
 use Rattle.std.proofs.lemmas.List.{append-nil}
 use Rattle.dp_base.specs.declared.answer.Answer.{Answer}
@@ -19,12 +19,14 @@ use Rattle.epoch_runner.specs.declared.bounds.Bounds.{Bounds}
 use Rattle.epoch_runner.specs.Answering.{answer_to, answers_for, is_unanswered, read_of, ready_at}
 use Rattle.epoch_runner.specs.KernelLaws.{ReadLaw, ReservationLaw, RunLaws, TurnLaws}
 use Rattle.epoch_runner.specs.Schedule.{Course, IsScheduled, Next, closed, closed_by, course, ends, followed, next, progress, starting, step, turn_of, turned}
-use Rattle.epoch_runner.specs.Supplying.{Claim, EachSlice, EachTurn, IsReadOf, IsSuppliedRun, IsSuppliedTurn}
-use Rattle.epoch_runner.proofs.Nexts.{last_next, turn_next}
+use Rattle.epoch_runner.specs.Supplying.{Claim, EachSlice, EachTurn, IsSuppliedRun, IsSuppliedTurn}
+use Rattle.epoch_runner.proofs.Nexts.{turn_next}
 use Rattle.epoch_runner.proofs.Readiness.{peeked_alive, ready_answered, ready_rest}
 use Rattle.epoch_runner.proofs.Reservations.{closed_answers, closed_end, closed_input, closed_ready}
 use Rattle.epoch_runner.proofs.Supplies.{known, thread_read}
 use Rattle.supply.specs.Supplied.{Supplied, answer_at}
+use Rattle.sync_hints.specs.declared.hints.Hints.{Hints}
+use Rattle.epoch_runner.specs.Hinted.{Following}
 use Rattle.turn_peek.specs.declared.peek.Peek.{Peek}
 use Rattle.turn_peek.specs.declared.peek.Peek.TheVariants as peeks
 
@@ -102,7 +104,7 @@ module _ (w : Supplied) where
 
 -- ---- courses
 
-module _ (turn_laws : TurnLaws) (run_laws : RunLaws) (reserved : ReservationLaw) (read_law : ReadLaw) (start : State) (w : Supplied) where
+module _ (turn_laws : TurnLaws) (run_laws : RunLaws) (reserved : ReservationLaw) (read_law : ReadLaw) (start : State) (hints : Hints) (w : Supplied) where
   -- Whatever holds of the state with the answers to come, each turn so far is supplied, and then that holds.
   abbrev Slices : List Slice → State → List Answer → Type 1
   Slices done s answers = (more : List Answer) (P : Claim) → P s more → EachSlice w done P start (answers ++ more)
@@ -136,12 +138,12 @@ module _ (turn_laws : TurnLaws) (run_laws : RunLaws) (reserved : ReservationLaw)
     unstarted : c.last ≡ None → c.in_slice ≡ 0
     turns_so_far : Turns c c.last
 
-  turn_holds : (c d : Course) (tid : Tid) (r : Result After Refusal) → w.place ≤ c.state.input → Turns c (Some tid) → has_ended c.state.end ≡ false → ready_at c.state w tid ≡ true
-      → turn c.state tid (answers_for c.state w tid) ≡ r → turned c tid (answers_for c.state w tid) r ≡ Some d → Holds d
-  turn_holds c d tid (Err refusal) placed so_far alive ready is went = absurd cc
-  turn_holds c d tid (Ok there) placed so_far alive ready is went =
+  turn_holds : (c d : Course) (tid : Tid) (left : Option Following) (r : Result After Refusal) → w.place ≤ c.state.input → Turns c (Some tid) → has_ended c.state.end ≡ false → ready_at c.state w tid ≡ true
+      → turn c.state tid (answers_for c.state w tid) ≡ r → turned c tid left (answers_for c.state w tid) r ≡ Some d → Holds d
+  turn_holds c d tid left (Err refusal) placed so_far alive ready is went = absurd cc
+  turn_holds c d tid left (Ok there) placed so_far alive ready is went =
       let more_ = answers_for c.state w tid in
-      let x : Course = record c { state = there.state; output = c.output ++ there.output; answers = c.answers ++ more_; last = Some tid; in_slice = c.in_slice + 1; yielded = yields c.state tid } in
+      let x : Course = record c { state = there.state; output = c.output ++ there.output; answers = c.answers ++ more_; last = Some tid; in_slice = c.in_slice + 1; yielded = yields c.state tid; hints = left } in
       let same : x ≡ d = cc in
       let none : length (bytes_read there.rest) ≡ 0 = ap (λ l. length (bytes_read l)) (ready_rest turn_laws c.state w tid there alive ready is) in
       let holds : Holds x = record {
@@ -165,20 +167,19 @@ module _ (turn_laws : TurnLaws) (run_laws : RunLaws) (reserved : ReservationLaw)
 
   next_holds : (bounds : Bounds) (c d : Course) (x : Next) → Holds c → next c.state w bounds (progress c) ≡ x → followed w c x ≡ Some d → Holds d
   next_holds bounds c d ends so_far is went = absurd cc
-  next_holds bounds c d (turn_of tid false) so_far is went =
-      let there = turn_next c.state w bounds (progress c) tid false is in
-      let told = last_next c.state w bounds (progress c) c.last tid false there.1 in
-      let last : c.last ≡ Some tid = goes_on told.1 in
-      turn_holds c d tid (turn c.state tid (answers_for c.state w tid)) so_far.placed (subst (Turns c) last so_far.turns_so_far) there.0.alive told.0 refl went
+  next_holds bounds c d (turn_of tid false left) so_far is went =
+      let there = turn_next c.state w bounds (progress c) tid false left is in
+      let last : c.last ≡ Some tid = goes_on there.1.1 in
+      turn_holds c d tid left (turn c.state tid (answers_for c.state w tid)) so_far.placed (subst (Turns c) last so_far.turns_so_far) there.0.alive there.1.0 refl went
     where
       goes_on : (false ≡ true) ⊎ (c.last ≡ Some tid) → c.last ≡ Some tid
       goes_on (inl never) = absurd cc
       goes_on (inr same) = same
-  next_holds bounds c d (turn_of tid true) so_far is went =
-      let there = turn_next c.state w bounds (progress c) tid true is in
-      let ready = (last_next c.state w bounds (progress c) c.last tid true there.1).0 in
+  next_holds bounds c d (turn_of tid true left) so_far is went =
+      let there = turn_next c.state w bounds (progress c) tid true left is in
+      let ready = there.1.0 in
       let x = closed c in
-      turn_holds x d tid (turn x.state tid (answers_for x.state w tid)) (subst (λ (n : ℕ). w.place ≤ n) (sym (closed_input c c.last)) so_far.placed)
+      turn_holds x d tid left (turn x.state tid (answers_for x.state w tid)) (subst (λ (n : ℕ). w.place ≤ n) (sym (closed_input c c.last)) so_far.placed)
       (begun x tid (closed_empty c c.last so_far.unstarted) (closed_turns c c.last so_far.turns_so_far))
       (ap has_ended (closed_end c c.last) ∙ there.0.alive) (closed_ready reserved c w c.last tid ∙ ready) refl went
 
@@ -186,14 +187,14 @@ module _ (turn_laws : TurnLaws) (run_laws : RunLaws) (reserved : ReservationLaw)
   step_holds bounds d None so_far went = absurd cc
   step_holds bounds d (Some c) so_far went = next_holds bounds c d (next c.state w bounds (progress c)) (so_far c refl) refl went
 
-  course_holds : w.place ≤ start.input → (bounds : Bounds) (n : ℕ) (d : Course) → course n w bounds (starting start) ≡ Some d → Holds d
+  course_holds : w.place ≤ start.input → (bounds : Bounds) (n : ℕ) (d : Course) → course n w bounds (starting start hints) ≡ Some d → Holds d
   unfolding course
   course_holds placed bounds zero d went =
-      let same : starting start ≡ d = cc in
+      let same : starting start hints ≡ d = cc in
       subst Holds same (record { placed = placed; unstarted = λ none. refl; turns_so_far = λ more P holds. holds })
-  course_holds placed bounds (suc n) d went = step_holds bounds d (course n w bounds (starting start)) (λ c is. course_holds placed bounds n c is) went
+  course_holds placed bounds (suc n) d went = step_holds bounds d (course n w bounds (starting start hints)) (λ c is. course_holds placed bounds n c is) went
 
-  pub scheduled_turns : (bounds : Bounds) (e : Epoch) (output : List ℕ) (end : State) → IsScheduled start w bounds e output end → w.place ≤ start.input → IsSuppliedRun start w e.slices e.answers
+  pub scheduled_turns : (bounds : Bounds) (e : Epoch) (output : List ℕ) (end : State) → IsScheduled start hints w bounds e output end → w.place ≤ start.input → IsSuppliedRun start w e.slices e.answers
   scheduled_turns bounds e output end is placed =
       let holds = course_holds placed bounds is.turns is.last is.went in
       let each = closed_turns is.last is.last.last holds.turns_so_far [] (λ s rest. ⊤) tt in

@@ -27,10 +27,12 @@ use Rattle.epoch_runner.specs.Supplying.{IsSuppliedBy}
 use Rattle.dp_base.proofs.Lists.{all_append}
 use Rattle.epoch_runner.proofs.AnswerLists.{clocks_append, read_append}
 use Rattle.epoch_runner.specs.KernelLaws.{ReadLaw, ReservationLaw, TurnLaws}
-use Rattle.epoch_runner.proofs.Nexts.{last_next, turn_next}
+use Rattle.epoch_runner.proofs.Nexts.{turn_next}
 use Rattle.epoch_runner.proofs.Readiness.{peeked_alive, ready_answered, ready_rest}
 use Rattle.epoch_runner.proofs.Reservations.{closed_answers, closed_end, closed_input, closed_ready}
 use Rattle.supply.specs.Supplied.{Supplied, answer_at, end_of}
+use Rattle.sync_hints.specs.declared.hints.Hints.{Hints}
+use Rattle.epoch_runner.specs.Hinted.{Following}
 use Rattle.turn_peek.specs.declared.peek.Peek.{Peek}
 use Rattle.turn_peek.specs.declared.peek.Peek.TheVariants as peeks
 use Rattle.turn_peek.specs.Peek.{thread_peeked}
@@ -181,13 +183,13 @@ module _ (turn_laws : TurnLaws) (reserved : ReservationLaw) (read_law : ReadLaw)
   thread_read m input at max (Some (Waits addr hart clear)) is = absurd cc
   thread_read m input at max (Some (Gone code)) is = absurd cc
 
-  turn_more : (w : Supplied) (place : ℕ) (c d : Course) (tid : Tid) (r : Result After Refusal) → w.place ≤ place → IsSuppliedBy w place c.state.input c.answers → has_ended c.state.end ≡ false → ready_at c.state w tid ≡ true
-      → turn c.state tid (answers_for c.state w tid) ≡ r → turned c tid (answers_for c.state w tid) r ≡ Some d → IsSuppliedBy w place d.state.input d.answers
-  turn_more w place c d tid (Err refusal) from so_far alive ready is went = absurd cc
-  turn_more w place c d tid (Ok after) from so_far alive ready is went =
+  turn_more : (w : Supplied) (place : ℕ) (c d : Course) (tid : Tid) (hints : Option Following) (r : Result After Refusal) → w.place ≤ place → IsSuppliedBy w place c.state.input c.answers → has_ended c.state.end ≡ false → ready_at c.state w tid ≡ true
+      → turn c.state tid (answers_for c.state w tid) ≡ r → turned c tid hints (answers_for c.state w tid) r ≡ Some d → IsSuppliedBy w place d.state.input d.answers
+  turn_more w place c d tid hints (Err refusal) from so_far alive ready is went = absurd cc
+  turn_more w place c d tid hints (Ok after) from so_far alive ready is went =
       let s = c.state in
       let log = answers_for s w tid in
-      let x : Course = record c { state = after.state; output = c.output ++ after.output; answers = c.answers ++ log; last = Some tid; in_slice = c.in_slice + 1; yielded = yields s tid } in
+      let x : Course = record c { state = after.state; output = c.output ++ after.output; answers = c.answers ++ log; last = Some tid; in_slice = c.in_slice + 1; yielded = yields s tid; hints = hints } in
       let same : x ≡ d = cc in
       let peek_is = peeked_alive s tid alive in
       let answered : is_unanswered w (peeked s tid) ≡ false = ap (is_unanswered w) peek_is ∙ ready_answered s w (thread_at s.threads tid) ready in
@@ -199,32 +201,32 @@ module _ (turn_laws : TurnLaws) (reserved : ReservationLaw) (read_law : ReadLaw)
   supplied_next : (w : Supplied) (bounds : Bounds) (place : ℕ) (c d : Course) (x : Next) → w.place ≤ place → IsSuppliedBy w place c.state.input c.answers → next c.state w bounds (progress c) ≡ x → followed w c x ≡ Some d
       → IsSuppliedBy w place d.state.input d.answers
   supplied_next w bounds place c d ends from so_far is went = absurd cc
-  supplied_next w bounds place c d (turn_of tid false) from so_far is went =
-      let there = turn_next c.state w bounds (progress c) tid false is in
-      let ready = (last_next c.state w bounds (progress c) c.last tid false there.1).0 in
-      turn_more w place c d tid (turn c.state tid (answers_for c.state w tid)) from so_far there.0.alive ready refl went
-  supplied_next w bounds place c d (turn_of tid true) from so_far is went =
-      let there = turn_next c.state w bounds (progress c) tid true is in
-      let ready = (last_next c.state w bounds (progress c) c.last tid true there.1).0 in
+  supplied_next w bounds place c d (turn_of tid false hints) from so_far is went =
+      let there = turn_next c.state w bounds (progress c) tid false hints is in
+      let ready = there.1.0 in
+      turn_more w place c d tid hints (turn c.state tid (answers_for c.state w tid)) from so_far there.0.alive ready refl went
+  supplied_next w bounds place c d (turn_of tid true hints) from so_far is went =
+      let there = turn_next c.state w bounds (progress c) tid true hints is in
+      let ready = there.1.0 in
       let x = closed c in
       let so_far_closed : IsSuppliedBy w place x.state.input x.answers =
       subst (λ n. IsSuppliedBy w place n x.answers) (sym (closed_input c c.last)) (subst (IsSuppliedBy w place c.state.input) (sym (closed_answers c c.last)) so_far) in
-      turn_more w place x d tid (turn x.state tid (answers_for x.state w tid)) from so_far_closed (ap has_ended (closed_end c c.last) ∙ there.0.alive) (closed_ready reserved c w c.last tid ∙ ready) refl went
+      turn_more w place x d tid hints (turn x.state tid (answers_for x.state w tid)) from so_far_closed (ap has_ended (closed_end c c.last) ∙ there.0.alive) (closed_ready reserved c w c.last tid ∙ ready) refl went
 
   supplied_step : (w : Supplied) (bounds : Bounds) (place : ℕ) (d : Course) (o : Option Course) → w.place ≤ place → ((c : Course) → o ≡ Some c → IsSuppliedBy w place c.state.input c.answers) → (o >>= step w bounds) ≡ Some d
       → IsSuppliedBy w place d.state.input d.answers
   supplied_step w bounds place d None from so_far went = absurd cc
   supplied_step w bounds place d (Some c) from so_far went = supplied_next w bounds place c d (next c.state w bounds (progress c)) from (so_far c refl) refl went
 
-  course_supplied : (start : State) (w : Supplied) (bounds : Bounds) (n : ℕ) (d : Course) → w.place ≤ start.input → start.input ≤ end_of w → course n w bounds (starting start) ≡ Some d → IsSuppliedBy w start.input d.state.input d.answers
+  course_supplied : (start : State) (hints : Hints) (w : Supplied) (bounds : Bounds) (n : ℕ) (d : Course) → w.place ≤ start.input → start.input ≤ end_of w → course n w bounds (starting start hints) ≡ Some d → IsSuppliedBy w start.input d.state.input d.answers
   unfolding course
-  course_supplied start w bounds zero d from within went =
-      let same : starting start ≡ d = cc in subst (λ (y : Course). IsSuppliedBy w start.input y.state.input y.answers) same (none_yet w start.input within)
-  course_supplied start w bounds (suc n) d from within went =
-      supplied_step w bounds start.input d (course n w bounds (starting start)) from (λ c is. course_supplied start w bounds n c from within is) went
+  course_supplied start hints w bounds zero d from within went =
+      let same : starting start hints ≡ d = cc in subst (λ (y : Course). IsSuppliedBy w start.input y.state.input y.answers) same (none_yet w start.input within)
+  course_supplied start hints w bounds (suc n) d from within went =
+      supplied_step w bounds start.input d (course n w bounds (starting start hints)) from (λ c is. course_supplied start hints w bounds n c from within is) went
 
-  pub scheduled_supplied : (start : State) (w : Supplied) (bounds : Bounds) (e : Epoch) (output : List ℕ) (end : State) → IsScheduled start w bounds e output end → w.place ≤ start.input → start.input ≤ end_of w
+  pub scheduled_supplied : (start : State) (hints : Hints) (w : Supplied) (bounds : Bounds) (e : Epoch) (output : List ℕ) (end : State) → IsScheduled start hints w bounds e output end → w.place ≤ start.input → start.input ≤ end_of w
       → IsSuppliedBy w start.input end.input e.answers
-  scheduled_supplied start w bounds e output end is from within =
+  scheduled_supplied start hints w bounds e output end is from within =
       let place : end.input ≡ is.last.state.input = ap (λ (s : State). s.input) is.end_is ∙ closed_input is.last is.last.last in
-      subst (λ n. IsSuppliedBy w start.input n e.answers) (sym place) (subst (IsSuppliedBy w start.input is.last.state.input) (sym is.answers_are) (course_supplied start w bounds is.turns is.last from within is.went))
+      subst (λ n. IsSuppliedBy w start.input n e.answers) (sym place) (subst (IsSuppliedBy w start.input is.last.state.input) (sym is.answers_are) (course_supplied start hints w bounds is.turns is.last from within is.went))

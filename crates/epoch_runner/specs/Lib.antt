@@ -1,7 +1,10 @@
 pub mod KernelLaws
 pub mod Answering
+pub mod Lowest
+pub mod Hinted
 pub mod Schedule
 pub mod Supplying
 pub mod Running
 pub mod SliceRun
+pub mod HintRun
 pub mod Trace

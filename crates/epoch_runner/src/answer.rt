@@ -5,12 +5,12 @@ ghost use Rattle.std.specs.Option.{option_to_list};
 ghost use Rattle.dp_base.specs.declared.answer.Answer.TheVariants.{Read};
 ghost use Rattle.dp_base.specs.Journal.{IsAnswer};
 ghost use Rattle.guest_kernel.specs.Turn.{HasRead};
-ghost use Rattle.epoch_runner.specs.Answering.{answer_to, can_step, input_due, is_ready, is_unanswered, read_of, waits_for_input};
+ghost use Rattle.epoch_runner.specs.Answering.{answer_to, can_step, input_due, is_ready, is_unanswered, read_of, ready_at, waits_for_input};
 ghost use Rattle.dp_base.specs.declared.limits.TheConstants.{MAX_CALL_BYTES};
 ghost use Rattle.epoch_runner.specs.SliceRun.{IsEarlyRead, can_take};
 ghost use Rattle.supply.specs.Supplied.{answer_at};
 
-use dp_base::{Answer, Bytes, OutOfMemory};
+use dp_base::{Answer, Bytes, OutOfMemory, Tid};
 use guest_kernel::{Peek, State, Thread, is_running};
 use std::alloc::Global;
 use supply::Supply;
@@ -47,11 +47,21 @@ fn any_waits(state: &State, supply: &Supply) -> bool
 }
 
 // Whether a thread can step: it runs, and isn't at a read whose answer isn't known.
-pub(crate) fn is_ready(state: &State, supply: &Supply, thread: &Thread) -> bool
+fn is_ready(state: &State, supply: &Supply, thread: &Thread) -> bool
     ensures { result ≡ is_ready state.now supply.now thread.now }
 {
     let peek = peek_thread(thread, &state.pages, state.input);
     is_running(thread) && !is_unanswered(supply, peek)
+}
+
+// Whether the thread with this number can step.
+pub(crate) fn ready_at(state: &State, supply: &Supply, tid: Tid) -> bool
+    ensures { result ≡ ready_at state.now supply.now tid }
+{
+    match state.threads.get(tid) {
+        Some(thread) => is_ready(state, supply, thread),
+        None => false,
+    }
 }
 
 fn waits_for_input(state: &State, supply: &Supply, thread: &Thread) -> bool

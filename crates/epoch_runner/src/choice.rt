@@ -1,13 +1,14 @@
 // Whose slice is next.
-ghost use Rattle.std.specs.Prelude.{◌≡◌, nat_le, position};
-ghost use Rattle.epoch_runner.specs.Answering.{is_ready};
-ghost use Rattle.epoch_runner.specs.Schedule.{begins_with, lowest_from};
+ghost use Rattle.std.specs.Prelude.{◌≡◌, nat_le};
+ghost use Rattle.epoch_runner.specs.Answering.{ready_at};
+ghost use Rattle.epoch_runner.specs.Lowest.{lowest_from};
+ghost use Rattle.epoch_runner.specs.Schedule.{begins_with};
 ghost use Rattle.epoch_runner.specs.SliceRun.{next_slice};
 
-use crate::answer::{can_step, is_ready};
+use crate::answer::{can_step, ready_at};
 use dp_base::Tid;
 use dp_base::limits::EPOCH_END_BYTES;
-use guest_kernel::{State, Thread};
+use guest_kernel::State;
 use supply::Supply;
 
 // The thread of the next slice, when the epoch has written and read so many bytes and may have so many steps more: the lowest that
@@ -40,22 +41,15 @@ pub(crate) fn is_long(count: usize) -> bool
 
 // The lowest thread that can step and has at least this number.
 fn lowest_from(state: &State, supply: &Supply, least: usize) -> Option<Tid>
-    ensures { result ≡ lowest_from (is_ready state.now supply.now) least state.now.threads }
+    ensures { result ≡ lowest_from (ready_at state.now supply.now) least state.now.threads }
 {
-    let threads = state.threads.as_slice();
-    let before = least.saturating_sub(1);
-    if before > threads.len() {
-        return None;
+    let mut number = least.max(1);
+    'threads: while number <= state.threads.len() {
+        let tid = Tid(number as u16);
+        if ready_at(state, supply, tid) {
+            return Some(tid);
+        }
+        number += 1;
     }
-    let index = first_ready(state, supply, &threads[before..])?;
-    Some(Tid((before + index + 1) as u16))
-}
-
-// The place of the first of them that can step.
-fn first_ready(state: &State, supply: &Supply, threads: &[Thread]) -> Option<usize>
-    ensures { result ≡ position (is_ready state.now supply.now) threads.now }
-{
-    threads
-        .iter()
-        .position(|thread| is_ready(state, supply, thread))
+    None
 }

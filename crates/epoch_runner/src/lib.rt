@@ -20,16 +20,24 @@
 #![tactic(auto)]
 
 mod answer;
+mod begin;
 mod bounds;
 mod choice;
+mod course;
 mod epoch_run;
+mod follow;
+mod following;
 mod kernel;
 pub mod laws;
+mod left;
+mod rules;
 mod run;
 mod slice;
+mod stage;
 mod trace;
 
 pub use answer::{can_step, input_due};
 pub use bounds::Bounds;
 pub use epoch_run::{EpochRun, Ran};
 pub use run::run_epoch;
+pub use stage::Stage;

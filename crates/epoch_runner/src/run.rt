@@ -1,61 +1,68 @@
 // An epoch, slice by slice.
-ghost use Rattle.std.specs.Prelude.{◌≡◌, ◌+◌, ◌<◌, ◌^◌, Some, IfOk};
+ghost use Rattle.std.specs.Prelude.{◌≡◌, ◌+◌, ◌<◌, ◌^◌, true, IfOk};
+ghost use Rattle.epoch_runner.specs.Answering.{can_step};
 ghost use Rattle.epoch_runner.specs.Running.{HasRun, HasRunEpoch};
-ghost use Rattle.epoch_runner.specs.Schedule.{begins_with};
-ghost use Rattle.epoch_runner.specs.SliceRun.{next_slice};
 
+use crate::answer::can_step;
+use crate::begin::{Begun, begin};
 use crate::bounds::Bounds;
 use crate::choice::next_thread;
+use crate::course::Course;
 use crate::epoch_run::{EpochRun, Ran};
 use crate::kernel::{run_laws, turn_laws};
 use crate::slice::run_slice;
-use crate::trace::Trace;
-use dp_base::{Bytes, OutOfMemory, Slice, Tid};
+use dp_base::{Bytes, OutOfMemory, Slice};
 use epoch_record::Epoch;
 use guest_kernel::State;
-use slice_log::SliceLog;
 use std::alloc::Global;
 use supply::Supply;
+use sync_hints::Hints;
 
-/// Runs one epoch of a guest with a supply of its input: from its start to where the guest ends or no thread can step, to its bound
-/// of steps, or to the step behind which it has written or read 65,536 bytes.
+/// Runs one epoch of a guest with hints and a supply of its input: from its start to where the guest ends or no thread can step, to its
+/// bound of steps, to the step after which it has written or read 65,536 bytes, or to where the hints are used up. Hints may be
+/// anything. Where they can't be followed they are dropped, and the threads take turns by round robin from there.
 pub fn run_epoch(
     alloc: Global,
     start: State,
+    hints: &Hints,
     supply: &Supply,
     bounds: Bounds,
 ) -> Result<Ran, OutOfMemory>
     requires countable { start.steps + bounds.steps < 2 ^ 64 }
-    ensures { IfOk result (HasRun start supply.now bounds) }
+    ensures { IfOk result (HasRun start hints.now supply.now bounds) }
 {
-    let Some(first) = next_thread(&start, supply, 0, 0, bounds.steps, bounds.first as usize) else {
+    if bounds.steps == 0 || !can_step(&start, supply) {
         return Ok(Ran::Idle(start));
-    };
-    Ok(Ran::Epoch(run_from(alloc, start, supply, bounds, first)?))
+    }
+    Ok(Ran::Epoch(run_from(alloc, start, hints, supply, bounds)?))
 }
 
-// Runs an epoch whose first slice is this thread's.
+// Runs an epoch that has a step.
 fn run_from(
     alloc: Global,
     start: State,
+    hints: &Hints,
     supply: &Supply,
     bounds: Bounds,
-    first: Tid,
 ) -> Result<EpochRun, OutOfMemory>
-    requires first { begins_with (Some first) ≡ next_slice start supply.now 0 0 bounds.steps bounds.first }
+    requires some { 0 < bounds.steps }
+    requires can { can_step start supply.now ≡ true }
     requires countable { start.steps + bounds.steps < 2 ^ 64 }
-    ensures { IfOk result (HasRunEpoch start supply.now bounds) }
+    ensures { IfOk result (HasRunEpoch start hints.now supply.now bounds) }
 {
     turn_laws();
     run_laws();
     turn_peek::laws::a_reservation_asks_for_nothing();
     dp_base::laws::lengths();
     dp_base::laws::epochs_fit_records();
-    let mut next = Some(first);
-    let mut state = start.share(alloc)?;
-    let mut slices = SliceLog::new(alloc);
-    let mut trace = Trace::new(alloc);
-    let mut left = bounds.steps;
+    let Begun { course, mut next } = begin(alloc, &start, hints, supply, bounds)?;
+    let Course {
+        mut state,
+        mut slices,
+        mut trace,
+        mut left,
+        ..
+    } = course;
     'slices: while let Some(tid) = next {
         let steps = run_slice(alloc, &mut state, supply, tid, bounds, left, &mut trace)?;
         left -= steps;

@@ -4,6 +4,7 @@ ghost use Rattle.dp_base.specs.declared.limits.TheConstants.{EPOCH_END_BYTES};
 ghost use Rattle.guest_kernel.specs.Answers.{bytes_read};
 ghost use Rattle.guest_kernel.specs.State.{has_ended};
 ghost use Rattle.epoch_runner.specs.Answering.{ready_at};
+ghost use Rattle.epoch_runner.specs.HintRun.{HasTurned};
 ghost use Rattle.epoch_runner.specs.SliceRun.{IsMoved, IsSliceRun, can_take};
 ghost use Rattle.guest_kernel.specs.Call.{After};
 ghost use Rattle.guest_kernel.specs.Peek.{peeked};
@@ -99,7 +100,6 @@ fn advance(
     ensures { IfOk result (λ a. IsMoved supply.now tid limit state.old (traced trace.old) a.steps a.yielded state.new (traced trace.new)) }
 {
     turn_laws();
-    turn_peek::laws::a_read_starts_where_the_input_is();
     let steps = stretch(state, tid, peek, limit);
     if steps > 0 {
         return Ok(Moved {
@@ -107,13 +107,34 @@ fn advance(
             yielded: false,
         });
     }
+    let yielded = one_turn(alloc, state, supply, tid, peek, trace)?;
+    Ok(Moved { steps: 1, yielded })
+}
+
+// Takes one turn of a thread, which can be taken. Returns whether it was a yield.
+pub(crate) fn one_turn(
+    alloc: Global,
+    state: &mut State,
+    supply: &Supply,
+    tid: Tid,
+    peek: Peek,
+    trace: &mut Trace,
+) -> Result<bool, OutOfMemory>
+    requires peeked { peek ≡ peeked state.old tid }
+    requires can { can_take supply.now peek ≡ true }
+    requires little_read { length (bytes_read trace.old.answers) < EPOCH_END_BYTES }
+    requires countable { state.old.steps + 1 < 2 ^ 64 }
+    ensures { IfOk result (λ yielded. HasTurned supply.now tid state.old (traced trace.old) yielded state.new (traced trace.new)) }
+{
+    turn_laws();
+    turn_peek::laws::a_read_starts_where_the_input_is();
     let answer = answer_to(alloc, supply, peek)?;
     let Turn::Stepped { yielded, .. } = state.turn(alloc, tid, answer.as_ref(), &mut trace.out)?
     else {
         unreachable!();
     };
     trace.put(answer)?;
-    Ok(Moved { steps: 1, yielded })
+    Ok(yielded)
 }
 
 // Takes plain steps of a thread, at most so many. It has none where its next turn is a call or an AMO.

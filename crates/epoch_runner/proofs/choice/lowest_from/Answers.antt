@@ -1,11 +1,12 @@
-use Rattle.std.proofs.Common.{◌∙◌, ap, sym}
-use Rattle.epoch_runner.specs.Answering.{is_ready}
-use Rattle.epoch_runner.specs.Schedule.{lowest_from}
-use Rattle.epoch_runner.proofs.Choosing.{lowest_found}
+use Rattle.std.proofs.Common.{◌+◌, ◌-◌, ◌∙◌, length, refl, sym, arith}
+use Rattle.epoch_runner.specs.Answering.{ready_at}
+use Rattle.epoch_runner.proofs.LowestThreads.{lowest_of-next}
 use Rattle.epoch_runner.proofs.choice.lowest_from.Goals as goal
 
-pub returns : goal.returns
-returns c =
-    let ready = is_ready c.args.state.now c.args.supply.now in
-    lowest_found ready c.as_slice-threads.result.now c.args.least c.saturating_sub-before.result c.in_ok-index.index c.saturating_sub-before.ensures (sym c.first_ready.ensures ∙ c.in_ok-index.was)
-    ∙ ap (lowest_from ready c.args.least) c.as_slice-threads.ensures.threads
+pub threads-preserved : goal.threads-preserved
+threads-preserved c =
+    let count = length c.args.state.now.threads in (
+      omega arith,
+      c.threads.invariant.1
+          ∙ lowest_of-next (ready_at c.args.state.now c.args.supply.now) c.threads.number count (count + 1 - c.threads.number) refl (omega (arith, c.threads-test.true, c.len.ensures.count)) (sym c.ready_at.ensures ∙ c.if-ready_at.false),
+    )

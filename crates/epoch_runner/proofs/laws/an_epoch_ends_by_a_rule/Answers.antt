@@ -3,16 +3,16 @@ use Rattle.epoch_runner.proofs.laws.an_epoch_ends_by_a_rule.Goals as goal
 
 pub returns-clause-stops : goal.returns-clause-stops
 returns-clause-stops c =
-    λ start w bounds e output end is. scheduled_stops c.turn_laws.ensures c.run_laws.ensures c.a_reservation_asks_for_nothing.ensures start w bounds e output end is
+    λ start hints w bounds e output end is. scheduled_stops c.turn_laws.ensures c.run_laws.ensures c.a_reservation_asks_for_nothing.ensures start hints w bounds e output end is
 
 pub returns-clause-few : goal.returns-clause-few
 returns-clause-few c =
-    λ start w bounds e output end is. scheduled_few c.turn_laws.ensures c.run_laws.ensures c.a_reservation_asks_for_nothing.ensures start w bounds e output end is
+    λ start hints w bounds e output end is. scheduled_few c.turn_laws.ensures c.run_laws.ensures c.a_reservation_asks_for_nothing.ensures start hints w bounds e output end is
 
 pub returns-clause-writes : goal.returns-clause-writes
 returns-clause-writes c =
-    λ start w bounds e output end is. scheduled_little c.turn_laws.ensures c.run_laws.ensures c.a_reservation_asks_for_nothing.ensures start w bounds e output end is
+    λ start hints w bounds e output end is. scheduled_little c.turn_laws.ensures c.run_laws.ensures c.a_reservation_asks_for_nothing.ensures start hints w bounds e output end is
 
 pub returns-clause-reads : goal.returns-clause-reads
 returns-clause-reads c =
-    λ start w bounds e output end is. scheduled_little_read c.turn_laws.ensures c.run_laws.ensures c.a_reservation_asks_for_nothing.ensures start w bounds e output end is
+    λ start hints w bounds e output end is. scheduled_little_read c.turn_laws.ensures c.run_laws.ensures c.a_reservation_asks_for_nothing.ensures start hints w bounds e output end is

@@ -5,66 +5,60 @@ use Rattle.guest_kernel.specs.declared.state.State.{State}
 use Rattle.guest_kernel.specs.Answers.{bytes_read}
 use Rattle.epoch_runner.specs.Running.{IsRunOf}
 use Rattle.epoch_runner.specs.Schedule.{IsScheduled, begins_with}
-use Rattle.epoch_runner.specs.SliceRun.{Traced, next_slice}
+use Rattle.epoch_runner.specs.SliceRun.{EpochSoFar, next_slice}
 use Rattle.epoch_runner.specs.Trace.{traced}
-use Rattle.epoch_runner.proofs.Epochs.{EpochSoFar, is_scheduled, nothing_done, opens, run_of, slice_more, untraced}
+use Rattle.epoch_runner.proofs.Epochs.{is_scheduled, opens, run_of, slice_more}
 use Rattle.epoch_runner.proofs.run.run_from.Goals as goal
 
 pub slices-init : goal.slices-init
-slices-init c =
-    let w = c.args.supply.now in
-    let next : Option Tid = Some c.args.first in
-    subst (λ (xs : List Slice). EpochSoFar c.args.start w c.args.bounds xs c.args.bounds.steps c.in_ok-state.state (traced c.new-trace.result) next) (sym c.new-slices.ensures)
-    (subst (λ (t : Traced). EpochSoFar c.args.start w c.args.bounds [] c.args.bounds.steps c.in_ok-state.state t next) (sym c.new-trace.ensures)
-    (subst (λ (s : State). EpochSoFar c.args.start w c.args.bounds [] c.args.bounds.steps s untraced next) (sym c.in_ok-state.ensures)
-    (nothing_done c.args.start w c.args.bounds c.args.first c.requires.first)))
+slices-init c = c.in_ok-course.ensures
 
 pub run_slice-requires-clause-alive : goal.run_slice-requires-clause-alive
 run_slice-requires-clause-alive c =
     let l = c.slices in
     let w = c.args.supply.now in
-    let so_far : EpochSoFar c.args.start w c.args.bounds l.slices l.left l.state (traced l.trace) (Some c.in-Some.tid) =
-    subst (λ (o : Option Tid). EpochSoFar c.args.start w c.args.bounds l.slices l.left l.state (traced l.trace) o) c.in-Some.is l.invariant in
-    (opens c.turn_laws.ensures c.run_laws.ensures c.a_reservation_asks_for_nothing.ensures c.args.start w c.args.bounds l.slices l.left l.state (traced l.trace) c.in-Some.tid so_far).is_open.alive
+    let so_far : EpochSoFar c.args.start c.args.hints.now w c.args.bounds l.slices l.left l.state (traced l.trace) (Some c.in-Some.tid) =
+    subst (λ (o : Option Tid). EpochSoFar c.args.start c.args.hints.now w c.args.bounds l.slices l.left l.state (traced l.trace) o) c.in-Some.is l.invariant in
+    (opens c.turn_laws.ensures c.run_laws.ensures c.a_reservation_asks_for_nothing.ensures c.args.start c.args.hints.now w c.args.bounds l.slices l.left l.state (traced l.trace) c.in-Some.tid so_far).is_open.alive
 
 pub run_slice-requires-clause-ready : goal.run_slice-requires-clause-ready
 run_slice-requires-clause-ready c =
     let l = c.slices in
     let w = c.args.supply.now in
-    let so_far : EpochSoFar c.args.start w c.args.bounds l.slices l.left l.state (traced l.trace) (Some c.in-Some.tid) =
-    subst (λ (o : Option Tid). EpochSoFar c.args.start w c.args.bounds l.slices l.left l.state (traced l.trace) o) c.in-Some.is l.invariant in
-    (opens c.turn_laws.ensures c.run_laws.ensures c.a_reservation_asks_for_nothing.ensures c.args.start w c.args.bounds l.slices l.left l.state (traced l.trace) c.in-Some.tid so_far).is_open.ready
+    let so_far : EpochSoFar c.args.start c.args.hints.now w c.args.bounds l.slices l.left l.state (traced l.trace) (Some c.in-Some.tid) =
+    subst (λ (o : Option Tid). EpochSoFar c.args.start c.args.hints.now w c.args.bounds l.slices l.left l.state (traced l.trace) o) c.in-Some.is l.invariant in
+    (opens c.turn_laws.ensures c.run_laws.ensures c.a_reservation_asks_for_nothing.ensures c.args.start c.args.hints.now w c.args.bounds l.slices l.left l.state (traced l.trace) c.in-Some.tid so_far).is_open.ready
 
 pub run_slice-requires-clause-little : goal.run_slice-requires-clause-little
 run_slice-requires-clause-little c =
     let l = c.slices in
     let w = c.args.supply.now in
-    let so_far : EpochSoFar c.args.start w c.args.bounds l.slices l.left l.state (traced l.trace) (Some c.in-Some.tid) =
-    subst (λ (o : Option Tid). EpochSoFar c.args.start w c.args.bounds l.slices l.left l.state (traced l.trace) o) c.in-Some.is l.invariant in
-    (opens c.turn_laws.ensures c.run_laws.ensures c.a_reservation_asks_for_nothing.ensures c.args.start w c.args.bounds l.slices l.left l.state (traced l.trace) c.in-Some.tid so_far).is_open.little
+    let so_far : EpochSoFar c.args.start c.args.hints.now w c.args.bounds l.slices l.left l.state (traced l.trace) (Some c.in-Some.tid) =
+    subst (λ (o : Option Tid). EpochSoFar c.args.start c.args.hints.now w c.args.bounds l.slices l.left l.state (traced l.trace) o) c.in-Some.is l.invariant in
+    (opens c.turn_laws.ensures c.run_laws.ensures c.a_reservation_asks_for_nothing.ensures c.args.start c.args.hints.now w c.args.bounds l.slices l.left l.state (traced l.trace) c.in-Some.tid so_far).is_open.little
 
 pub run_slice-requires-clause-little_read : goal.run_slice-requires-clause-little_read
 run_slice-requires-clause-little_read c =
     let l = c.slices in
     let w = c.args.supply.now in
-    let so_far : EpochSoFar c.args.start w c.args.bounds l.slices l.left l.state (traced l.trace) (Some c.in-Some.tid) =
-    subst (λ (o : Option Tid). EpochSoFar c.args.start w c.args.bounds l.slices l.left l.state (traced l.trace) o) c.in-Some.is l.invariant in
-    (opens c.turn_laws.ensures c.run_laws.ensures c.a_reservation_asks_for_nothing.ensures c.args.start w c.args.bounds l.slices l.left l.state (traced l.trace) c.in-Some.tid so_far).is_open.little_read
+    let so_far : EpochSoFar c.args.start c.args.hints.now w c.args.bounds l.slices l.left l.state (traced l.trace) (Some c.in-Some.tid) =
+    subst (λ (o : Option Tid). EpochSoFar c.args.start c.args.hints.now w c.args.bounds l.slices l.left l.state (traced l.trace) o) c.in-Some.is l.invariant in
+    (opens c.turn_laws.ensures c.run_laws.ensures c.a_reservation_asks_for_nothing.ensures c.args.start c.args.hints.now w c.args.bounds l.slices l.left l.state (traced l.trace) c.in-Some.tid so_far).is_open.little_read
 
 pub run_slice-requires-clause-some : goal.run_slice-requires-clause-some
 run_slice-requires-clause-some c =
     let l = c.slices in
     let w = c.args.supply.now in
-    let so_far : EpochSoFar c.args.start w c.args.bounds l.slices l.left l.state (traced l.trace) (Some c.in-Some.tid) =
-    subst (λ (o : Option Tid). EpochSoFar c.args.start w c.args.bounds l.slices l.left l.state (traced l.trace) o) c.in-Some.is l.invariant in
-    (opens c.turn_laws.ensures c.run_laws.ensures c.a_reservation_asks_for_nothing.ensures c.args.start w c.args.bounds l.slices l.left l.state (traced l.trace) c.in-Some.tid so_far).some
+    let so_far : EpochSoFar c.args.start c.args.hints.now w c.args.bounds l.slices l.left l.state (traced l.trace) (Some c.in-Some.tid) =
+    subst (λ (o : Option Tid). EpochSoFar c.args.start c.args.hints.now w c.args.bounds l.slices l.left l.state (traced l.trace) o) c.in-Some.is l.invariant in
+    (opens c.turn_laws.ensures c.run_laws.ensures c.a_reservation_asks_for_nothing.ensures c.args.start c.args.hints.now w c.args.bounds l.slices l.left l.state (traced l.trace) c.in-Some.tid so_far).some
 
 pub slices-preserved : goal.slices-preserved
 slices-preserved c =
     let l = c.slices in
     let w = c.args.supply.now in
-    let so_far : EpochSoFar c.args.start w c.args.bounds l.slices l.left l.state (traced l.trace) (Some c.in-Some.tid) =
-    subst (λ (o : Option Tid). EpochSoFar c.args.start w c.args.bounds l.slices l.left l.state (traced l.trace) o) c.in-Some.is l.invariant in
+    let so_far : EpochSoFar c.args.start c.args.hints.now w c.args.bounds l.slices l.left l.state (traced l.trace) (Some c.in-Some.tid) =
+    subst (λ (o : Option Tid). EpochSoFar c.args.start c.args.hints.now w c.args.bounds l.slices l.left l.state (traced l.trace) o) c.in-Some.is l.invariant in
     let tid = c.in-Some.tid in
     let steps = c.in_ok-steps.steps in
     let after = c.run_slice.new.state in
@@ -75,36 +69,36 @@ slices-preserved c =
     c.next_thread-next.ensures ∙ ap (λ n. next_slice after w n c.run_slice.new.trace.read (l.left - steps) (tid.0 + 1)) size
     ∙ ap (λ n. next_slice after w (length behind.output) n (l.left - steps) (tid.0 + 1)) c.run_slice.new.trace.counted in
     let numbered : tid.0 < 2 ^ 16 = omega arith in
-    let more = slice_more c.turn_laws.ensures c.run_laws.ensures c.a_reservation_asks_for_nothing.ensures c.args.start w c.args.bounds l.slices l.left l.state (traced l.trace) tid steps after behind next
+    let more = slice_more c.turn_laws.ensures c.run_laws.ensures c.a_reservation_asks_for_nothing.ensures c.args.start c.args.hints.now w c.args.bounds l.slices l.left l.state (traced l.trace) tid steps after behind next
     so_far c.in_ok-steps.ensures next_is numbered in
-    subst (λ (xs : List Slice). EpochSoFar c.args.start w c.args.bounds xs (l.left - steps) c.end_slice.new.self behind next) (sym c.in_ok-put.ensures.ok)
-    (subst (λ (s : State). EpochSoFar c.args.start w c.args.bounds (l.slices ++ record { tid = tid; steps = steps } ∷ []) (l.left - steps) s behind next) (sym c.end_slice.ensures) more)
+    subst (λ (xs : List Slice). EpochSoFar c.args.start c.args.hints.now w c.args.bounds xs (l.left - steps) c.end_slice.new.self behind next) (sym c.in_ok-put.ensures.ok)
+    (subst (λ (s : State). EpochSoFar c.args.start c.args.hints.now w c.args.bounds (l.slices ++ record { tid = tid; steps = steps } ∷ []) (l.left - steps) s behind next) (sym c.end_slice.ensures) more)
 
 pub invariant_of-result : goal.invariant_of-result
 invariant_of-result c =
     let l = c.slices in
     let w = c.args.supply.now in
-    let so_far : EpochSoFar c.args.start w c.args.bounds l.slices l.left l.state (traced l.trace) None =
-    subst (λ (o : Option Tid). EpochSoFar c.args.start w c.args.bounds l.slices l.left l.state (traced l.trace) o) c.in_default.is l.invariant in
+    let so_far : EpochSoFar c.args.start c.args.hints.now w c.args.bounds l.slices l.left l.state (traced l.trace) None =
+    subst (λ (o : Option Tid). EpochSoFar c.args.start c.args.hints.now w c.args.bounds l.slices l.left l.state (traced l.trace) o) c.in_default.is l.invariant in
     let runs : IsRunOf c.args.start (record { slices = l.slices; answers = l.trace.answers }) c.from_vec.result l.state =
     subst (λ (o : List ℕ). IsRunOf c.args.start (record { slices = l.slices; answers = l.trace.answers }) o l.state) (sym c.from_vec.ensures)
-    (run_of c.turn_laws.ensures c.run_laws.ensures c.a_reservation_asks_for_nothing.ensures c.args.start w c.args.bounds l.slices l.left l.state (traced l.trace) c.lengths.ensures.epoch c.epochs_fit_records.ensures so_far) in
+    (run_of c.turn_laws.ensures c.run_laws.ensures c.a_reservation_asks_for_nothing.ensures c.args.start c.args.hints.now w c.args.bounds l.slices l.left l.state (traced l.trace) c.lengths.ensures.epoch c.epochs_fit_records.ensures so_far) in
     record { runs = ∣ runs.ran ∣₁; is_epoch = ∣ runs.is_epoch ∣₁; fits = ∣ runs.fits ∣₁ }
 
 pub returns : goal.returns
 returns c =
     let l = c.slices in
     let w = c.args.supply.now in
-    let so_far : EpochSoFar c.args.start w c.args.bounds l.slices l.left l.state (traced l.trace) None =
-    subst (λ (o : Option Tid). EpochSoFar c.args.start w c.args.bounds l.slices l.left l.state (traced l.trace) o) c.in_default.is l.invariant in
+    let so_far : EpochSoFar c.args.start c.args.hints.now w c.args.bounds l.slices l.left l.state (traced l.trace) None =
+    subst (λ (o : Option Tid). EpochSoFar c.args.start c.args.hints.now w c.args.bounds l.slices l.left l.state (traced l.trace) o) c.in_default.is l.invariant in
     let runs : IsRunOf c.args.start (record { slices = l.slices; answers = l.trace.answers }) c.from_vec.result l.state =
     subst (λ (o : List ℕ). IsRunOf c.args.start (record { slices = l.slices; answers = l.trace.answers }) o l.state) (sym c.from_vec.ensures)
-    (run_of c.turn_laws.ensures c.run_laws.ensures c.a_reservation_asks_for_nothing.ensures c.args.start w c.args.bounds l.slices l.left l.state (traced l.trace) c.lengths.ensures.epoch c.epochs_fit_records.ensures so_far) in
+    (run_of c.turn_laws.ensures c.run_laws.ensures c.a_reservation_asks_for_nothing.ensures c.args.start c.args.hints.now w c.args.bounds l.slices l.left l.state (traced l.trace) c.lengths.ensures.epoch c.epochs_fit_records.ensures so_far) in
     record {
       from = refl;
       some_steps = so_far.some_steps;
       could_step = so_far.could_step;
-      scheduled = subst (λ (o : List ℕ). IsScheduled c.args.start w c.args.bounds (record { slices = l.slices; answers = l.trace.answers }) o l.state) (sym c.from_vec.ensures)
-          (is_scheduled c.turn_laws.ensures c.run_laws.ensures c.a_reservation_asks_for_nothing.ensures c.args.start w c.args.bounds l.slices l.left l.state (traced l.trace) so_far);
+      scheduled = subst (λ (o : List ℕ). IsScheduled c.args.start c.args.hints.now w c.args.bounds (record { slices = l.slices; answers = l.trace.answers }) o l.state) (sym c.from_vec.ensures)
+          (is_scheduled c.turn_laws.ensures c.run_laws.ensures c.a_reservation_asks_for_nothing.ensures c.args.start c.args.hints.now w c.args.bounds l.slices l.left l.state (traced l.trace) so_far);
       runs = runs;
     }
