@@ -1,215 +1,43 @@
--- An epoch that follows hints, turns after turns.
-use Rattle.std.proofs.Common.{◌≡◌, ◌⊎◌, inl, inr, ◌+◌, ◌-◌, ◌^◌, ◌<◌, ◌≤◌, ℕ, zero, suc, Bool, true, false, cond, not, ◌||◌, List, [], ◌∷◌, ◌++◌, length, Option, Some, None, Result, Ok, Err, IfOk, refl, sym, ap, subst, ◌∙◌, arith}
-use Rattle.std.specs.Prelude.{◌==◌, nat_le, nat_lt, slice_get}
-use Rattle.std.specs.List.{AllByRecursion, list_any}
-use Rattle.std.proofs.lemmas.Bool.{and_from, and_left, both_ways, cases_lt, cond-true, eq-eqb, le-leb, leb-false, lt-ltb, not_from_false, not_from_true, or_parts}
+-- Turns by hints, and what an epoch is after them.
+use Rattle.std.proofs.Common.{◌≡◌, inl, inr, ◌+◌, ◌-◌, ◌^◌, ◌<◌, ◌≤◌, ℕ, zero, suc, Bool, true, false, cond, not, ◌||◌, List, [], ◌∷◌, length, Option, Some, None, Result, Ok, Err, IfOk, refl, sym, ap, subst, ◌∙◌, arith}
+use Rattle.std.specs.Prelude.{◌==◌, nat_lt, slice_get}
+use Rattle.std.specs.List.{AllByRecursion}
+use Rattle.std.proofs.lemmas.Bool.{and_from, eq-eqb, lt-ltb, not_from_true}
 use Rattle.std.proofs.lemmas.List.{length-append}
-use Rattle.std.proofs.lemmas.List.Sums.{sum_by_push}
 use Rattle.dp_base.specs.declared.answer.Answer.{Answer}
 use Rattle.dp_base.specs.declared.limits.TheConstants.{EPOCH_END_BYTES}
 use Rattle.dp_base.specs.declared.slice.Slice.{Slice}
 use Rattle.dp_base.specs.declared.tid.Tid.{Tid}
-use Rattle.dp_base.specs.Journal.{IsAnswer, IsSlice, steps_of}
+use Rattle.dp_base.specs.Journal.{IsAnswer, steps_of}
 use Rattle.guest_state.specs.declared.thread.Thread.{Thread}
 use Rattle.guest_kernel.specs.declared.state.State.{State}
 use Rattle.guest_kernel.specs.Answers.{bytes_read}
 use Rattle.guest_kernel.specs.Call.{After}
 use Rattle.guest_kernel.specs.Peek.{peeked}
 use Rattle.guest_kernel.specs.Slices.{at}
-use Rattle.guest_kernel.specs.State.{has_ended, without_reservation}
+use Rattle.guest_kernel.specs.State.{has_ended}
 use Rattle.guest_kernel.specs.Threads.{thread_at}
 use Rattle.guest_kernel.specs.Turn.{turn, yields}
-use Rattle.epoch_runner.specs.Answering.{answers_for, can_step, is_ready, ready_at, ready_by}
+use Rattle.epoch_runner.specs.Answering.{answers_for, ready_at, ready_by}
 use Rattle.epoch_runner.specs.declared.bounds.Bounds.{Bounds}
 use Rattle.epoch_runner.specs.declared.stage.HintTurn.{HintTurn}
-use Rattle.epoch_runner.specs.Hinted.{Following, HintedTurn, any_left, at_entry, goes_plain, hinted, is_plain, is_thread, left_of, lefts, less, plain_turn}
-use Rattle.epoch_runner.specs.HintRun.{HasFollowed, HasGonePlain, HasTaken, HasTurned, HintedSoFar, IsAt, IsHand, IsInHand, IsNextTurn, IsStopped, begins_by, hand_steps, hand_thread, with_hand, with_steps, without_hand}
-use Rattle.epoch_runner.specs.Schedule.{Course, after_last, begins_from, begins_with, closed, closed_by, course, ends, ends_epoch, followed, next, progress, starting, step, takes_turn, turn_of, turned}
-use Rattle.epoch_runner.specs.SliceRun.{EpochSoFar, Traced, next_slice}
+use Rattle.epoch_runner.specs.Hinted.{Following, HintedTurn, any_left, goes_plain, hinted, is_plain, is_thread, left_of, less, plain_turn}
+use Rattle.epoch_runner.specs.HintRun.{HasGonePlain, HasTaken, HasTurned, HintedSoFar, IsAt, IsHand, IsInHand, IsNextTurn, begins_by, hand_steps, with_steps, without_hand}
+use Rattle.epoch_runner.specs.Schedule.{Course, course, followed, next, progress, starting, step, takes_turn, turn_of, turned}
+use Rattle.epoch_runner.specs.SliceRun.{EpochSoFar, Traced}
 use Rattle.dp_base.proofs.Lists.{all_append}
-use Rattle.guest_kernel.proofs.Dropping.{without_reservation-steps}
+use Rattle.epoch_runner.proofs.HintHands.{Held, base, hand_count, hand_last, in_hand}
 use Rattle.epoch_runner.proofs.Courses.{course-alike, course-from, one_course}
-use Rattle.epoch_runner.proofs.Epochs.{all-push, none_went, number_of, overwritten, untraced}
+use Rattle.epoch_runner.proofs.Epochs.{number_of, overwritten}
 use Rattle.epoch_runner.proofs.HintTurns.{goes_on_plain}
 use Rattle.epoch_runner.proofs.LeftSteps.{less-left, less-less, some_left}
-use Rattle.epoch_runner.proofs.Nexts.{GoesOn, dropped_next, goes_on_with, hinted_can, hinted_goes, used_up_next}
+use Rattle.epoch_runner.proofs.Nexts.{GoesOn, hinted_can, hinted_goes}
 use Rattle.epoch_runner.proofs.Readiness.{ready_runs, ready_some}
 use Rattle.epoch_runner.proofs.Reservations.{closed_answers, closed_counts, closed_end, closed_output, closed_ready}
-use Rattle.epoch_runner.proofs.Slicing.{by_rule, ends_by_left}
 use Rattle.epoch_runner.proofs.Stretch.{KeepsOn, inside_by, none_yet, stretch_by, traced_more}
 use Rattle.epoch_runner.specs.KernelLaws.{ReservationLaw, TurnLaws}
 use Rattle.supply.specs.Supplied.{Supplied}
 use Rattle.sync_hints.specs.declared.hints.Hints.{Hints}
-use Rattle.sync_hints.specs.declared.hints.SyncHint.{SyncHint}
-
--- ---- the start
-
-pub hinted_start : (start : State) (hints : Hints) (w : Supplied) (bounds : Bounds) → 0 < bounds.steps → can_step start w ≡ true → any_left (lefts hints.counts) ≡ true
-    → HintedSoFar start hints w bounds start [] untraced bounds.steps None (at_entry (lefts hints.counts) hints.order)
-hinted_start start hints w bounds some can any = record {
-  count = 0;
-  here = starting start hints;
-  went = none_went w bounds (starting start hints);
-  state_is = refl;
-  slices_are = refl;
-  output_is = refl;
-  answers_are = refl;
-  hints_are = cond-true (any_left (lefts hints.counts)) (Some (at_entry (lefts hints.counts) hints.order)) None any;
-  hand_is = (refl, refl);
-  sum = omega arith;
-  counted = omega arith;
-  turns_are = omega arith;
-  few_answers = omega arith;
-  are_answers = tt;
-  each = tt;
-  some_steps = some;
-  could_step = can;
-}
-
-pub at_entry-left : (left : List ℕ) (order : List SyncHint) → (at_entry left order).left ≡ left
-at_entry-left left [] = refl
-at_entry-left left (x ∷ xs) = refl
-
--- the same by other names
-pub so_far_by : (start : State) (hints : Hints) (w : Supplied) (bounds : Bounds) (s z : State) (slices xs : List Slice) (t u : Traced) (left n : ℕ) (hand o : Option Slice) (f g : Following)
-    → HintedSoFar start hints w bounds s slices t left hand f → z ≡ s → xs ≡ slices → u ≡ t → n ≡ left → o ≡ hand → g ≡ f → HintedSoFar start hints w bounds z xs u n o g
-so_far_by start hints w bounds s z slices xs t u left n hand o f g so_far state_is slices_are trace_is left_is hand_is hints_are =
-    subst (λ k. HintedSoFar start hints w bounds z xs u n o k) (sym hints_are)
-    (subst (λ k. HintedSoFar start hints w bounds z xs u n k f) (sym hand_is)
-    (subst (λ k. HintedSoFar start hints w bounds z xs u k hand f) (sym left_is)
-    (subst (λ k. HintedSoFar start hints w bounds z xs k left hand f) (sym trace_is)
-    (subst (λ k. HintedSoFar start hints w bounds z k t left hand f) (sym slices_are) (subst (λ k. HintedSoFar start hints w bounds k slices t left hand f) (sym state_is) so_far)))))
-
--- whether more turns were taken or not
-pub followed_so_far : (more : Bool) (start : State) (hints : Hints) (w : Supplied) (bounds : Bounds) (s : State) (slices : List Slice) (t : Traced) (before left : ℕ) (hand : Option Slice) (f : Following)
-    → HasFollowed more start hints w bounds s slices t before left hand f → HintedSoFar start hints w bounds s slices t left hand f
-followed_so_far true start hints w bounds s slices t before left hand f is = is.0
-followed_so_far false start hints w bounds s slices t before left hand f is = is.0
-
-pub followed_stops : (more : Bool) (start : State) (hints : Hints) (w : Supplied) (bounds : Bounds) (s : State) (slices : List Slice) (t : Traced) (before left : ℕ) (hand : Option Slice) (f : Following)
-    → HasFollowed more start hints w bounds s slices t before left hand f → more ≡ false → IsStopped w s t left f
-followed_stops true start hints w bounds s slices t before left hand f is never = absurd cc
-followed_stops false start hints w bounds s slices t before left hand f is none = is.1.0
-
-pub followed_less : (more : Bool) (start : State) (hints : Hints) (w : Supplied) (bounds : Bounds) (s : State) (slices : List Slice) (t : Traced) (before left : ℕ) (hand : Option Slice) (f : Following)
-    → HasFollowed more start hints w bounds s slices t before left hand f → left + cond more 1 0 < before + 1
-followed_less true start hints w bounds s slices t before left hand f is = omega (arith, is.1)
-followed_less false start hints w bounds s slices t before left hand f is = omega (arith, is.1.1)
-
--- an epoch that isn't over may go on
-pub not_over : (ended : Bool) (left output read : ℕ) → (ended || (left == 0) || nat_le EPOCH_END_BYTES output || nat_le EPOCH_END_BYTES read) ≡ false
-    → (ended ≡ false) × ((0 < left) × ((output < EPOCH_END_BYTES) × (read < EPOCH_END_BYTES)))
-not_over ended left output read is =
-    let three = or_parts (ended || (left == 0) || nat_le EPOCH_END_BYTES output) (nat_le EPOCH_END_BYTES read) is in
-    let two = or_parts (ended || (left == 0)) (nat_le EPOCH_END_BYTES output) three.0 in
-    let one = or_parts ended (left == 0) two.0 in
-    (one.0, (some (cases_lt 0 left) one.1, (leb-false EPOCH_END_BYTES output two.1, leb-false EPOCH_END_BYTES read three.1)))
-  where
-    some : (0 < left) ⊎ (left ≤ 0) → (left == 0) ≡ false → 0 < left
-    some (inl is) e = is
-    some (inr none) e = absurd (both_ways (left == 0) e (eq-eqb left 0 (omega (arith, none))))
-
--- ---- the slice in hand
-
--- the course in whose slice the turn is taken
-abbrev pub base : Course → Bool → Course
-base c true = closed c
-base c false = c
-
--- the slice in hand as the course has it
-pub record Held (here : Course) (begins : Bool) (tid : Tid) (count : ℕ) (s : State) (slices : List Slice) (hand : Option Slice) : Type 0 where
-  pub held : ℕ
-  pub hand_is : hand ≡ Some (record { tid = tid; steps = held })
-  pub state_is : s ≡ (base here begins).state
-  pub done_is : slices ≡ (base here begins).done
-  pub held_is : held ≡ (base here begins).in_slice
-  pub each : AllByRecursion IsSlice slices
-  pub sum : steps_of slices + held ≡ count
-
--- once it is over
-pub record Over (here : Course) (count : ℕ) (s : State) (slices : List Slice) : Type 0 where
-  pub state_is : s ≡ (closed here).state
-  pub done_is : slices ≡ (closed here).done
-  pub empty : (closed here).in_slice ≡ 0
-  pub each : AllByRecursion IsSlice slices
-  pub sum : steps_of slices ≡ count
-
-pub hand_over : (start : State) (hints : Hints) (w : Supplied) (bounds : Bounds) (s : State) (slices : List Slice) (t : Traced) (left : ℕ) (hand : Option Slice) (f : Following)
-    → (so_far : HintedSoFar start hints w bounds s slices t left hand f) → Over so_far.here so_far.count (without_hand s hand) (with_hand slices hand)
-hand_over start hints w bounds s slices t left None f so_far =
-    let here = so_far.here in
-    let none : closed_by here here.last ≡ here = ap (closed_by here) so_far.hand_is.0 in
-    record {
-      state_is = so_far.state_is ∙ sym (ap (λ (c : Course). c.state) none);
-      done_is = so_far.slices_are ∙ sym (ap (λ (c : Course). c.done) none);
-      empty = ap (λ (c : Course). c.in_slice) none ∙ so_far.hand_is.1;
-      each = so_far.each;
-      sum = omega (arith, so_far.turns_are);
-    }
-hand_over start hints w bounds s slices t left (Some x) f so_far =
-    let here = so_far.here in
-    let one : closed_by here here.last ≡ closed_by here (Some x.tid) = ap (closed_by here) so_far.hand_is.0 in
-    let slice : record { tid = x.tid; steps = here.in_slice } ≡ x = ap (λ n. record { tid = x.tid; steps = n }) so_far.hand_is.1.0 in
-    record {
-      state_is = ap (λ (z : State). without_reservation z x.tid) so_far.state_is ∙ sym (ap (λ (c : Course). c.state) one);
-      done_is = ap (λ xs. xs ++ x ∷ []) so_far.slices_are ∙ ap (λ (y : Slice). here.done ++ y ∷ []) (sym slice) ∙ sym (ap (λ (c : Course). c.done) one);
-      empty = ap (λ (c : Course). c.in_slice) one;
-      each = all-push IsSlice slices x so_far.each so_far.hand_is.1.1;
-      sum = omega (arith, sum_by_push (λ (y : Slice). y.steps) slices x, so_far.turns_are);
-    }
-
-pub hand_last : (hand : Option Slice) (here : Course) → IsHand hand here → hand_thread hand ≡ here.last
-hand_last None here is = sym is.0
-hand_last (Some x) here is = sym is.0
-
-pub hand_count : (hand : Option Slice) (here : Course) → IsHand hand here → here.in_slice ≡ hand_steps hand
-hand_count None here is = is.1
-hand_count (Some x) here is = is.1.0
-
--- a slice of the turn's thread is in hand
-pub in_hand : (start : State) (hints : Hints) (w : Supplied) (bounds : Bounds) (s : State) (slices : List Slice) (t : Traced) (left : ℕ) (hand : Option Slice) (f : Following)
-    → (so_far : HintedSoFar start hints w bounds s slices t left hand f) → (turn : HintTurn) (begins : Bool) → begins_by hand turn ≡ begins → (after : State) (over : List Slice) (held : Option Slice)
-    → IsInHand begins turn.tid s slices hand after over held → Held so_far.here begins turn.tid so_far.count after over held
-in_hand start hints w bounds s slices t left hand f so_far turn true begins_is after over held is =
-    let closing = hand_over start hints w bounds s slices t left hand f so_far in
-    record {
-      held = 0;
-      hand_is = is.1.1;
-      state_is = is.0 ∙ closing.state_is;
-      done_is = is.1.0 ∙ closing.done_is;
-      held_is = sym closing.empty;
-      each = subst (AllByRecursion IsSlice) (sym is.1.0) closing.each;
-      sum = ap (λ xs. steps_of xs + 0) is.1.0 ∙ (let none : steps_of (with_hand slices hand) + 0 ≡ so_far.count = omega (arith, closing.sum) in none);
-    }
-in_hand start hints w bounds s slices t left hand f so_far turn false begins_is after over held is = by_hand hand refl (this_thread_of (hand_thread hand) turn.tid turn.fresh begins_is)
-  where
-    this_thread_of : (o : Option Tid) (tid : Tid) (fresh : Bool) → (fresh || not (is_thread o tid)) ≡ false → o ≡ Some tid
-    this_thread_of o tid fresh e = goes (goes_on_with o tid fresh false e)
-      where
-        goes : (false ≡ true) ⊎ (o ≡ Some tid) → o ≡ Some tid
-        goes (inl never) = absurd cc
-        goes (inr same) = same
-
-    by_hand : (o : Option Slice) → hand ≡ o → hand_thread hand ≡ Some turn.tid → Held so_far.here false turn.tid so_far.count after over held
-    by_hand None hand_so same = absurd (never (sym (ap hand_thread hand_so) ∙ same))
-      where
-        never : hand_thread None ≡ Some turn.tid → ⊥
-        never e = absurd cc
-    by_hand (Some x) hand_so same =
-        let mine : IsHand (Some x) so_far.here = subst (λ o. IsHand o so_far.here) hand_so so_far.hand_is in
-        let tid_is : x.tid ≡ turn.tid = some_same x.tid turn.tid (sym (ap hand_thread hand_so) ∙ same) in
-        record {
-          held = x.steps;
-          hand_is = is.1.1 ∙ hand_so ∙ ap (λ i. Some (record { tid = i; steps = x.steps })) tid_is;
-          state_is = is.0 ∙ so_far.state_is;
-          done_is = is.1.0 ∙ so_far.slices_are;
-          held_is = sym mine.1.0;
-          each = subst (AllByRecursion IsSlice) (sym is.1.0) so_far.each;
-          sum = ap (λ xs. steps_of xs + x.steps) is.1.0 ∙ (let sums : steps_of slices + x.steps ≡ so_far.count = ap (λ o. steps_of slices + hand_steps o) (sym hand_so) ∙ so_far.turns_are in sums);
-        }
-      where
-        some_same : (a b : Tid) → Some a ≡ Some b → a ≡ b
-        some_same a b e = cc
 
 -- ---- turns
 
@@ -460,81 +288,6 @@ module _ (laws : TurnLaws) (reserved : ReservationLaw) where
         some_steps = so_far.some_steps;
         could_step = so_far.could_step;
       }
-
--- ---- where no more turns are taken by hints
-
-ends_by : (w : Supplied) (bounds : Bounds) (c : Course) (s : State) (t : Traced) (left : ℕ) → s ≡ c.state → t.output ≡ c.output → t.answers ≡ c.answers → (steps_of c.done + c.in_slice) + left ≡ bounds.steps
-    → (has_ended s.end ≡ true) ⊎ ((left ≡ 0) ⊎ ((EPOCH_END_BYTES ≤ length t.output) ⊎ (EPOCH_END_BYTES ≤ length (bytes_read t.answers)))) → ends_epoch c.state w bounds (progress c) ≡ true
-ends_by w bounds c s t left state output answers sum (inl ended) =
-    by_rule (not (can_step c.state w)) (nat_le bounds.steps (steps_of c.done + c.in_slice)) (nat_le EPOCH_END_BYTES (length c.output)) (nat_le EPOCH_END_BYTES (length (bytes_read c.answers)))
-    (inl (not_from_false (can_step c.state w) (and_left (not (has_ended c.state.end)) (list_any (is_ready c.state w) c.state.threads) (not_from_true (has_ended c.state.end) (ap (λ (z : State). has_ended z.end) (sym state) ∙ ended)))))
-ends_by w bounds c s t left state output answers sum (inr (inl none)) =
-    by_rule (not (can_step c.state w)) (nat_le bounds.steps (steps_of c.done + c.in_slice)) (nat_le EPOCH_END_BYTES (length c.output)) (nat_le EPOCH_END_BYTES (length (bytes_read c.answers)))
-    (inr (inl (le-leb bounds.steps (steps_of c.done + c.in_slice) (omega (arith, sum, none)))))
-ends_by w bounds c s t left state output answers sum (inr (inr (inl long))) =
-    by_rule (not (can_step c.state w)) (nat_le bounds.steps (steps_of c.done + c.in_slice)) (nat_le EPOCH_END_BYTES (length c.output)) (nat_le EPOCH_END_BYTES (length (bytes_read c.answers)))
-    (inr (inr (inl (le-leb EPOCH_END_BYTES (length c.output) (subst (λ o. EPOCH_END_BYTES ≤ length o) output long)))))
-ends_by w bounds c s t left state output answers sum (inr (inr (inr long))) =
-    by_rule (not (can_step c.state w)) (nat_le bounds.steps (steps_of c.done + c.in_slice)) (nat_le EPOCH_END_BYTES (length c.output)) (nat_le EPOCH_END_BYTES (length (bytes_read c.answers)))
-    (inr (inr (inr (le-leb EPOCH_END_BYTES (length (bytes_read c.answers)) (subst (λ a. EPOCH_END_BYTES ≤ length (bytes_read a)) answers long)))))
-
-pub hinted_stop : (start : State) (hints : Hints) (w : Supplied) (bounds : Bounds) (s : State) (slices : List Slice) (t : Traced) (left : ℕ) (hand : Option Slice) (f : Following) (following : Option Tid)
-    → (so_far : HintedSoFar start hints w bounds s slices t left hand f)
-    → (any_left f.left ≡ false → following ≡ None)
-    → (any_left f.left ≡ true → begins_with following ≡ next_slice s w (length t.output) (length (bytes_read t.answers)) left (after_last bounds (hand_thread hand)))
-    → IsStopped w s t left f
-    → EpochSoFar start hints w bounds (with_hand slices hand) left (without_hand s hand) t following
-hinted_stop start hints w bounds s slices t left hand f following so_far used_up dropped stops =
-    let here = so_far.here in
-    let closing = hand_over start hints w bounds s slices t left hand f so_far in
-    record {
-      count = so_far.count;
-      here = here;
-      went = so_far.went;
-      next_is = by (any_left f.left) refl;
-      state_is = closing.state_is;
-      slices_are = closing.done_is;
-      output_is = so_far.output_is;
-      answers_are = so_far.answers_are;
-      sum = so_far.sum;
-      counted = over_counts hand ∙ so_far.counted;
-      turns_are = closing.sum;
-      few_answers = so_far.few_answers;
-      are_answers = so_far.are_answers;
-      each = closing.each;
-      some_steps = so_far.some_steps;
-      could_step = so_far.could_step;
-    }
-  where
-    over_counts : (o : Option Slice) → (without_hand s o).steps ≡ s.steps
-    over_counts None = refl
-    over_counts (Some x) = without_reservation-steps s x.tid
-
-    turns_are : steps_of so_far.here.done + so_far.here.in_slice ≡ so_far.count
-    turns_are = ap (λ xs. steps_of xs + so_far.here.in_slice) (sym so_far.slices_are) ∙ ap (λ n. steps_of slices + n) (hand_count hand so_far.here so_far.hand_is) ∙ so_far.turns_are
-
-    sum : (steps_of so_far.here.done + so_far.here.in_slice) + left ≡ bounds.steps
-    sum = omega (arith, turns_are, so_far.sum)
-
-    -- the rules as the code has them
-    as_code : cond (ends_epoch so_far.here.state w bounds (progress so_far.here)) ends (begins_from so_far.here.state w (after_last bounds so_far.here.last))
-        ≡ next_slice s w (length t.output) (length (bytes_read t.answers)) left (after_last bounds (hand_thread hand))
-    as_code =
-        let c = so_far.here in
-        ap (λ b. cond b ends (begins_from c.state w (after_last bounds c.last))) (ends_by_left c.state w bounds (progress c) left sum)
-        ∙ ap (λ (z : State). next_slice z w (length c.output) (length (bytes_read c.answers)) left (after_last bounds c.last)) (sym so_far.state_is)
-        ∙ ap (λ o. next_slice s w (length o) (length (bytes_read c.answers)) left (after_last bounds c.last)) (sym so_far.output_is)
-        ∙ ap (λ a. next_slice s w (length t.output) (length (bytes_read a)) left (after_last bounds c.last)) (sym so_far.answers_are)
-        ∙ ap (λ o. next_slice s w (length t.output) (length (bytes_read t.answers)) left (after_last bounds o)) (sym (hand_last hand c so_far.hand_is))
-
-    why : any_left f.left ≡ true → IsStopped w s t left f → (ends_epoch so_far.here.state w bounds (progress so_far.here) ≡ true) ⊎ (hinted so_far.here.state w f ≡ None)
-    why any (inl over) = inl (ends_by w bounds so_far.here s t left so_far.state_is so_far.output_is so_far.answers_are sum over)
-    why any (inr (inl none)) = absurd (both_ways (any_left f.left) none any)
-    why any (inr (inr none)) = inr (ap (λ (z : State). hinted z w f) (sym so_far.state_is) ∙ none)
-
-    by : (b : Bool) → any_left f.left ≡ b → next so_far.here.state w bounds (progress so_far.here) ≡ begins_with following
-    by true any = dropped_next so_far.here.state w bounds (progress so_far.here) f so_far.hints_are any (why any stops) ∙ as_code ∙ sym (dropped any)
-    by false none = used_up_next so_far.here.state w bounds (progress so_far.here) f so_far.hints_are none ∙ sym (ap begins_with (used_up none))
 
 -- one turn as it is answered
 pub taken_one : {E : Type 0} (r : Result ℕ E) (w : Supplied) (tid : Tid) (plain : Bool) (s : State) (t : Traced) (after : State) (behind : Traced) → IfOk r (λ n. n ≡ 1) → IfOk r (λ n. (yielded : Bool) × HasTurned w tid s t yielded after behind)

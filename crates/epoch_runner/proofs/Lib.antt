@@ -10,7 +10,9 @@ mod CourseRuns
 mod Stretch
 mod Slicing
 mod Epochs
+mod HintHands
 mod Hinting
+mod HintStops
 mod Waiting
 mod Supplies
 mod SuppliedTurns

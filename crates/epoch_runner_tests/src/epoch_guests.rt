@@ -6,6 +6,7 @@ use guest_kernel::{End, Hart, Pages, State, Thread, Threads};
 use std::alloc::{AllocError, Global};
 use std::test::Fail;
 use supply::{MAX_ROOM, Supply};
+use sync_hints::Hints;
 use test_worlds::{Failing, inlet_of};
 
 // jal x0, 0: a jump to itself
@@ -170,7 +171,7 @@ pub(crate) fn x10_of(state: &State) -> u32 {
     }
 }
 
-// The epoch of a state, with a supply: so many steps and so many in a slice, from this thread on.
+// The epoch of a state without hints, with a supply: so many steps and so many in a slice, from this thread on.
 pub(crate) fn run_within(
     alloc: Global,
     start: State,
@@ -185,7 +186,7 @@ pub(crate) fn run_within(
         slice,
         first,
     };
-    Ok(run_epoch(alloc, start, supply, bounds)?)
+    Ok(run_epoch(alloc, start, &Hints::none(alloc), supply, bounds)?)
 }
 
 // What the epoch of a guest has done, or `None` where there is nothing to run.

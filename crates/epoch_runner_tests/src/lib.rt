@@ -2,13 +2,19 @@
 //! answers come from.
 //!
 //! This crate is its tests: they call `epoch_runner` and `supply` as a crate above them does. Each slice and each window was worked
-//! out by hand.
+//! out by hand, and those of epochs that follow hints by a model that was written apart from this code.
 #![tactic(auto)]
 
 #[cfg(test)]
 mod epoch_guests;
 #[cfg(test)]
 mod epoch_tests;
+#[cfg(test)]
+mod hint_tests;
+#[cfg(test)]
+mod hinted_call_tests;
+#[cfg(test)]
+mod hinted_guests;
 #[cfg(test)]
 mod input_tests;
 #[cfg(test)]

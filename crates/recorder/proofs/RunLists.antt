@@ -11,6 +11,8 @@ use Rattle.epoch_runner.specs.Answering.{input_due}
 use Rattle.epoch_runner.specs.declared.bounds.Bounds.{Bounds}
 use Rattle.epoch_runner.specs.Schedule.{IsScheduled}
 use Rattle.supply.specs.Supplied.{Supplied}
+use Rattle.sync_hints.specs.NoHints.{no_hints}
+use Rattle.sync_hints.specs.declared.hints.Hints.{Hints}
 use Rattle.recorder.specs.Drawing.{Draw, Round, answers_of, draws_of, epochs_of, supply_behind, supply_of}
 use Rattle.guest_kernel.specs.declared.state.State.{State}
 use Rattle.guest_kernel.specs.Call.{After}
@@ -31,7 +33,7 @@ chain_end (Ok end) written mid before is = (end.1, ap (λ (s : State). Ok (s, en
 
 -- what is run by the schedule is the run of its slices
 abbrev pub RunsAsScheduled : Type 0
-RunsAsScheduled = (start : State) (w : Supplied) (bounds : Bounds) (e : Epoch) (output : List ℕ) (end : State) → IsScheduled start w bounds e output end
+RunsAsScheduled = (start : State) (hints : Hints) (w : Supplied) (bounds : Bounds) (e : Epoch) (output : List ℕ) (end : State) → IsScheduled start hints w bounds e output end
     → run e.slices (at start [] e.answers) ≡ Ok (at end output [])
 
 -- a round behind a run is next
@@ -53,7 +55,7 @@ each-push runs options first start w (x ∷ xs) mid before r end output each cha
     let there : State = each.0 in
     let written : List ℕ = each.1 in
     let behind : either (chain there (epochs_of xs)) (λ count. Err (count + 1)) (onto written) ≡ Ok (mid, before) =
-    sym (ap (λ (a : Result After (Stop × After)). either a (λ stop. Err 0) (λ here. either (chain here.state (epochs_of xs)) (λ count. Err (count + 1)) (onto here.output))) (runs start (supply_of w x.draw) each.3.bounds x.epoch written there each.3.scheduled)) ∙ chained in
+    sym (ap (λ (a : Result After (Stop × After)). either a (λ stop. Err 0) (λ here. either (chain here.state (epochs_of xs)) (λ count. Err (count + 1)) (onto here.output))) (runs start no_hints (supply_of w x.draw) each.3.bounds x.epoch written there each.3.scheduled)) ∙ chained in
     let last = chain_end (chain there (epochs_of xs)) written mid before behind in
     (there, written, each.2, each.3, each-push runs options (first_behind first x.epoch.slices) there (supply_of w x.draw) xs mid last.0 r end output each.4 last.1 due next_)
 

@@ -21,6 +21,7 @@ use Rattle.epoch_runner.specs.declared.bounds.Bounds.{Bounds}
 use Rattle.epoch_runner.specs.Answering.{input_due}
 use Rattle.epoch_runner.specs.Schedule.{IsScheduled}
 use Rattle.supply.specs.Supplied.{Supplied, empty}
+use Rattle.sync_hints.specs.NoHints.{no_hints}
 use Rattle.supply.specs.declared.TheConstants.{MAX_ROOM}
 use Rattle.recorder.specs.Drawing.{Draw, HasDrawn, Round, answers_of, draws_of, epochs_of, supply_behind, supply_of}
 use Rattle.checkpoint.specs.State.{digest_of}
@@ -45,14 +46,14 @@ abbrev pub first_after : ℕ → List Epoch → ℕ
 first_after first [] = first
 first_after first (e ∷ epochs) = first_after (first_behind first e.slices) epochs
 
--- An epoch from one state to another, as the schedule runs it with a supply, within the options' bounds. This thread is tried
+-- An epoch from one state to another, as the schedule runs it without hints and with a supply, within the options' bounds. This thread is tried
 -- first.
 pub record IsNext (options : Options) (first : ℕ) (s : State) (w : Supplied) (e : Epoch) (end : State) (output : List ℕ) : Type 0 where
   pub bounds : Bounds
   pub steps : bounds.steps ≡ epoch_steps options s
   pub slice : bounds.slice ≡ options.slice
   pub first_is : bounds.first ≡ first
-  pub scheduled : IsScheduled s w bounds e output end
+  pub scheduled : IsScheduled s no_hints w bounds e output end
   pub is_epoch : IsEpoch e
   pub fits : IsBody (epoch_body e)
 

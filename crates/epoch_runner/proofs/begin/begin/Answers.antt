@@ -4,7 +4,9 @@ use Rattle.epoch_runner.specs.Hinted.{Following, any_left, at_entry, lefts}
 use Rattle.epoch_runner.specs.HintRun.{HintedSoFar, IsStopped, following_of, with_hand, without_hand}
 use Rattle.epoch_runner.specs.Trace.{traced}
 use Rattle.epoch_runner.proofs.Epochs.{nothing_done, untraced}
-use Rattle.epoch_runner.proofs.Hinting.{at_entry-left, epoch_by, followed_less, followed_so_far, followed_stops, hinted_start, hinted_stop, so_far_by}
+use Rattle.epoch_runner.proofs.HintHands.{at_entry-left, followed_less, followed_so_far, followed_stops, hinted_start, so_far_by}
+use Rattle.epoch_runner.proofs.Hinting.{epoch_by}
+use Rattle.epoch_runner.proofs.HintStops.{hinted_stop}
 use Rattle.epoch_runner.proofs.begin.begin.Goals as goal
 
 pub returns-then-not-any_left : goal.returns-then-not-any_left

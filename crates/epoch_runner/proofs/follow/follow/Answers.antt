@@ -5,7 +5,8 @@ use Rattle.epoch_runner.specs.Hinted.{HintedTurn, left_of, less}
 use Rattle.epoch_runner.specs.HintRun.{HasTaken, begins_by, following_of, with_steps}
 use Rattle.epoch_runner.specs.SliceRun.{Traced}
 use Rattle.epoch_runner.specs.Trace.{traced}
-use Rattle.epoch_runner.proofs.Hinting.{Goes, hinted_more, not_over, so_far_by, taken_some, turn_open}
+use Rattle.epoch_runner.proofs.HintHands.{not_over, so_far_by}
+use Rattle.epoch_runner.proofs.Hinting.{Goes, hinted_more, taken_some, turn_open}
 use Rattle.epoch_runner.proofs.Nexts.{hinted_can}
 use Rattle.epoch_runner.proofs.follow.follow.Goals as goal
 

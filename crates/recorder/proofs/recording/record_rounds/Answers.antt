@@ -15,6 +15,7 @@ use Rattle.epoch_runner.specs.declared.bounds.Bounds.{Bounds}
 use Rattle.epoch_runner.specs.declared.epoch_run.EpochRun.{EpochRun}
 use Rattle.epoch_runner.specs.Running.{HasRunEpoch}
 use Rattle.supply.specs.Supplied.{Supplied}
+use Rattle.sync_hints.specs.NoHints.{no_hints}
 use Rattle.recorder.specs.declared.options.Options.{Options}
 use Rattle.epoch_record.specs.Epoch.{epoch_of}
 use Rattle.recorder.specs.Drawing.{Round, epochs_of}
@@ -31,7 +32,7 @@ is_guest : (file : List ℕ) → length file ≤ MAX_GUEST_BYTES → AreBytes fi
 is_guest file few bytes = (omega (arith, few), bytes)
 
 -- an epoch that was run within its bounds is next
-is_next : (options : Options) (first : ℕ) (s : State) (w : Supplied) (bounds : Bounds) (r : EpochRun) → bounds.steps ≡ epoch_steps options s → bounds.slice ≡ options.slice → bounds.first ≡ first → HasRunEpoch s w bounds r
+is_next : (options : Options) (first : ℕ) (s : State) (w : Supplied) (bounds : Bounds) (r : EpochRun) → bounds.steps ≡ epoch_steps options s → bounds.slice ≡ options.slice → bounds.first ≡ first → HasRunEpoch s no_hints w bounds r
     → IsNext options first s w (epoch_of r.epoch) r.end r.out
 is_next options first s w bounds r steps slice first_is is = record {
   bounds = bounds;
@@ -129,7 +130,7 @@ returns-in_err-commit_epoch-clause-recorded g c =
     let run_ = c.in_ok-frame.run' in
     let bounds = c.bounds_from-bounds.result in
     let ran = c.in_ok-frame.ensures.run in
-    let supplied = c.an_epoch_is_supplied.ensures l.state with_ bounds (epoch_of run_.epoch) run_.out run_.end ran.scheduled placed.0 placed.1 in
+    let supplied = c.an_epoch_is_supplied.ensures l.state no_hints with_ bounds (epoch_of run_.epoch) run_.out run_.end ran.scheduled placed.0 placed.1 in
     let p = err_from_is_err_and c.from_residual-in_err-commit_epoch.result c.from_residual-in_err-commit_epoch.ensures.1 in
     let next_ = is_next c.args.options (first_after 1 (epochs_of so_far.done)) l.state with_ bounds run_ c.bounds_from-bounds.ensures.steps c.bounds_from-bounds.ensures.slice (c.bounds_from-bounds.ensures.first ∙ l.invariant.first_is) ran in
     rw (p.1 ∙ ap (λ e. Err e) p.2) (commit_failed c.args.guest.now (is_guest c.args.guest.now (c.a_file_without_fault_has_segments.ensures.size c.args.guest.now c.requires.guest) (λ i. omega (arith, c.type_inv.guest i))) c.args.options c.args.start _ _ _ _ l.state l.supply l.journal l.epochs l.sent so_far laws _ with_ round _ (epoch_of run_.epoch) run_.end run_.out next_ supplied c.in_ok-frame.frame c.in_ok-frame.ensures.frame
@@ -167,7 +168,7 @@ rounds-preserved g c =
     let ran = c.in_ok-frame.ensures.run in
     let e = epoch_of run_.epoch in
     let there = at run_.end run_.out [] in
-    let supplied = c.an_epoch_is_supplied.ensures l.state with_ bounds e run_.out run_.end ran.scheduled placed.0 placed.1 in
+    let supplied = c.an_epoch_is_supplied.ensures l.state no_hints with_ bounds e run_.out run_.end ran.scheduled placed.0 placed.1 in
     let next_ = is_next c.args.options (first_after 1 (epochs_of so_far.done)) l.state with_ bounds run_ c.bounds_from-bounds.ensures.steps c.bounds_from-bounds.ensures.slice (c.bounds_from-bounds.ensures.first ∙ l.invariant.first_is) ran in
     let goes_on : CanGoOn run_.end = record {
       runs = c.a_guest_goes_on_while_a_thread_runs.ensures.run l.state e.slices e.answers there ran.runs.ran so_far.goes_on.runs;
@@ -175,7 +176,7 @@ rounds-preserved g c =
     } in
     let done = committed c.args.guest.now (is_guest c.args.guest.now (c.a_file_without_fault_has_segments.ensures.size c.args.guest.now c.requires.guest) (λ i. omega (arith, c.type_inv.guest i))) c.args.options c.args.start _ _ _ _ l.state l.supply l.journal l.epochs l.sent so_far laws _ with_ round _ e run_.end run_.out next_ supplied c.in_ok-frame.frame c.in_ok-frame.ensures.frame
     c.a_scheduled_run_is_a_run.ensures goes_on ran.runs.counted (c.a_run_is_as_long_as_its_slices.ensures.reads l.state e.slices e.answers there ran.runs.ran)
-    (omega (arith, c.an_epoch_ends_by_a_rule.ensures.few l.state with_ bounds e run_.out run_.end ran.scheduled, c.bounds_from-bounds.ensures.steps)) (c.an_epoch_ends_by_a_rule.ensures.writes l.state with_ bounds e run_.out run_.end ran.scheduled)
+    (omega (arith, c.an_epoch_ends_by_a_rule.ensures.few l.state no_hints with_ bounds e run_.out run_.end ran.scheduled, c.bounds_from-bounds.ensures.steps)) (c.an_epoch_ends_by_a_rule.ensures.writes l.state no_hints with_ bounds e run_.out run_.end ran.scheduled)
     (c.an_epoch_more.ensures c.args.start (epochs_of so_far.done) e l.state so_far.output there so_far.chained ran.runs.ran)
     c.commit_epoch.new.journal c.in_ok-frame.ensures.some c.in_ok-commit_epoch.ensures.numbers c.in_ok-commit_epoch.ensures.history in
     let first : c.next_first-first.result ≡ first_after 1 (epochs_of so_far.done ++ e ∷ []) =
@@ -252,7 +253,7 @@ returns-in_err-commit_epoch-clause-moments g c =
     let run_ = c.in_ok-frame.run' in
     let bounds = c.bounds_from-bounds.result in
     let ran = c.in_ok-frame.ensures.run in
-    let supplied = c.an_epoch_is_supplied.ensures l.state with_ bounds (epoch_of run_.epoch) run_.out run_.end ran.scheduled placed.0 placed.1 in
+    let supplied = c.an_epoch_is_supplied.ensures l.state no_hints with_ bounds (epoch_of run_.epoch) run_.out run_.end ran.scheduled placed.0 placed.1 in
     let next_ = is_next c.args.options (first_after 1 (epochs_of so_far.done)) l.state with_ bounds run_ c.bounds_from-bounds.ensures.steps c.bounds_from-bounds.ensures.slice (c.bounds_from-bounds.ensures.first ∙ l.invariant.first_is) ran in
     let longer = c.an_epoch_more.ensures c.args.start (epochs_of so_far.done) (epoch_of run_.epoch) l.state so_far.output (at run_.end run_.out []) so_far.chained ran.runs.ran in
     commit_failed_moments c.args.guest.now (is_guest c.args.guest.now (c.a_file_without_fault_has_segments.ensures.size c.args.guest.now c.requires.guest) (λ i. omega (arith, c.type_inv.guest i))) c.args.options c.args.start _ _ _ _ l.state l.supply l.journal l.epochs l.sent so_far laws _ with_ round _ (epoch_of run_.epoch) run_.end run_.out next_ supplied c.in_ok-frame.frame c.in_ok-frame.ensures.frame
