@@ -2,10 +2,11 @@
 //!
 //! Promises: `decode` gives the instruction that a word encodes, and `None` exactly where it is illegal (`specs/Decoding.antt`);
 //! over a memory whose pages are known `exec` does what the instruction at pc does, or answers the first trap that applies
-//! (`specs/Execution.antt`, `specs/Step.antt`). After `Ecall`, `Trap`, `Busy` and an `Err` the hart is as it was, and so is a memory
-//! whose pages are known. Over any memory a step is busy if an access was, and an SC whose store the memory has lost says so in its
-//! register (`specs/Contention.antt`). `laws` says what follows from the definitions alone. Stands on `dp_base` for `Mem`, on
-//! `guest_state` for `Hart`, and in its proofs on `byteorder`.
+//! (`specs/Execution.antt`, `specs/Step.antt`). `exec_word` does what a word's instruction does, for a caller that has fetched the
+//! word. After `Ecall`, `Trap`, `Busy` and an `Err` the hart is as it was, and so is a memory whose pages are known. Over any memory
+//! a step is busy if an access was, and an SC whose store the memory has lost says so in its register (`specs/Contention.antt`).
+//! `laws` says what follows from the definitions alone. Stands on `dp_base` for `Mem`, on `guest_state` for `Hart`, and in its
+//! proofs on `byteorder`.
 //!
 //! ```text
 //! match exec(&mut hart, &mut memory)? {
@@ -33,5 +34,5 @@ pub use control::address;
 pub use decoding::decode;
 pub use dp_base::is_below_signed;
 pub use instr::Instr;
-pub use step::exec;
+pub use step::{INSTRUCTION_DENIED, INSTRUCTION_MISALIGNED, exec, exec_word};
 pub use stepped::Stepped;

@@ -10,9 +10,11 @@ use crate::stepped::Stepped;
 use dp_base::{Access, Mem, OutOfMemory};
 use guest_state::Hart;
 
-const INSTRUCTION_MISALIGNED: u8 = 0;
+/// The cause of the trap at a pc that isn't a multiple of 4.
+pub const INSTRUCTION_MISALIGNED: u8 = 0;
 
-const INSTRUCTION_DENIED: u8 = 1;
+/// The cause of the trap at a pc whose word may not be executed.
+pub const INSTRUCTION_DENIED: u8 = 1;
 
 const ILLEGAL_INSTRUCTION: u8 = 2;
 
@@ -37,7 +39,7 @@ pub fn exec<M: Mem>(hart: &mut Hart, memory: &mut M) -> Result<Stepped, OutOfMem
         });
     }
     match memory.fetch(hart.pc) {
-        Access::Done(word) => execute_word(word, hart, memory),
+        Access::Done(word) => exec_word(word, hart, memory),
         Access::Denied => Ok(Stepped::Trap {
             cause: INSTRUCTION_DENIED,
             value: hart.pc,
@@ -46,9 +48,11 @@ pub fn exec<M: Mem>(hart: &mut Hart, memory: &mut M) -> Result<Stepped, OutOfMem
     }
 }
 
-#[inline]
+/// Executes the instruction that a word encodes, as `exec` does once it has fetched the word. Returns a trap if the word is illegal.
+/// Whether the word is the one at pc isn't tested.
+#[inline(always)]
 #[tactic(auto, unfolding(crate::specs::Contention::AccountsAt))]
-fn execute_word<M: Mem>(word: u32, hart: &mut Hart, memory: &mut M) -> Result<Stepped, OutOfMemory>
+pub fn exec_word<M: Mem>(word: u32, hart: &mut Hart, memory: &mut M) -> Result<Stepped, OutOfMemory>
     ensures answer { IfSome (M.memory memory.old) (λ m. IfOk result (λ stepped. stepped ≡ answer_for (of_instruction hart.old m word (decoded word)))) }
     ensures hart { IfSome (M.memory memory.old) (λ m. OnOk result (hart.new ≡ hart_after (of_instruction hart.old m word (decoded word)) hart.old)) }
     ensures memory { IfSome (M.memory memory.old) (λ m. OnOk result (M.memory memory.new ≡ Some (memory_after (of_instruction hart.old m word (decoded word)) m))) }
