@@ -1,8 +1,11 @@
 // Epochs by hints of guests that call, and ends of epochs under hints. Each outcome is that of a model of the
 // machine and of its schedule, which was written apart from this code.
 use crate::epoch_guests::Stands::{Runs, Waits};
+use crate::epoch_guests::{ECALL, EXIT_ALL, nothing_known};
 use crate::hinted_guests::*;
+use guest_kernel::start_from_file;
 use std::test::Fail;
+use test_files::file_of;
 
 fn exits_under_hints_rows() -> [Row; 6] {
     [
@@ -255,5 +258,24 @@ fn hints_of_hi(rt: HostRuntime) -> Result<(), Fail> {
     let (rows, threads) = (hints_of_hi_rows(), [Runs(0)]);
     let found = differences(rt.alloc(), &HI, &threads, 65536, &rows)?;
     assert_eq!(rt; found.as_str(), "");
+    Ok(())
+}
+
+// A guest from its file, whose start has a stack too: addi x10, x0, 7; addi x17, x0, 1; ecall.
+#[test]
+fn counts_of_a_file(rt: HostRuntime) -> Result<(), Fail> {
+    let alloc = rt.alloc();
+    let file = file_of(alloc, &[0x0070_0513, EXIT_ALL, ECALL])?;
+    for (counts, expected) in [
+        ("1:2", "1:2; x10 7 0"),
+        ("1:3", "1:2 1:1; exit 7; x10 7 0"),
+        ("-", "1:3; exit 7; x10 7 0"),
+    ] {
+        let start = start_from_file(alloc, &file)?;
+        let hints = hints_of(alloc, counts, "-")?;
+        let supply = nothing_known(alloc)?;
+        let found = outcome(alloc, start, &hints, &supply, (20_000, 1_000, 1))?;
+        assert_eq!(rt; found.as_str(), expected);
+    }
     Ok(())
 }

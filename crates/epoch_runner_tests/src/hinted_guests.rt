@@ -231,6 +231,13 @@ fn order_of(alloc: Global, text: &str) -> Result<Log<SyncHint>, Fail> {
     Ok(order)
 }
 
+pub(crate) fn hints_of(alloc: Global, counts: &str, order: &str) -> Result<Hints, Fail> {
+    Ok(Hints {
+        counts: counts_of(alloc, counts)?,
+        order: order_of(alloc, order)?,
+    })
+}
+
 fn bounds_of(text: &str) -> (u32, u32, u16) {
     let (steps, rest) = text.split_once(' ').unwrap_or((text, ""));
     let (slice, first) = rest.split_once(' ').unwrap_or((rest, ""));
@@ -292,7 +299,7 @@ fn outcome_of(alloc: Global, run: &EpochRun) -> Result<String, AllocError> {
     Ok(text)
 }
 
-fn outcome(
+pub(crate) fn outcome(
     alloc: Global,
     start: State,
     hints: &Hints,
@@ -330,10 +337,7 @@ pub(crate) fn differences(
         let (order, rest) = field_of(rest);
         let (bounds, expected) = field_of(rest);
         let start = start_of(alloc, code, threads, input)?;
-        let hints = Hints {
-            counts: counts_of(alloc, counts)?,
-            order: order_of(alloc, order)?,
-        };
+        let hints = hints_of(alloc, counts, order)?;
         let found = outcome(alloc, start, &hints, &supply, bounds_of(bounds))?;
         if found.as_str() != expected {
             text.push_str(&format!(in alloc; "{row}, but {}\n", found.as_str())?)?;
