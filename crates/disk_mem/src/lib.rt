@@ -1,5 +1,5 @@
 //! The outside of a recorder and of a replayer in memory: `MemWorld` is a disk and two output streams, `MemFiles` are files by name,
-//! `MemInlet` is an input in pieces, and a clock.
+//! `MemInlet` is an input in pieces, and a clock. A `HoldGate` shows whether two jobs run at once.
 //!
 //! Promises: a call on a `MemWorld` fails only by its number, as the `Fails` of its kind says, or with `allocation_failed`
 //! true from then on. A fetch fails only by its number or at a name that no file has, or it answers `OutOfMemory`. A
@@ -24,6 +24,7 @@ mod contents;
 mod counter;
 mod crash;
 mod fails;
+mod hold_gate;
 mod mem_files;
 mod mem_inlet;
 mod mem_world;
@@ -32,6 +33,7 @@ mod pieces;
 
 pub use call::Call;
 pub use fails::{CallNumbers, Fails};
+pub use hold_gate::HoldGate;
 pub use mem_files::MemFiles;
 pub use mem_inlet::MemInlet;
 pub use mem_world::MemWorld;
