@@ -41,7 +41,7 @@ left_of left tid = or_none (slice_get left tid.0)
 abbrev pub any_left : List ℕ → Bool
 any_left left = list_any (nat_lt 0) left
 
--- behind this many steps of a thread
+-- after this many steps of a thread
 abbrev pub less : List ℕ → Tid → ℕ → List ℕ
 less left tid steps = slice_set left tid.0 (left_of left tid - steps)
 

@@ -44,8 +44,8 @@ pub data Next : Type 0 where
   turn_of : (tid : Tid) (begins : Bool) (hints : Option Following) → Next
   ends : Next
 
--- An epoch ends where no thread can step, at its bound of steps, and behind the step at which its output is long enough, or what it
--- has read.
+-- An epoch ends if no thread can step, at its bound of steps, and after the step at which its output is long enough, or what it has
+-- read.
 abbrev pub ends_epoch : State → Supplied → Bounds → Progress → Bool
 ends_epoch s w bounds p = not (can_step s w) || nat_le bounds.steps p.turns || nat_le EPOCH_END_BYTES p.output || nat_le EPOCH_END_BYTES p.read
 
@@ -137,7 +137,7 @@ closed_by c (Some tid) = record c { state = without_reservation c.state tid; don
 abbrev pub closed : Course → Course
 closed c = closed_by c c.last
 
--- behind one turn of a thread that took these answers
+-- after one turn of a thread that took these answers, with what is left of the hints
 abbrev pub turned : Course → Tid → Option Following → List Answer → Result After Refusal → Option Course
 turned c tid hints answers (Ok after) = Some (record c {
   state = after.state;
@@ -163,12 +163,12 @@ followed w c ends = None
 abbrev pub step : Supplied → Bounds → Course → Option Course
 step w bounds c = followed w c (next c.state w bounds (progress c))
 
--- so many turns, each the one that is next
+-- this many turns, each the one that is next
 unfoldable pub course : ℕ → Supplied → Bounds → Course → Option Course
 course zero w bounds c = Some c
 course (suc n) w bounds c = course n w bounds c >>= step w bounds
 
--- A run of an epoch by the schedule: each turn is the one that is next, and it stops where the epoch first ends.
+-- A run of an epoch by the schedule: each turn is the one that is next, and it stops when the epoch first ends.
 pub record IsScheduled (start : State) (hints : Hints) (w : Supplied) (bounds : Bounds) (e : Epoch) (output : List ℕ) (end : State) : Type 0 where
   pub turns : ℕ
   pub last : Course

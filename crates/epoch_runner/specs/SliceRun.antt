@@ -36,7 +36,7 @@ abbrev pub IsEarlyRead : Peek → Type 0
 IsEarlyRead (peeks.Read place max) = place < 2 ^ 64 - MAX_CALL_BYTES
 IsEarlyRead peek = ⊥
 
--- in a slice of a thread, behind so many steps of it, by round robin
+-- in a slice of a thread by round robin, after this many steps of it
 abbrev pub inside : State → Traced → List Slice → Tid → ℕ → Bool → Course
 inside s t done tid in_slice yielded =
     record { state = s; output = t.output; answers = t.answers; done = done; last = Some tid; in_slice = in_slice; yielded = yielded; hints = None }
