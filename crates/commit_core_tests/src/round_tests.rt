@@ -41,7 +41,7 @@ fn letter(verdict: &Verdict) -> (char, u32) {
         Verdict::Double { i } => ('d', *i),
         Verdict::Stranger { i } => ('s', *i),
         Verdict::NotYet { i } => ('y', *i),
-        Verdict::Commit { out, .. } => ('c', out.len() as u32),
+        Verdict::Commit { .. } => ('c', 0),
         Verdict::Squash { i } => ('q', *i),
         Verdict::Over { i } => ('o', *i),
         Verdict::Closed => ('x', 0),
@@ -136,9 +136,8 @@ fn rounds() -> [Round; 7] {
 
 fn judged(alloc: Global, round: Round) -> Result<([(char, u32); 4], u64), Fail> {
     let mut core = Core::round(alloc, state_at(alloc, 0)?, 3)?;
-    let mut index = 0;
-    for (before, steps) in [round.first, round.second, round.third] {
-        index += 1;
+    let jobs = [(1, round.first), (2, round.second), (3, round.third)];
+    for (index, (before, steps)) in jobs {
         let ran = ran(alloc, state_at(alloc, before)?, steps)?;
         if tell(&mut core, index, ran) != [('n', 0); 4] {
             return Err("it is noted".into());
