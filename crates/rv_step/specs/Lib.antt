@@ -5,6 +5,7 @@ pub mod Effect
 pub mod Extension
 pub mod Execution
 pub mod Step
+pub mod Atomic
 pub mod Contention
 pub mod Encoding
 pub mod Frame

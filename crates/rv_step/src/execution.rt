@@ -183,47 +183,47 @@ pub fn execute<M: Mem>(
         }),
         Instr::LrW { rd, rs1 } => {
             let at = hart.register(rs1);
-            load_reserved(hart, memory, rd, at)
+            load_reserved(hart, memory, rd, at).outcome(at)
         }
         Instr::ScW { rd, rs1, rs2 } => {
             let (at, value) = (hart.register(rs1), hart.register(rs2));
-            store_conditional(hart, memory, rd, at, value)
+            store_conditional(hart, memory, rd, at, value).outcome(at)
         }
         Instr::AmoswapW { rd, rs1, rs2 } => {
             let (at, value) = (hart.register(rs1), hart.register(rs2));
-            change_word(hart, memory, AmoOp::Swap, rd, at, value)
+            change_word(hart, memory, AmoOp::Swap, rd, at, value).outcome(at)
         }
         Instr::AmoaddW { rd, rs1, rs2 } => {
             let (at, value) = (hart.register(rs1), hart.register(rs2));
-            change_word(hart, memory, AmoOp::Add, rd, at, value)
+            change_word(hart, memory, AmoOp::Add, rd, at, value).outcome(at)
         }
         Instr::AmoxorW { rd, rs1, rs2 } => {
             let (at, value) = (hart.register(rs1), hart.register(rs2));
-            change_word(hart, memory, AmoOp::Xor, rd, at, value)
+            change_word(hart, memory, AmoOp::Xor, rd, at, value).outcome(at)
         }
         Instr::AmoandW { rd, rs1, rs2 } => {
             let (at, value) = (hart.register(rs1), hart.register(rs2));
-            change_word(hart, memory, AmoOp::And, rd, at, value)
+            change_word(hart, memory, AmoOp::And, rd, at, value).outcome(at)
         }
         Instr::AmoorW { rd, rs1, rs2 } => {
             let (at, value) = (hart.register(rs1), hart.register(rs2));
-            change_word(hart, memory, AmoOp::Or, rd, at, value)
+            change_word(hart, memory, AmoOp::Or, rd, at, value).outcome(at)
         }
         Instr::AmominW { rd, rs1, rs2 } => {
             let (at, value) = (hart.register(rs1), hart.register(rs2));
-            change_word(hart, memory, AmoOp::Min, rd, at, value)
+            change_word(hart, memory, AmoOp::Min, rd, at, value).outcome(at)
         }
         Instr::AmomaxW { rd, rs1, rs2 } => {
             let (at, value) = (hart.register(rs1), hart.register(rs2));
-            change_word(hart, memory, AmoOp::Max, rd, at, value)
+            change_word(hart, memory, AmoOp::Max, rd, at, value).outcome(at)
         }
         Instr::AmominuW { rd, rs1, rs2 } => {
             let (at, value) = (hart.register(rs1), hart.register(rs2));
-            change_word(hart, memory, AmoOp::MinU, rd, at, value)
+            change_word(hart, memory, AmoOp::MinU, rd, at, value).outcome(at)
         }
         Instr::AmomaxuW { rd, rs1, rs2 } => {
             let (at, value) = (hart.register(rs1), hart.register(rs2));
-            change_word(hart, memory, AmoOp::MaxU, rd, at, value)
+            change_word(hart, memory, AmoOp::MaxU, rd, at, value).outcome(at)
         }
     }
 }
