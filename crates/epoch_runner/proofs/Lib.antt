@@ -16,3 +16,4 @@ mod HintStops
 mod Waiting
 mod Supplies
 mod SuppliedTurns
+mod Walks

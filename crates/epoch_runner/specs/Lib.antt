@@ -6,5 +6,6 @@ pub mod Schedule
 pub mod Supplying
 pub mod Running
 pub mod SliceRun
+pub mod Walking
 pub mod HintRun
 pub mod Trace

@@ -40,7 +40,7 @@ pub(crate) fn is_long(count: usize) -> bool
 }
 
 // The lowest thread that can step and has at least this number.
-fn lowest_from(state: &State, supply: &Supply, least: usize) -> Option<Tid>
+pub(crate) fn lowest_from(state: &State, supply: &Supply, least: usize) -> Option<Tid>
     ensures { result ≡ lowest_from (ready_at state.now supply.now) least state.now.threads }
 {
     let mut number = least.max(1);
