@@ -9,3 +9,4 @@ pub mod SliceRun
 pub mod Walking
 pub mod HintRun
 pub mod Trace
+pub mod Syncing

@@ -37,6 +37,7 @@ mod rules;
 mod run;
 mod slice;
 mod stage;
+mod sync;
 mod trace;
 mod walk;
 

@@ -1,11 +1,12 @@
 // An epoch by round robin, turn by turn.
-ghost use Rattle.std.specs.Prelude.{◌≡◌, ◌+◌, ◌<◌, ◌^◌, OnOk, IfSome, Some, None, false, true, length};
+ghost use Rattle.std.specs.Prelude.{◌≡◌, ◌+◌, ◌<◌, ◌^◌, IfOk, OnOk, IfSome, Some, None, false, true, length};
 ghost use Rattle.dp_base.specs.declared.limits.TheConstants.{EPOCH_END_BYTES};
 ghost use Rattle.guest_kernel.specs.Answers.{bytes_read};
 ghost use Rattle.guest_kernel.specs.State.{has_ended};
 ghost use Rattle.epoch_runner.specs.Answering.{ready_at};
 ghost use Rattle.epoch_runner.specs.Schedule.{begins_from, begins_with, by_last, closed, ends_epoch, followed, next, progress, slice_goes_on, starting, takes_turn, turn_of};
 ghost use Rattle.epoch_runner.specs.Lowest.{lowest_from};
+ghost use Rattle.epoch_runner.specs.Syncing.{sync_of};
 ghost use Rattle.epoch_runner.specs.Walking.{next_of, opened};
 ghost use Rattle.sync_hints.specs.NoHints.{no_hints};
 
@@ -14,6 +15,7 @@ use crate::bounds::Bounds;
 use crate::choice::{is_long, lowest_from};
 use crate::kernel::turn_laws;
 use crate::slice::one_turn;
+use crate::sync::sync_of;
 use crate::trace::Trace;
 use dp_base::{OutOfMemory, Slice, Tid};
 use guest_kernel::State;
@@ -21,6 +23,7 @@ use slice_log::SliceLog;
 use std::alloc::Global;
 use std::marker::Model;
 use supply::Supply;
+use sync_hints::Sc;
 
 /// The turn that is next: the thread that takes it, and whether a slice begins with it.
 #[derive(Clone, Copy, Debug, PartialEq, Eq)]
@@ -88,23 +91,27 @@ impl Walk {
         }
     }
 
-    /// Takes the turn that is next. If a slice begins with it, the slice before it ends first.
+    /// Takes the turn that is next. If a slice begins with it, the slice before it ends first. Returns what hints say of the turn, or
+    /// `None` if it is plain.
     pub fn take(
         &mut self,
         alloc: Global,
         supply: &Supply,
         bounds: Bounds,
         turn: NextTurn,
-    ) -> Result<(), OutOfMemory>
+    ) -> Result<Option<Sc>, OutOfMemory>
         requires next { next self.old.state supply.now bounds (progress self.old) ≡ turn_of turn.tid turn.begins None }
         requires countable { self.old.state.steps + 1 < 2 ^ 64 }
+        ensures sync { IfOk result (λ sync. sync ≡ sync_of (opened turn.begins self.old).state turn.tid) }
         ensures took { OnOk result (followed supply.now self.old (turn_of turn.tid turn.begins None) ≡ Some self.new) }
         ensures turns { OnOk result ((progress self.new).turns ≡ (progress self.old).turns + 1) }
         ensures steps { OnOk result (self.new.state.steps ≡ self.old.state.steps + 1) }
     {
         turn_peek::laws::a_reservation_asks_for_nothing();
         self.open(turn.begins)?;
-        self.turn(alloc, supply, turn.tid)
+        let sync = sync_of(&self.state, turn.tid);
+        self.turn(alloc, supply, turn.tid)?;
+        Ok(sync)
     }
 
     /// Ends the slice in hand, if there is one. Its thread's reservation is dropped.

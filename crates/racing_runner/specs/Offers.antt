@@ -1,0 +1,34 @@
+-- What a racing run offers: hints of an epoch, and the state in which the next one starts. This machine's own.
+use Rattle.std.specs.Prelude.{◌≡◌, ◌⊎◌, ◌≤◌, ℕ, ⊤, List, [], ◌∷◌, ◌++◌, length, take, Option, Some, None, Result, Ok, Err}
+use Rattle.dp_base.specs.declared.out_of_memory.OutOfMemory.{OutOfMemory}
+use Rattle.guest_kernel.specs.declared.state.State.{State}
+use Rattle.racing_runner.specs.declared.offer.More.{More}
+use Rattle.racing_runner.specs.declared.offer.More.TheVariants.{Yes, Enough}
+use Rattle.racing_runner.specs.declared.offer.Offer.{Offer}
+use Rattle.racing_runner.specs.declared.plan.Plan.{Plan}
+use Rattle.supply.specs.Supplied.{Supplied}
+
+-- of the round's start, its supply and the plan: all that is offered, or none if that isn't known
+abbrev pub Tells : Type 0
+Tells = State → Supplied → Plan → Option (List Offer)
+
+-- nothing is asked of a run that doesn't tell what it offers
+abbrev pub IfTold : Option (List Offer) → (List Offer → Type 0) → Type 0
+IfTold None P = ⊤
+IfTold (Some list) P = P list
+
+-- what a sink that took these has after one more offer; it may drop one only if it takes no more
+abbrev pub HasTaken : (got : List Offer) → Offer → (now : List Offer) → (enough : Type 0) → More → Type 0
+HasTaken got o now enough Yes = now ≡ got ++ o ∷ []
+HasTaken got o now enough Enough = enough × ((now ≡ got ++ o ∷ []) ⊎ (now ≡ got))
+
+-- a race is over if all was offered, or the sink takes no more; after want of memory it need not be
+abbrev pub IsOver : (count : ℕ) → List Offer → (enough : Type 0) → Result (Unit {0}) OutOfMemory → Type 0
+IsOver count list enough (Ok done) = (length list ≤ count) ⊎ enough
+IsOver count list enough (Err error) = ⊤
+
+-- a sink that took these has taken the first of a list, each once and in order
+pub record HasOffered (got list now : List Offer) (enough : Type 0) (result : Result (Unit {0}) OutOfMemory) : Type 0 where
+  pub count : ℕ
+  pub taken : now ≡ got ++ take count list
+  pub over : IsOver count list enough result

@@ -1,0 +1,12 @@
+//! Racing runs: runs of a guest ahead of its recording, which offer states in which later epochs may start.
+#![tactic(auto)]
+
+mod idle;
+mod offer;
+mod plan;
+mod racer;
+
+pub use idle::IdleRacer;
+pub use offer::{More, Offer};
+pub use plan::Plan;
+pub use racer::{JobSink, Racer};
