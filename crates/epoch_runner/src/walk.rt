@@ -116,7 +116,8 @@ impl Walk {
 
     /// Ends the slice in hand, if there is one. Its thread's reservation is dropped.
     pub fn close(&mut self) -> Result<(), OutOfMemory>
-        ensures { OnOk result (self.new ≡ closed self.old) }
+        ensures closes { OnOk result (self.new ≡ closed self.old) }
+        ensures steps { OnOk result (self.new.state.steps ≡ self.old.state.steps) }
     {
         let Some(tid) = self.last else {
             return Ok(());

@@ -32,3 +32,8 @@ pub record HasOffered (got list now : List Offer) (enough : Type 0) (result : Re
   pub count : ℕ
   pub taken : now ≡ got ++ take count list
   pub over : IsOver count list enough result
+
+-- a sink that keeps offers, up to a number
+pub record Gathered : Type 0 where
+  pub got : List Offer
+  pub room : ℕ
