@@ -1,19 +1,17 @@
 -- The offers of a racing run, one after another.
 use native.Mathlib.Omega.{arith}
-use Rattle.std.proofs.Common.{◌≡◌, ◌⊎◌, ◌+◌, ◌-◌, ◌≤◌, ◌<◌, ◌^◌, ℕ, zero, suc, Bool, true, false, List, [], ◌∷◌, ◌++◌, length, take, Option, Some, None, Result, Ok, Err, inl, inr, sym, ap, subst, ◌∙◌, refl}
+use Rattle.std.proofs.Common.{◌≡◌, ◌+◌, ◌-◌, ◌≤◌, ◌<◌, ◌^◌, ℕ, suc, List, [], ◌∷◌, ◌++◌, length, take, Option, Some, None, Result, Ok, Err, inl, inr, sym, ap, subst, ◌∙◌}
 use Rattle.std.proofs.lemmas.List.{append_assoc, append-nil}
-use Rattle.std.proofs.Math.Seq.{take-append_seam, take-length}
+use Rattle.std.proofs.Math.Seq.{take-append_seam}
 use Rattle.std.specs.Result.{IsErr}
 use Rattle.guest_kernel.specs.declared.state.State.{State}
 use Rattle.dp_base.specs.declared.out_of_memory.OutOfMemory.{OutOfMemory}
 use Rattle.racing_runner.specs.declared.chaos.Made.{Made}
-use Rattle.racing_runner.specs.declared.offer.More.{More}
 use Rattle.racing_runner.specs.declared.offer.More.TheVariants.{Enough}
 use Rattle.racing_runner.specs.declared.offer.Offer.{Offer}
 use Rattle.racing_runner.specs.declared.plan.Plan.{Plan}
 use Rattle.racing_runner.specs.Chaos.{and_then, made, offers}
 use Rattle.racing_runner.specs.Offers.{HasOffered, HasTaken, IsOver}
-use Rattle.racing_runner.specs.Racing.{Raced, end_of, stretch}
 use Rattle.supply.specs.Supplied.{Supplied}
 
 -- a run that has made some of its offers, of which the rest is that of the whole
@@ -88,8 +86,9 @@ underway_enough got now after list n place w p left s m enough u more some taken
     let rest = offers (p.jobs - (place + 1)) n (place + 1) w p (left - p.epoch) m.end in
     let is = made_more got now list n place w p left s m u (p.jobs - (place + 1)) (omega (arith, more)) some in
     elim taken.1 [
-      inl grown ↦ offered_so_far got after list (u.made ++ m.offer ∷ []) rest enough (Ok tt) (one_more got now after u.made m.offer u.taken grown) is (inr taken.0)
-    | inr same ↦ offered_so_far got after list u.made (m.offer ∷ rest) enough (Ok tt) (same ∙ u.taken) (is ∙ append_assoc u.made (m.offer ∷ []) rest) (inr taken.0) ]
+      | inl grown ↦ offered_so_far got after list (u.made ++ m.offer ∷ []) rest enough (Ok tt) (one_more got now after u.made m.offer u.taken grown) is (inr taken.0)
+      | inr same ↦ offered_so_far got after list u.made (m.offer ∷ rest) enough (Ok tt) (same ∙ u.taken) (is ∙ append_assoc u.made (m.offer ∷ []) rest) (inr taken.0)
+    ]
 
 -- and the sink takes more
 pub underway_more : (got now after list : List Offer) (n place : ℕ) (w : Supplied) (p : Plan) (left : ℕ) (s : State) (m : Made)

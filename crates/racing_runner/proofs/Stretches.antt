@@ -1,12 +1,12 @@
 -- The turns of a stretch, one after another.
 use native.Mathlib.Omega.{arith}
-use Rattle.std.proofs.Common.{◌≡◌, ◌+◌, ◌-◌, ◌≤◌, ◌<◌, ◌^◌, ℕ, zero, suc, List, [], ◌∷◌, ◌++◌, slice_get, slice_set, position, Option, Some, None, sym, ap, subst, ◌∙◌, refl}
+use Rattle.std.proofs.Common.{◌≡◌, ◌+◌, ◌-◌, ◌≤◌, ◌<◌, ◌^◌, ℕ, zero, suc, List, [], ◌∷◌, slice_get, position, Option, Some, None, sym, ap, subst, ◌∙◌, refl}
 use Rattle.std.specs.List.{AllByRecursion}
 use Rattle.dp_base.specs.declared.tid.Tid.{Tid}
 use Rattle.dp_base.proofs.Lists.{all_append, all_set}
 use Rattle.epoch_runner.specs.declared.bounds.Bounds.{Bounds}
 use Rattle.epoch_runner.specs.declared.walk.NextTurn.{NextTurn}
-use Rattle.epoch_runner.specs.Schedule.{Course, Next, followed, next, progress, turn_of}
+use Rattle.epoch_runner.specs.Schedule.{Course, followed, next, progress, turn_of}
 use Rattle.epoch_runner.specs.Syncing.{sync_of}
 use Rattle.epoch_runner.specs.Walking.{next_of, opened}
 use Rattle.racing_runner.specs.Racing.{Raced, counted, counted_at, is_count_of, ordered, or_else, race_turn, raced, raced_by, raced_so_far, steps_in, with_note}

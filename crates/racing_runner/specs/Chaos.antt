@@ -1,7 +1,6 @@
 -- What `ChaosRacer` offers: the states after each whole epoch of a run by round robin, one of them spoilt, or none. This machine's own.
 use Rattle.std.specs.Prelude.{◌+◌, ◌-◌, ◌%◌, ◌/◌, ◌==◌, ℕ, zero, suc, Bool, not, ◌&&◌, if◌then◌else◌, List, [], ◌∷◌, position, slice_get, slice_set, Option, Some, None, min, bit_xor}
 use Rattle.std.proofs.Math.Nat.{le_trans, min-le_left}
-use Rattle.dp_base.specs.declared.limits.TheConstants.{MAX_EPOCH_STEPS}
 use Rattle.epoch_runner.specs.declared.bounds.Bounds.{Bounds}
 use Rattle.guest_kernel.specs.declared.state.State.{State}
 use Rattle.guest_kernel.specs.State.{has_ended}

@@ -1,6 +1,6 @@
 -- A run of a guest by round robin that notes what its turns were: the steps of each thread, and the order of the turns that synchronise.
 -- This machine's own.
-use Rattle.std.specs.Prelude.{◌+◌, ◌==◌, ℕ, zero, suc, Bool, not, ◌&&◌, List, [], ◌∷◌, ◌++◌, position, slice_get, slice_set, Option, Some, None}
+use Rattle.std.specs.Prelude.{◌+◌, ◌==◌, ℕ, zero, suc, Bool, List, [], ◌∷◌, ◌++◌, position, slice_get, slice_set, Option, Some, None}
 use Rattle.dp_base.specs.declared.tid.Tid.{Tid}
 use Rattle.epoch_runner.specs.declared.bounds.Bounds.{Bounds}
 use Rattle.epoch_runner.specs.Schedule.{Course, Next, closed, ends, followed, next, progress, starting, turn_of}

@@ -1,4 +1,19 @@
-//! Racing runs: runs of a guest ahead of its recording, which offer states in which later epochs may start.
+//! Racing runs: runs of a guest ahead of its recording. They offer states in which later epochs may start, and hints of the epochs in
+//! between, and nothing they offer is trusted.
+//!
+//! Promises: `race` offers to a sink until all is offered, the sink takes no more, or memory runs out. A racer may tell beforehand all
+//! that it offers from a start with a supply by a plan (`specs/Offers.antt`). Then `race` leaves the racer as it was, the sink gets
+//! the first of the list in order, and `Ok` comes only after the whole list or an `Enough`. `IdleRacer` tells that it offers nothing.
+//! `ChaosRacer` tells what `specs/Chaos.antt` says: a run by the epoch runner's round robin, in stretches of an epoch, with what
+//! each turn was (`specs/Racing.antt`), and one state spoilt. `offers_of` gathers the offers of a round. Stands on `epoch_runner` for
+//! the schedule, on `guest_kernel` for states, on `supply` for the input and the clock, and on `sync_hints` for the hints.
+//!
+//! ```text
+//! let mut racer = ChaosRacer::new(0);
+//! for offer in offers_of(&rt, alloc, &mut racer, &state, &supply, &plan)? {
+//!     .. offer.hints, offer.next ..
+//! }
+//! ```
 #![tactic(auto)]
 
 mod chaos;

@@ -28,8 +28,7 @@ struct Notes {
 }
 
 impl Notes {
-    ghost use Rattle.sync_hints.specs.declared.hints.Hints.{Hints};
-
+    // Nothing was noted yet.
     fn new(alloc: Global) -> Notes
         ensures counts { result.counts.items ≡ no_hints.counts }
         ensures order { result.order.items ≡ no_hints.order }

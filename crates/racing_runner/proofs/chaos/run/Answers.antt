@@ -1,4 +1,4 @@
-use Rattle.std.proofs.Common.{◌≡◌, ◌+◌, ◌-◌, ◌≤◌, IfSome, arith, subst, sym, ◌∙◌}
+use Rattle.std.proofs.Common.{◌≡◌, ◌+◌, ◌≤◌, IfSome, arith, subst, sym, ◌∙◌}
 use Rattle.racing_runner.proofs.Offering.{underway_ends, underway_enough, underway_failed, underway_more, underway_whole}
 use Rattle.racing_runner.proofs.chaos.run.Goals as goal
 
@@ -22,11 +22,11 @@ loop-place-preserved g c = record {
   ready = c.in-Yes.ensures.ready;
   goes = g.met.K.JobSink.goes_on _ _ _ c.loop-place.invariant.goes c.in-Yes.ensures.goes;
   underway =
-    underway_more _ _ _ _ c.args.racer.number c.loop-place.place c.args.supply.now c.args.plan.now c.loop-place.left c.loop-place.state c.in-Some.made
-    c.loop-place.invariant.underway (sym c.in-Some.is ∙ c.in_ok-made.ensures.made) c.in-Yes.ensures.taken
-    (subst (λ m. IfSome m (λ m. m.end.steps ≡ c.loop-place.state.steps + c.args.plan.now.epoch)) c.in-Some.is c.in_ok-made.ensures.moved)
-    (subst (λ m. IfSome m (λ m. c.args.plan.now.epoch ≤ c.loop-place.left)) c.in-Some.is c.in_ok-made.ensures.within)
-    c.from-left.result c.from-left.ensures;
+      underway_more _ _ _ _ c.args.racer.number c.loop-place.place c.args.supply.now c.args.plan.now c.loop-place.left c.loop-place.state c.in-Some.made
+      c.loop-place.invariant.underway (sym c.in-Some.is ∙ c.in_ok-made.ensures.made) c.in-Yes.ensures.taken
+      (subst (λ m. IfSome m (λ m. m.end.steps ≡ c.loop-place.state.steps + c.args.plan.now.epoch)) c.in-Some.is c.in_ok-made.ensures.moved)
+      (subst (λ m. IfSome m (λ m. c.args.plan.now.epoch ≤ c.loop-place.left)) c.in-Some.is c.in_ok-made.ensures.within)
+      c.from-left.result c.from-left.ensures;
 }
 
 pub returns-clause-offers : goal.returns-clause-offers

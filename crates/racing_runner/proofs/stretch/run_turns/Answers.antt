@@ -1,4 +1,4 @@
-use Rattle.std.proofs.Common.{◌+◌, ap, arith, sym, ◌∙◌}
+use Rattle.std.proofs.Common.{ap, arith, sym, ◌∙◌}
 use Rattle.racing_runner.specs.Racing.{raced, raced_so_far}
 use Rattle.racing_runner.proofs.Stretches.{ends_early, few_small, so_far_more, turn_more}
 use Rattle.racing_runner.proofs.stretch.run_turns.Goals as goal
@@ -16,8 +16,8 @@ loop-step-preserved c =
     so_far_more c.args.supply.now c.args.bounds _ c.loop-step._step c.loop-step.walk c.take.new.self c.loop-step.notes.counts.items c.note.new.self.counts.items
     c.loop-step.notes.order.items c.note.new.self.order.items c.in-Some.turn c.in_ok-sync.sync c.loop-step.invariant
     (turn_more c.args.supply.now c.args.bounds c.loop-step.walk c.take.new.self c.loop-step.notes.counts.items c.note.new.self.counts.items
-     c.loop-step.notes.order.items c.note.new.self.order.items c.in-Some.turn c.in_ok-sync.sync
-     c.in-Some.ensures.next c.in_ok-sync.ensures.sync c.in_ok-sync.ensures.took c.in_ok-note.ensures.counts c.in_ok-note.ensures.order)
+    c.loop-step.notes.order.items c.note.new.self.order.items c.in-Some.turn c.in_ok-sync.sync
+    c.in-Some.ensures.next c.in_ok-sync.ensures.sync c.in_ok-sync.ensures.took c.in_ok-note.ensures.counts c.in_ok-note.ensures.order)
     c.in_ok-sync.ensures.turns c.in_ok-sync.ensures.steps c.in_ok-note.ensures.counts
 
 pub returns-clause-raced : goal.returns-clause-raced
