@@ -7,3 +7,10 @@ mod Rounds
 pub mod Alike
 mod InputReads
 pub mod Moments
+mod MachineDisk
+mod MachineRuns
+mod MachineOutside
+mod JobStages
+mod MachineRound
+mod MachineEvents
+mod MachineDrawn

@@ -4,3 +4,5 @@ pub mod Drawing
 pub mod Recording
 pub mod Telling
 pub mod Moments
+pub mod Machine
+pub mod MachineKept

@@ -1,16 +1,22 @@
 //! What follows from the definitions of a recording alone. A call of such a function costs nothing, and hands the law to the
 //! caller's proof.
 
-ghost use Rattle.std.specs.Prelude.{◌≡◌, ◌++◌, ◌∷◌, ℕ, List, [], true};
+ghost use Rattle.std.specs.Prelude.{◌≡◌, ◌≤◌, ◌++◌, ◌∷◌, ℕ, Bool, List, [], length, true};
+ghost use Rattle.disk_model.specs.History.{History};
 ghost use Rattle.disk_model.specs.Input.{Input, is_at_end};
 ghost use Rattle.dp_base.specs.Encoding.{IsPrefixOf};
-ghost use Rattle.dp_base.specs.Journal.{Epoch};
+ghost use Rattle.dp_base.specs.Journal.{Epoch, IsGuest};
+ghost use Rattle.dp_base.specs.declared.limits.TheConstants.{MAX_JOURNAL_BYTES};
 ghost use Rattle.dp_base.specs.declared.answer.Answer.{Answer};
 ghost use Rattle.dp_base.specs.declared.answer.Answer.TheVariants.{Read};
+ghost use Rattle.epoch_journal.specs.Standing.{Stands};
 ghost use Rattle.guest_kernel.specs.Answers.{bytes_read};
 ghost use Rattle.guest_kernel.specs.declared.state.State.{State};
 ghost use Rattle.recorder.specs.declared.options.Options.{Options};
 ghost use Rattle.recorder.specs.Drawing.{Draw, HasDrawn};
+ghost use Rattle.journal_text.specs.Reading.{journal_of};
+ghost use Rattle.recorder.specs.Machine.{Event, Machine, Reaches, first_machine, judged_runs};
+ghost use Rattle.recorder.specs.MachineKept.{IsKept, answers_of_runs, draws_in};
 ghost use Rattle.recorder.specs.Recording.{IsNext};
 ghost use Rattle.supply.specs.Supplied.{Supplied};
 ghost use Rattle.supply.specs.Windows.{bytes_left};
@@ -33,6 +39,26 @@ pub fn reads_take_the_input()
     ensures end { (draws : List Draw) (answers : List Answer) (i j : Input) → HasDrawn draws answers i j →
         (i.ended ≡ true → is_at_end i.left ≡ true) → (before after : List Answer) →
         answers ≡ before ++ Read [] ∷ after → bytes_read before ≡ bytes_left i.left }
+{
+    supply::an_answer_is_of_the_input();
+    supply::the_windows_are_the_input();
+}
+
+/// Whatever happens after a journal was begun keeps what `specs/MachineKept.antt` says: in any order, whatever jobs, hints and results
+/// are offered, whichever calls of the devices fail, and whenever the machine stops.
+pub fn every_event_keeps()
+    ensures { (guest : List ℕ) (start : State) (h : History) (i : Input) (supplied : Bool) (events : List Event) (m : Machine) →
+        IsGuest guest → length (journal_of guest []) ≤ MAX_JOURNAL_BYTES → Stands guest [] h →
+        Reaches guest supplied (first_machine start h i) events m → IsKept guest start h m }
+{}
+
+/// If every result that was taken was answered by the supply of its round, the answers of all committed epochs are faithful to the
+/// input that the rounds read.
+pub fn answers_are_honest()
+    ensures { (guest : List ℕ) (start : State) (h : History) (i : Input) (events : List Event) (m : Machine) →
+        IsGuest guest → length (journal_of guest []) ≤ MAX_JOURNAL_BYTES → Stands guest [] h → start.input ≡ 0 →
+        Reaches guest true (first_machine start h i) events m →
+        HasDrawn (draws_in events) (answers_of_runs (judged_runs m)) i m.input }
 {
     supply::an_answer_is_of_the_input();
     supply::the_windows_are_the_input();

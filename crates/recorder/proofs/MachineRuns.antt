@@ -1,0 +1,59 @@
+-- Epochs one from the end of another, and the records that stand for them.
+use Rattle.std.proofs.Common.{◌≡◌, ◌+◌, ℕ, List, [], ◌∷◌, ◌++◌, Result, Ok, Err, refl, sym, ◌∙◌, ap, subst}
+use Rattle.commit_core.specs.JudgedRound.{AreLinked}
+use Rattle.epoch_record.specs.Epoch.{epoch_of}
+use Rattle.epoch_runner.specs.declared.epoch_run.EpochRun.{EpochRun}
+use Rattle.epoch_runner.specs.Running.{IsRunOf}
+use Rattle.guest_kernel.specs.declared.state.State.{State}
+use Rattle.guest_kernel.specs.Call.{After}
+use Rattle.guest_kernel.specs.Slices.{Stop, at, chain, either, run}
+use Rattle.journal_text.specs.Records.{IsRecord, Record, epoch, mark}
+use Rattle.recorder.specs.Machine.{epochs_of_runs, mark_of_state, output_of_runs, record_of_run}
+use Rattle.recorder.specs.MachineKept.{StandFor}
+
+abbrev pub IsRunHere : EpochRun → Type 0
+IsRunHere r = IsRunOf r.start (epoch_of r.epoch) r.out r.end
+
+-- each of them was run, from the end of the one before
+abbrev pub Linked : State → List EpochRun → State → Type 0
+Linked s [] t = t ≡ s
+Linked s (r ∷ rs) t = (r.start ≡ s) × IsRunHere r × Linked r.end rs t
+
+pub linked-append : (s t u : State) (rs more : List EpochRun) → Linked s rs t → Linked t more u → Linked s (rs ++ more) u
+linked-append s t u [] more l m = subst (λ (x : State). Linked x more u) l m
+linked-append s t u (r ∷ rs) more l m = (l.0, l.1, linked-append r.end t u rs more l.2 m)
+
+pub linked-links : (s t : State) (rs : List EpochRun) → Linked s rs t → AreLinked s rs t
+linked-links s t [] l = l
+linked-links s t (r ∷ rs) l = (l.0, linked-links r.end t rs l.2)
+
+pub linked-chain : (s t : State) (rs : List EpochRun) → Linked s rs t → chain s (epochs_of_runs rs) ≡ Ok (t, output_of_runs rs)
+unfolding chain
+linked-chain s t [] l = ap (λ (x : State). Ok (x, [])) (sym l)
+linked-chain s t (r ∷ rs) l =
+    let e = epoch_of r.epoch in
+    let ran : run e.slices (at s [] e.answers) ≡ Ok (at r.end r.out []) = subst (λ (x : State). run e.slices (at x [] e.answers) ≡ Ok (at r.end r.out [])) l.0 l.1.ran in
+    ap (λ (here : Result After (Stop × After)). either here (λ stop. Err 0) (λ after. either (chain after.state (epochs_of_runs rs)) (λ count. Err (count + 1)) (λ end. Ok (end.0, after.output ++ end.1)))) ran
+    ∙ ap (λ (there : Result (State × List ℕ) ℕ). either there (λ count. Err (count + 1)) (λ end. Ok (end.0, r.out ++ end.1))) (linked-chain r.end t rs l.2)
+
+-- ---- records
+
+pub stand-append : (s t u : State) (records more : List Record) (rs others : List EpochRun) → StandFor s records rs t → StandFor t more others u → StandFor s (records ++ more) (rs ++ others) u
+stand-append s t u [] more [] others st then_ = subst (λ (x : State). StandFor x more others u) st then_
+stand-append s t u [] more (x ∷ rs) others st then_ = absurd st
+stand-append s t u (epoch e ∷ records) more [] others st then_ = absurd st
+stand-append s t u (epoch e ∷ records) more (x ∷ rs) others st then_ = (st.0, stand-append x.end t u records more rs others st.1 then_)
+stand-append s t u (mark c ∷ records) more rs others st then_ = (st.0, stand-append s t u records more rs others st.1 then_)
+
+-- a record that may be written after these states
+pub record Follows (s : State) (r : Record) (rs : List EpochRun) (t : State) : Type 0 where
+  pub linked : Linked s rs t
+  pub stands : StandFor s (r ∷ []) rs t
+  pub is_record : IsRecord r
+
+-- a run has a record
+pub run_follows : (r : EpochRun) → IsRunHere r → Follows r.start (record_of_run r) (r ∷ []) r.end
+run_follows r is = record { linked = (refl, is, refl); stands = (refl, refl); is_record = (is.is_epoch, is.fits.1) }
+
+pub mark_follows : (s : State) → IsRecord (mark_of_state s) → Follows s (mark_of_state s) [] s
+mark_follows s is = record { linked = refl; stands = (refl, refl); is_record = is }
