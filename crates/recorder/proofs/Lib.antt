@@ -14,3 +14,4 @@ mod JobStages
 mod MachineRound
 mod MachineEvents
 mod MachineDrawn
+mod CallEvents

@@ -6,3 +6,4 @@ pub mod Telling
 pub mod Moments
 pub mod Machine
 pub mod MachineKept
+pub mod CallEvents

@@ -1,7 +1,10 @@
 //! What follows from the definitions of a recording alone. A call of such a function costs nothing, and hands the law to the
 //! caller's proof.
 
-ghost use Rattle.std.specs.Prelude.{◌≡◌, ◌≤◌, ◌++◌, ◌∷◌, ℕ, Bool, List, [], length, true};
+ghost use Rattle.std.specs.Prelude.{◌≡◌, ◌≤◌, ◌++◌, ◌∷◌, ℕ, Bool, List, [], Result, length, true};
+ghost use Rattle.commit_core.specs.declared.event.Event as rounds;
+ghost use Rattle.commit_core.specs.declared.verdict.Verdict.{Verdict};
+ghost use Rattle.commit_core.specs.Judging.{Core};
 ghost use Rattle.disk_model.specs.History.{History};
 ghost use Rattle.disk_model.specs.Input.{Input, is_at_end};
 ghost use Rattle.dp_base.specs.Encoding.{IsPrefixOf};
@@ -9,12 +12,16 @@ ghost use Rattle.dp_base.specs.Journal.{Epoch, IsGuest};
 ghost use Rattle.dp_base.specs.declared.limits.TheConstants.{MAX_JOURNAL_BYTES};
 ghost use Rattle.dp_base.specs.declared.answer.Answer.{Answer};
 ghost use Rattle.dp_base.specs.declared.answer.Answer.TheVariants.{Read};
-ghost use Rattle.epoch_journal.specs.Standing.{Stands};
+ghost use Rattle.epoch_journal.specs.declared.append.AppendFault.{AppendFault};
+ghost use Rattle.epoch_journal.specs.Standing.{Journal, Stands};
+ghost use Rattle.epoch_record.specs.declared.epoch.Epoch as epochs;
 ghost use Rattle.guest_kernel.specs.Answers.{bytes_read};
 ghost use Rattle.guest_kernel.specs.declared.state.State.{State};
 ghost use Rattle.recorder.specs.declared.options.Options.{Options};
+ghost use Rattle.recorder.specs.declared.commit.CommitFault.{CommitFault};
 ghost use Rattle.recorder.specs.Drawing.{Draw, HasDrawn};
 ghost use Rattle.journal_text.specs.Reading.{journal_of};
+ghost use Rattle.recorder.specs.CallEvents.{AppendIsEvents, AppliedIsEvent, CommitIsEvents, CommitIsInHand, DrawIsRound, SendIsEvents};
 ghost use Rattle.recorder.specs.Machine.{Event, Machine, Reaches, first_machine, judged_runs};
 ghost use Rattle.recorder.specs.MachineKept.{IsKept, answers_of_runs, draws_in};
 ghost use Rattle.recorder.specs.Recording.{IsNext};
@@ -63,3 +70,41 @@ pub fn answers_are_honest()
     supply::an_answer_is_of_the_input();
     supply::the_windows_are_the_input();
 }
+
+/// A core that is made over the committed state once `draw` has read the round's input is the machine's next round.
+pub fn a_new_core_is_a_round()
+    ensures { (guest : List ℕ) (supplied : Bool) (m : Machine) (d : Draw) (jobs : ℕ) (i : Input) (w : Supplied) (core : Core) →
+        DrawIsRound guest supplied m d jobs i w core }
+{
+    epoch_runner::laws::a_supply_lets_a_guest_step();
+}
+
+/// An event that `Core::apply` doesn't refuse is one of the machine's, and leaves the core that `apply` leaves. One that it refuses isn't
+/// the machine's, and changes nothing. An epoch that is committed is in hand then.
+pub fn an_applied_event_is_an_event()
+    ensures applied { (guest : List ℕ) (supplied : Bool) (m : Machine) (e : rounds.Event) (verdict : Verdict) (core : Core) →
+        AppliedIsEvent guest supplied m e verdict core }
+    ensures in_hand { (guest : List ℕ) (supplied : Bool) (m : Machine) (e : epochs.Epoch) (out : List ℕ) (core : Core) →
+        CommitIsInHand guest supplied m e out core }
+{
+    commit_core::laws::an_event_is_noted_or_refused();
+}
+
+/// The calls that `Journal::append` makes for the record in hand are the record's four events, or those up to one that fails.
+pub fn an_append_is_events()
+    ensures { (guest : List ℕ) (supplied : Bool) (m : Machine) (before after : Journal) (added : List ℕ)
+        (result : Result (Unit {0}) AppendFault) (t : History) → AppendIsEvents guest supplied m before after added result t }
+{}
+
+/// The calls that send the output of acknowledged epochs are events, and so is one that fails.
+pub fn a_sending_is_events()
+    ensures { (guest : List ℕ) (supplied : Bool) (m : Machine) (bytes : List ℕ) (ok : Bool) (t : History) →
+        SendIsEvents guest supplied m bytes ok t }
+{}
+
+/// The calls that `commit_epoch` makes for the epoch in hand are events, whatever it answers: the record's four, and then the pieces of
+/// the output. After `Ok` the next result may be judged, and the next epoch committed.
+pub fn a_commit_is_events()
+    ensures { (guest : List ℕ) (supplied : Bool) (m : Machine) (before after : Journal) (added output : List ℕ)
+        (result : Result (Unit {0}) CommitFault) (t : History) → CommitIsEvents guest supplied m before after added output result t }
+{}
