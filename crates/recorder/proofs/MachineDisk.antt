@@ -9,6 +9,7 @@ use Rattle.disk_model.specs.Known.{overwritten}
 use Rattle.disk_model.specs.Steps.{Synced, Wrote}
 use Rattle.disk_model.proofs.Images.{image-one-byte, image-past-end, image-synced, overwritten-end, overwritten-one-byte}
 use Rattle.epoch_journal.specs.Images.{Reads}
+use Rattle.epoch_journal.proofs.AtRest.{image-reads, shut-of}
 use Rattle.epoch_journal.proofs.ReadsAs.{all-before, journal-push, journal-records, reads-gate, reads-shut, records}
 use Rattle.journal_text.specs.Reading.{journal_of}
 use Rattle.journal_text.specs.Records.{IsRecord, Record, body_of}
@@ -24,6 +25,13 @@ pub record IsSettled (content disk : List ℕ) (pending : Pending) : Type 0 wher
 pub record IsPendingAt (at count : ℕ) (old content disk : List ℕ) (pending : Pending) : Type 0 where
   pub disk_is : disk ≡ content
   pub pending_is : pending ≡ write_pending at count (nothing_pending old)
+
+-- whatever a crash leaves of a journal that is settled reads as it
+pub whole_journal : (guest : List ℕ) (records_ : List Record) → IsGuest guest → AllByRecursion IsRecord records_ → length (journal_of guest records_) ≤ MAX_JOURNAL_BYTES
+    → (image : List ℕ) → IsImage (nothing_pending (journal_of guest records_)) image → Reads guest records_ image
+whole_journal guest records_ is-guest are fits image is =
+    let h : History = record { disk = journal_of guest records_; pending = nothing_pending (journal_of guest records_); sent = []; noted = []; past = [] } in
+    image-reads guest is-guest records_ h image (shut-of guest records_ h (record { disk = refl; synced = refl })) are fits is
 
 module _ (guest : List ℕ) (A : List Record) (r : Record) where
   abbrev J : List ℕ
@@ -86,32 +94,27 @@ module _ (guest : List ℕ) (A : List Record) (r : Record) where
 
   -- ---- the images
 
-  module _ (is-guest : IsGuest guest) where
-    pub whole_journal : AllByRecursion IsRecord A → length J ≤ MAX_JOURNAL_BYTES → (image : List ℕ) → IsImage (nothing_pending J) image → Reads guest A image
-    whole_journal are room image is =
-        reads-shut guest A closed_gate [] image is-guest are (λ e. absurd cc) is.bytes (image-synced J image is ∙ journal-records guest A) (omega (arith, is.no_longer, room))
+  module _ (is-guest : IsGuest guest) (are : AllByRecursion IsRecord (A ++ r ∷ [])) (room : length J + length F ≤ MAX_JOURNAL_BYTES) where
+    abbrev Either : List ℕ → Type 0
+    Either image = (Reads guest A image) ⊎ (Reads guest (A ++ r ∷ []) image)
 
-    module _ (are : AllByRecursion IsRecord (A ++ r ∷ [])) (room : length J + length F ≤ MAX_JOURNAL_BYTES) where
-      abbrev Either : List ℕ → Type 0
-      Either image = (Reads guest A image) ⊎ (Reads guest (A ++ r ∷ []) image)
+    pub torn_frame : (image : List ℕ) → IsImage (write_pending (length J) (length F) (nothing_pending J)) image → Reads guest A image
+    torn_frame image is =
+        let there = image-past-end (length F) J image is in
+        let image-is : image ≡ B ++ closed_gate ∷ drop (length J) image =
+        there ∙ ap (λ (l : List ℕ). l ++ drop (length J) image) (journal-records guest A) ∙ append_assoc B (closed_gate ∷ []) (drop (length J) image) in
+        reads-shut guest A closed_gate (drop (length J) image) image is-guest (all-before A r are) (λ e. absurd cc) is.bytes image-is (omega (arith, is.no_longer, room))
 
-      pub torn_frame : (image : List ℕ) → IsImage (write_pending (length J) (length F) (nothing_pending J)) image → Reads guest A image
-      torn_frame image is =
-          let there = image-past-end (length F) J image is in
-          let image-is : image ≡ B ++ closed_gate ∷ drop (length J) image =
-          there ∙ ap (λ (l : List ℕ). l ++ drop (length J) image) (journal-records guest A) ∙ append_assoc B (closed_gate ∷ []) (drop (length J) image) in
-          reads-shut guest A closed_gate (drop (length J) image) image is-guest (all-before A r are) (λ e. absurd cc) is.bytes image-is (omega (arith, is.no_longer, room))
+    pub whole_frame : (image : List ℕ) → IsImage (nothing_pending (J ++ F)) image → Reads guest A image
+    whole_frame image is =
+        let image-is = image-synced (J ++ F) image is in
+        reads-shut guest A closed_gate F image is-guest (all-before A r are) (λ e. absurd cc) is.bytes (image-is ∙ parts) (omega (arith, is.no_longer, length-append J F, room))
 
-      pub whole_frame : (image : List ℕ) → IsImage (nothing_pending (J ++ F)) image → Reads guest A image
-      whole_frame image is =
-          let image-is = image-synced (J ++ F) image is in
-          reads-shut guest A closed_gate F image is-guest (all-before A r are) (λ e. absurd cc) is.bytes (image-is ∙ parts) (omega (arith, is.no_longer, length-append J F, room))
-
-      pub torn_gate : (image : List ℕ) → IsImage (write_pending (length J - 1) 1 (nothing_pending (J ++ F))) image → Either image
-      torn_gate image is =
-          let place : length J - 1 ≡ length B = omega (arith, size) in
-          let moved = subst (λ (n : ℕ). IsImage (write_pending n 1 (nothing_pending (J ++ F))) image) place is in
-          let image-is : image ≡ B ++ get_or image (length B) 0 ∷ F =
-          image-one-byte B F closed_gate image (subst (λ (l : List ℕ). IsImage (write_pending (length B) 1 (nothing_pending l)) image) parts moved) in
-          let few : length (B ++ get_or image (length B) 0 ∷ F) ≤ MAX_JOURNAL_BYTES = omega (arith, length-append B (get_or image (length B) 0 ∷ F), size, room) in
-          subst (λ (l : List ℕ). Either l) (sym image-is) (reads-gate guest A r (get_or image (length B) 0) is-guest are (subst AreBytes image-is is.bytes) few)
+    pub torn_gate : (image : List ℕ) → IsImage (write_pending (length J - 1) 1 (nothing_pending (J ++ F))) image → Either image
+    torn_gate image is =
+        let place : length J - 1 ≡ length B = omega (arith, size) in
+        let moved = subst (λ (n : ℕ). IsImage (write_pending n 1 (nothing_pending (J ++ F))) image) place is in
+        let image-is : image ≡ B ++ get_or image (length B) 0 ∷ F =
+        image-one-byte B F closed_gate image (subst (λ (l : List ℕ). IsImage (write_pending (length B) 1 (nothing_pending l)) image) parts moved) in
+        let few : length (B ++ get_or image (length B) 0 ∷ F) ≤ MAX_JOURNAL_BYTES = omega (arith, length-append B (get_or image (length B) 0 ∷ F), size, room) in
+        subst (λ (l : List ℕ). Either l) (sym image-is) (reads-gate guest A r (get_or image (length B) 0) is-guest are (subst AreBytes image-is is.bytes) few)

@@ -1,8 +1,7 @@
 -- What was read from the input is faithful to it, if each result that was taken was answered by its round's supply.
-use Rattle.std.proofs.Common.{slice_get, ◌≡◌, ◌⊎◌, inl, inr, ℕ, ◌-◌, ◌<◌, ◌≤◌, true, List, [], ◌∷◌, ◌++◌, length, Some, None, refl, sym, ◌∙◌, ap, subst, arith, append_assoc, length-append, length-set}
-use Rattle.std.proofs.lemmas.Bool.{cases_lt}
+use Rattle.std.proofs.Common.{slice_get, ◌≡◌, inl, inr, ℕ, ◌-◌, ◌<◌, ◌≤◌, true, List, [], ◌∷◌, ◌++◌, length, Some, refl, sym, ◌∙◌, ap, subst, arith, append_assoc, length-append, length-set}
 use Rattle.std.proofs.lemmas.List.{append-nil}
-use Rattle.std.proofs.lemmas.Option.{slice_get_past}
+use Rattle.std.proofs.lemmas.Option.{slice_get_within}
 use Rattle.commit_core.specs.declared.event.Event as rounds
 use Rattle.commit_core.specs.declared.event.Event.TheVariants as events
 use Rattle.commit_core.specs.declared.stage.Stage.{Stage}
@@ -28,13 +27,6 @@ use Rattle.recorder.specs.Machine.{Call, Event, Hand, InRound, IsAtRest, IsTakea
 use Rattle.recorder.specs.MachineKept.{answers_of_runs, draws_in}
 use Rattle.recorder.proofs.MachineEvents.{All, step}
 use Rattle.recorder.proofs.MachineRound.{next_known}
-
-there : (jobs : List Stage) (i : ℕ) (x : Stage) → slice_get jobs i ≡ Some x → i < length jobs
-there jobs i x e = by_place (cases_lt i (length jobs))
-  where
-    by_place : (i < length jobs) ⊎ (length jobs ≤ i) → i < length jobs
-    by_place (inl below) = below
-    by_place (inr past) = let never : None ≡ Some x = sym (slice_get_past jobs i past) ∙ e in absurd cc
 
 module _ (laws : TakeLaws) (guest : List ℕ) (start : State) (before : History) (is-guest : IsGuest guest) (i : Input) where
   abbrev AllOf : Machine → Type 0
@@ -64,7 +56,7 @@ module _ (laws : TakeLaws) (guest : List ℕ) (start : State) (before : History)
       let from : r.start.input ≡ m.core.committed.input = ap (λ (s : State). s.input) j.0 in
       let supplied : IsSuppliedBy m.supply m.core.committed.input r.end.input (epoch_of r.epoch).answers =
       subst (λ (x : ℕ). IsSuppliedBy m.supply x r.end.input (epoch_of r.epoch).answers) from good.1.1 in
-      let some : 0 < m.core.max_jobs = omega (arith, d.within, there m.core.jobs m.core.judged (Taken (Epoch r)) next) in
+      let some : 0 < m.core.max_jobs = omega (arith, d.within, slice_get_within m.core.jobs m.core.judged (Taken (Epoch r)) next) in
       let answers : answers_of_runs (m.written ++ r ∷ []) ≡ answers_of_runs (judged_runs m) ++ (epoch_of r.epoch).answers =
       flat_map-append (λ (x : EpochRun). (epoch_of x.epoch).answers) m.written (r ∷ [])
       ∙ ap (λ (l : List EpochRun). answers_of_runs l ++ answers_of_runs (r ∷ [])) (sym (ap (λ (h : Hand). m.written ++ runs_in_hand h) rest.1 ∙ append-nil m.written))

@@ -19,7 +19,7 @@ use Rattle.epoch_runner.specs.declared.epoch_run.EpochRun.{EpochRun}
 use Rattle.guest_kernel.specs.declared.state.State.{State}
 use Rattle.journal_text.specs.Reading.{journal_of}
 use Rattle.journal_text.specs.Records.{IsRecord, Record, body_of}
-use Rattle.recorder.specs.Machine.{Call, CallLeaves, Hand, IsNextOutput, Machine, after_call, first_machine, frame_sync, frame_write, gate_sync, gate_write, holds, journal_end, mark_of_state, nothing, output_of_runs}
+use Rattle.recorder.specs.Machine.{Call, CallLeaves, Hand, IsNextOutput, Machine, after_call, first_machine, frame_sync, frame_write, gate_sync, gate_write, holds, journal_end, nothing, output_of_runs}
 use Rattle.recorder.specs.MachineKept.{ReadsWith, StandFor, in_question, record_in_hand, record_opened}
 use Rattle.std.proofs.lemmas.Grind.{flat_map-append}
 use Rattle.recorder.proofs.MachineRuns.{Follows, Linked, linked-append, stand-append}
@@ -94,7 +94,7 @@ module _ (guest : List ℕ) (start : State) (before : History) (is-guest : IsGue
     all = all_append IsRecord records (r ∷ []) are (is-record, tt)
 
     written_images : (rs : List EpochRun) (p : Call) (disk : List ℕ) (pending : Pending) → IsWritten records r p disk pending → (image : List ℕ) → IsImage pending image → ReadsWith guest records (record_opened (holds r rs p)) image
-    written_images rs frame_write disk pending is image may = whole_journal guest records r is-guest are fits image (subst (λ (x : Pending). IsImage x image) is.synced may)
+    written_images rs frame_write disk pending is image may = whole_journal guest records is-guest are fits image (subst (λ (x : Pending). IsImage x image) is.synced may)
     written_images rs frame_sync disk pending is image may = torn_frame guest records r is-guest all is.1 image (subst (λ (x : Pending). IsImage x image) is.0.pending_is may)
     written_images rs gate_write disk pending is image may = whole_frame guest records r is-guest all is.1 image (subst (λ (x : Pending). IsImage x image) is.0.synced may)
     written_images rs gate_sync disk pending is image may = torn_gate guest records r is-guest all is.1 image (subst (λ (x : Pending). IsImage x image) is.0.pending_is may)
@@ -111,7 +111,7 @@ module _ (guest : List ℕ) (start : State) (before : History) (is-guest : IsGue
         room = omega (arith, place, call.0)
 
         look : (t.pending ≡ m.world.pending) ⊎ (t.pending ≡ write_pending (journal_end guest m) (length (frame (body_of r))) m.world.pending) → (Reads guest records image) ⊎ (Reads guest (records ++ r ∷ []) image)
-        look (inl e) = inl (whole_journal guest records r is-guest are fits image (subst (λ (x : Pending). IsImage x image) (e ∙ is.synced) may))
+        look (inl e) = inl (whole_journal guest records is-guest are fits image (subst (λ (x : Pending). IsImage x image) (e ∙ is.synced) may))
         look (inr e) = inl (torn_frame guest records r is-guest all room image
             (subst (λ (x : Pending). IsImage x image) (e ∙ ap (λ (n : ℕ). write_pending n (length (frame (body_of r))) m.world.pending) place ∙ ap (write_pending (length (journal_of guest records)) (length (frame (body_of r)))) is.synced) may))
     failed_images m frame_sync t same is call image may = inl (torn_frame guest records r is-guest all is.1 image (subst (λ (x : Pending). IsImage x image) (synced_pending m.world t call ∙ is.0.pending_is) may))
@@ -136,7 +136,7 @@ module _ (guest : List ℕ) (start : State) (before : History) (is-guest : IsGue
 
   pub images_of : (m : Machine) (hand : Hand) (stopped : Bool) → Inv m hand stopped → (image : List ℕ) → IsImage m.world.pending image → ReadsWith guest m.records (in_question hand stopped) image
   images_of m hand true inv image may = inv.disk image may
-  images_of m nothing false inv image may = whole_journal guest m.records (mark_of_state start) is-guest inv.are inv.fits image (subst (λ (x : Pending). IsImage x image) inv.disk.synced may)
+  images_of m nothing false inv image may = whole_journal guest m.records is-guest inv.are inv.fits image (subst (λ (x : Pending). IsImage x image) inv.disk.synced may)
   images_of m (holds r rs call) false inv image may = written_images m.records r inv.are inv.by_hand.2.is_record inv.fits rs call m.world.disk m.world.pending inv.disk image may
 
   -- ---- at the start
