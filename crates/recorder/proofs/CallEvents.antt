@@ -1,5 +1,5 @@
 -- The calls that the program makes are events.
-use Rattle.std.proofs.Common.{◌≡◌, ◌⊎◌, inl, inr, ℕ, ◌+◌, ◌-◌, ◌≤◌, Bool, true, false, List, [], ◌∷◌, ◌++◌, length, take, drop, slice_get, Option, Some, None, Result, Ok, Err, refl, sym, ◌∙◌, ap, subst, arith, append_assoc, length-drop}
+use Rattle.std.proofs.Common.{◌≡◌, ◌⊎◌, inl, inr, ℕ, ◌+◌, ◌-◌, ◌≤◌, Bool, true, false, List, [], ◌∷◌, ◌++◌, length, take, drop, slice_get, Option, Some, None, Result, Ok, Err, refl, sym, ◌∙◌, ap, subst, arith, append_assoc, length-append, length-drop}
 use Rattle.std.proofs.Math.Seq.{take-add}
 use Rattle.std.proofs.lemmas.Grind.{flat_map-append}
 use Rattle.std.proofs.lemmas.List.{append-nil, take-append-drop, take_all}
@@ -17,7 +17,9 @@ use Rattle.disk_model.specs.Input.{Input}
 use Rattle.disk_model.specs.Steps.{Emitted, Synced, Wrote}
 use Rattle.disk_model.specs.declared.world.Failed.{Failed}
 use Rattle.disk_model.specs.declared.world.Stream.TheVariants.{Out}
-use Rattle.dp_base.specs.Journal.{frame, open_gate}
+use Rattle.dp_base.specs.Journal.{closed_gate, frame, header, open_gate}
+use Rattle.dp_base.proofs.Sizes.{length-header}
+use Rattle.journal_text.specs.Reading.{journal_of}
 use Rattle.epoch_journal.specs.declared.append.AppendFault.{AppendFault}
 use Rattle.epoch_journal.specs.declared.append.AppendFault.TheVariants as appends
 use Rattle.epoch_journal.specs.Appending.{AppendCalls, HasAppended, RecordCalls}
@@ -37,13 +39,23 @@ use Rattle.recorder.specs.declared.commit.CommitFault.{CommitFault}
 use Rattle.recorder.specs.declared.commit.CommitFault.TheVariants as commits
 use Rattle.recorder.specs.Committing.{CommitCalls, HasCommitted}
 use Rattle.recorder.specs.Machine.{Call, CallLeaves, Event, Hand, InRound, IsAtRest, IsNextOutput, Judges, Machine, Reaches, RecordFits, Step, after_call, fails, frame_sync, frame_write, gate_sync, gate_write, holds, in_round, journal_end, makes, output_of_runs, record_of_run, send_fails, sends}
-use Rattle.recorder.specs.CallEvents.{AppendEvents, AppendIsEvents, AppliedIsEvent, CallFails, CommitEvents, CommitIsEvents, CommitIsInHand, DrawIsRound, IsAllowed, IsJournalOf, SendEvents, SendIsEvents, after_commit, calls_before, pieces_of, record_calls}
+use Rattle.recorder.specs.CallEvents.{AppendEvents, AppendIsEvents, AppliedIsEvent, BegunIsFirst, CallFails, CommitEvents, CommitIsEvents, CommitIsInHand, DrawIsRound, IsAllowed, IsJournalOf, SendEvents, SendIsEvents, after_commit, calls_before, pieces_of, record_calls}
 
 -- ---- events after events
 
 pub reaches-append : (guest : List ℕ) (supplied : Bool) (m n last : Machine) (some more : List Event) → Reaches guest supplied m some n → Reaches guest supplied n more last → Reaches guest supplied m (some ++ more) last
 reaches-append guest supplied m n last [] more is then_ = subst (λ (x : Machine). Reaches guest supplied x more last) is then_
 reaches-append guest supplied m n last (e ∷ some) more is then_ = (is.0, is.1, reaches-append guest supplied is.0 n last some more is.2 then_)
+
+-- ---- the beginning
+
+pub begun_is_first : (guest : List ℕ) (start : State) (i : Input) (room : ℕ) (j : Journal) (before after : History) → BegunIsFirst guest start i room j before after
+begun_is_first guest start i room j before after = λ few numbers begun.
+    let size : length (journal_of guest []) ≡ 10 + length guest = omega (arith, length-header guest, length-append (header guest) (closed_gate ∷ [])) in (
+      begun.1,
+      omega (arith, size, numbers.1, few),
+      record { at_end = omega (arith, size, ap (λ (k : Journal). k.end) numbers.0); small = omega (arith, few, ap (λ (k : Journal). k.room) numbers.0) },
+    )
 
 -- ---- the events of a core
 

@@ -15,7 +15,10 @@ use Rattle.dp_base.specs.Journal.{frame}
 use Rattle.epoch_journal.specs.declared.append.AppendFault.{AppendFault}
 use Rattle.epoch_journal.specs.declared.append.AppendFault.TheVariants as appends
 use Rattle.epoch_journal.specs.Appending.{AppendCalls, HasAppended}
-use Rattle.epoch_journal.specs.Standing.{Journal}
+use Rattle.epoch_journal.specs.Beginning.{Begun, HasBegun}
+use Rattle.epoch_journal.specs.Standing.{Journal, Stands}
+use Rattle.guest_kernel.specs.declared.state.State.{State}
+use Rattle.journal_text.specs.Reading.{journal_of}
 use Rattle.epoch_record.specs.declared.epoch.Epoch.{Epoch}
 use Rattle.epoch_runner.specs.Answering.{input_due}
 use Rattle.epoch_runner.specs.declared.epoch_run.EpochRun.{EpochRun}
@@ -24,8 +27,21 @@ use Rattle.recorder.specs.Committing.{CommitCalls, HasCommitted}
 use Rattle.recorder.specs.declared.commit.CommitFault.{CommitFault}
 use Rattle.recorder.specs.declared.commit.CommitFault.TheVariants as commits
 use Rattle.recorder.specs.Drawing.{Draw, Drew, supply_of}
-use Rattle.recorder.specs.Machine.{Call, Event, IsAtRest, IsTakeable, Machine, Reaches, Step, after_call, fails, frame_sync, frame_write, gate_sync, gate_write, holds, in_round, journal_end, makes, output_of_runs, record_of_run, round, send_fails, sends}
+use Rattle.recorder.specs.Machine.{Call, Event, IsAtRest, IsTakeable, Machine, Reaches, Step, after_call, fails, first_machine, frame_sync, frame_write, gate_sync, gate_write, holds, in_round, journal_end, makes, output_of_runs, record_of_run, round, send_fails, sends}
 use Rattle.supply.specs.Supplied.{IsSupply, Supplied, end_of}
+
+-- the machine's journal, as the program counts its bytes
+pub record IsJournalOf (guest : List ℕ) (m : Machine) (j : Journal) : Type 0 where
+  pub at_end : j.end ≡ journal_end guest m
+  pub small : j.room ≤ MAX_JOURNAL_BYTES
+
+-- ---- the beginning
+
+-- Where `begin` has answered `Ok` the machine is one that has done nothing, and what every event keeps holds from there.
+abbrev pub BegunIsFirst : (guest : List ℕ) → State → Input → (room : ℕ) → Journal → (before after : History) → Type 0
+BegunIsFirst guest start i room j before after =
+    room ≤ MAX_JOURNAL_BYTES → HasBegun (length guest) room (Ok j) → Begun guest (Ok j) before after
+    → Stands guest [] after × (length (journal_of guest []) ≤ MAX_JOURNAL_BYTES) × IsJournalOf guest (first_machine start after i) j
 
 -- ---- a new core
 
@@ -61,11 +77,6 @@ CommitIsInHand guest supplied m e out core = m.left ≡ None → IsAtRest m → 
     × Step guest supplied m (in_round events.Judge) (record m { core = core; round_runs = m.round_runs ++ r ∷ []; hand = holds (record_of_run r) (r ∷ []) frame_write })
 
 -- ---- an append
-
--- the machine's journal, as the program counts its bytes
-pub record IsJournalOf (guest : List ℕ) (m : Machine) (j : Journal) : Type 0 where
-  pub at_end : j.end ≡ journal_end guest m
-  pub small : j.room ≤ MAX_JOURNAL_BYTES
 
 -- the calls of a record before one of them
 abbrev pub calls_before : Call → List Event

@@ -21,7 +21,7 @@ ghost use Rattle.recorder.specs.declared.options.Options.{Options};
 ghost use Rattle.recorder.specs.declared.commit.CommitFault.{CommitFault};
 ghost use Rattle.recorder.specs.Drawing.{Draw, HasDrawn};
 ghost use Rattle.journal_text.specs.Reading.{journal_of};
-ghost use Rattle.recorder.specs.CallEvents.{AppendIsEvents, AppliedIsEvent, CommitIsEvents, CommitIsInHand, DrawIsRound, SendIsEvents};
+ghost use Rattle.recorder.specs.CallEvents.{AppendIsEvents, AppliedIsEvent, BegunIsFirst, CommitIsEvents, CommitIsInHand, DrawIsRound, SendIsEvents};
 ghost use Rattle.recorder.specs.Machine.{Event, Machine, Reaches, first_machine, judged_runs};
 ghost use Rattle.recorder.specs.MachineKept.{IsKept, answers_of_runs, draws_in};
 ghost use Rattle.recorder.specs.Recording.{IsNext};
@@ -70,6 +70,12 @@ pub fn answers_are_honest()
     supply::an_answer_is_of_the_input();
     supply::the_windows_are_the_input();
 }
+
+/// What `Journal::begin` leaves at `Ok` is a recording as it begins, from which `every_event_keeps` speaks.
+pub fn a_begun_journal_is_a_beginning()
+    ensures { (guest : List ℕ) (start : State) (i : Input) (room : ℕ) (j : Journal) (before after : History) →
+        BegunIsFirst guest start i room j before after }
+{}
 
 /// A core that is made over the committed state once `draw` has read the round's input is the machine's next round.
 pub fn a_new_core_is_a_round()
