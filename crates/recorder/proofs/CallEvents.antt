@@ -165,7 +165,7 @@ draw_is_round used_up guest supplied m d jobs i w core = λ none rest over some 
 -- ---- an append
 
 module _ (guest : List ℕ) (supplied : Bool) (m : Machine) (r : Record) (rs : List EpochRun) (none : m.left ≡ None) (works : m.stopped ≡ false) (in_hand : m.hand ≡ holds r rs frame_write) where
-  -- so far
+  -- at one of the calls
   abbrev at : Call → History → Machine
   at call t = record m { world = t; hand = holds r rs call }
 
@@ -241,7 +241,7 @@ left-is : (bytes : List ℕ) (n : ℕ) → left_of bytes n ≡ drop n bytes
 left-is bytes n = take_all (length bytes - n) (drop n bytes) (omega (arith, length-drop n bytes))
 
 module _ (guest : List ℕ) (supplied : Bool) (m : Machine) (bytes : List ℕ) (none : m.left ≡ None) (works : m.stopped ≡ false) (unsent : output_of_runs m.written ≡ m.released ++ bytes) where
-  -- so many were sent
+  -- once this number of bytes was sent
   abbrev sent_to : ℕ → History → Machine
   sent_to n t = record m { world = t; released = m.released ++ take n bytes }
 

@@ -21,7 +21,7 @@ pub record IsSettled (content disk : List ℕ) (pending : Pending) : Type 0 wher
   pub disk_is : disk ≡ content
   pub synced : pending ≡ nothing_pending content
 
--- bytes are pending behind a content that was gate_write
+-- a write is pending on a content that was settled
 pub record IsPendingAt (at count : ℕ) (old content disk : List ℕ) (pending : Pending) : Type 0 where
   pub disk_is : disk ≡ content
   pub pending_is : pending ≡ write_pending at count (nothing_pending old)

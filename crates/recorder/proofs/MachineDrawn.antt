@@ -41,7 +41,7 @@ module _ (laws : TakeLaws) (guest : List ℕ) (start : State) (before : History)
   abbrev pub Drawn : List Draw → Machine → Type 0
   Drawn draws m = DrawnBy draws m.supply m.core.committed.input (length m.core.jobs) m.core.max_jobs (judged_runs m) m.input
 
-  -- so many jobs
+  -- with another number of jobs
   other_jobs : (draws : List Draw) (w : Supplied) (place jobs more room : ℕ) (rs : List EpochRun) (j : Input) → DrawnBy draws w place jobs room rs j → more ≤ room → DrawnBy draws w place more room rs j
   other_jobs draws w place jobs more room rs j d few = record { drawn = d.drawn; within = few; last = d.last }
 

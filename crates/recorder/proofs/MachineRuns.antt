@@ -1,4 +1,4 @@
--- Epochs one from the end of another, and the records that stand for them.
+-- Epochs, each from the end of the one before, and the records that stand for them.
 use Rattle.std.proofs.Common.{◌≡◌, ◌+◌, ℕ, List, [], ◌∷◌, ◌++◌, Result, Ok, Err, refl, sym, ◌∙◌, ap, subst}
 use Rattle.commit_core.specs.JudgedRound.{AreLinked}
 use Rattle.epoch_record.specs.Epoch.{epoch_of}

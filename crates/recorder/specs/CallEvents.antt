@@ -37,7 +37,7 @@ pub record IsJournalOf (guest : List ℕ) (m : Machine) (j : Journal) : Type 0 w
 
 -- ---- the beginning
 
--- Where `begin` has answered `Ok` the machine is one that has done nothing, and what every event keeps holds from there.
+-- Once `begin` has answered `Ok`, the machine has done nothing yet, and this is the journal that it writes.
 abbrev pub BegunIsFirst : (guest : List ℕ) → State → Input → (room : ℕ) → Journal → (before after : History) → Type 0
 BegunIsFirst guest start i room j before after =
     room ≤ MAX_JOURNAL_BYTES → HasBegun (length guest) room (Ok j) → Begun guest (Ok j) before after
@@ -108,7 +108,7 @@ AppendIsEvents guest supplied m before after added result t =
 
 -- ---- output
 
--- pieces of these bytes, the first after so many of them; each is all that is left, of which the next number of bytes is taken
+-- Bytes are sent in pieces, once this number of them was sent. Each piece is all that is left, and of each Out takes this many bytes.
 abbrev pub pieces_of : List ℕ → (sent : ℕ) → (counts : List ℕ) → List Event
 pieces_of bytes sent [] = []
 pieces_of bytes sent (k ∷ counts) = sends (left_of bytes sent) k ∷ pieces_of bytes (sent + k) counts

@@ -13,7 +13,11 @@
 //!   journal are faithful to the input: reads get its bytes in order, and clock calls get its readings in order.
 //! - At `Ok` the report's line was sent on Note. Otherwise nothing was, or a prefix of that line.
 //!
-//! Stands on `guest_kernel`, `epoch_runner`, `supply`, `checkpoint`, `epoch_record`, `epoch_journal`, `device` and `dp_report`.
+//! `laws` says more of rounds of several jobs: a recording is a machine (`specs/Machine.antt`), whose every event keeps the journal, the
+//! output and the input in step (`specs/MachineKept.antt`), and the calls of the program are its events (`specs/CallEvents.antt`).
+//!
+//! Stands on `guest_kernel`, `epoch_runner`, `supply`, `checkpoint`, `commit_core`, `epoch_record`, `epoch_journal`, `device` and
+//! `dp_report`.
 //!
 //! ```text
 //! let image = load(alloc, file)?;
