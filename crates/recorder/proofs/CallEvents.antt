@@ -27,6 +27,13 @@ use Rattle.epoch_journal.specs.Standing.{Journal}
 use Rattle.epoch_journal.proofs.OnDisk.{length-journal-push}
 use Rattle.epoch_record.specs.declared.epoch.Epoch as epochs
 use Rattle.epoch_runner.specs.Answering.{input_due}
+use Rattle.dp_base.specs.Journal as journals
+use Rattle.epoch_record.specs.Epoch.{epoch_of}
+use Rattle.epoch_runner.specs.Running.{HasRun, IsRunOf}
+use Rattle.epoch_runner.specs.Schedule.{IsScheduled}
+use Rattle.epoch_runner.specs.Supplying.{IsSuppliedBy}
+use Rattle.epoch_runner.specs.declared.bounds.Bounds.{Bounds}
+use Rattle.sync_hints.specs.declared.hints.Hints.{Hints}
 use Rattle.epoch_runner.specs.declared.epoch_run.EpochRun.{EpochRun}
 use Rattle.guest_kernel.specs.declared.state.State.{State}
 use Rattle.supply.specs.Supplied.{IsSupply, Supplied, end_of}
@@ -38,7 +45,7 @@ use Rattle.journal_text.specs.Records.{Record, body_of}
 use Rattle.recorder.specs.declared.commit.CommitFault.{CommitFault}
 use Rattle.recorder.specs.declared.commit.CommitFault.TheVariants as commits
 use Rattle.recorder.specs.Committing.{CommitCalls, HasCommitted}
-use Rattle.recorder.specs.Machine.{Call, CallLeaves, Event, Hand, InRound, IsAtRest, IsNextOutput, Judges, Machine, Reaches, RecordFits, Step, after_call, fails, frame_sync, frame_write, gate_sync, gate_write, holds, in_round, journal_end, makes, output_of_runs, record_of_run, send_fails, sends}
+use Rattle.recorder.specs.Machine.{Call, CallLeaves, Event, Hand, InRound, IsAtRest, IsNextOutput, IsReached, IsTakeable, Judges, Machine, Reaches, RecordFits, Step, after_call, fails, frame_sync, frame_write, gate_sync, gate_write, holds, in_round, journal_end, makes, output_of_runs, record_of_run, send_fails, sends}
 use Rattle.recorder.specs.CallEvents.{AppendEvents, AppendIsEvents, AppliedIsEvent, BegunIsFirst, CallFails, CommitEvents, CommitIsEvents, CommitIsInHand, DrawIsRound, IsAllowed, IsJournalOf, SendEvents, SendIsEvents, after_commit, calls_before, pieces_of, record_calls}
 
 -- ---- events after events
@@ -61,8 +68,8 @@ begun_is_first guest start i room j before after = λ few numbers begun.
 
 module _ (guest : List ℕ) (supplied : Bool) (m : Machine) (none : m.left ≡ None) where
   -- the machine's are the core's
-  becomes : (ran : Ran) (n : Machine) → Judges m ran n → BecomesBy m.core ran n.core
-  becomes (Epoch r) n (inl j) = inl (j.0, ap (λ (x : Machine). x.core) j.1)
+  becomes : (ran : Ran) (n : Machine) → Judges supplied m ran n → BecomesBy m.core ran n.core
+  becomes (Epoch r) n (inl j) = inl (j.0, ap (λ (x : Machine). x.core) j.2)
   becomes (Epoch r) n (inr j) = inr (j.0, ap (λ (x : Machine). x.core) j.1)
   becomes (Idle s) n j = ap (λ (x : Machine). x.core) j.1
 
@@ -78,11 +85,11 @@ module _ (guest : List ℕ) (supplied : Bool) (m : Machine) (none : m.left ≡ N
   is_judged verdict core ran judged open_ next =
       subst (λ (o : Option Stage). JudgesNext m.core o verdict core) next (subst (λ (b : Bool). JudgesWhere b m.core verdict core) open_ judged)
 
-  judges_so : (verdict : Verdict) (core : Core) (ran : Ran) → IsJudged m.core ran verdict core → (n : Machine) × Judges m ran n × (n.core ≡ core)
-  judges_so verdict core (Epoch r) (inl j) = (record m { core = with_epoch m.core r; round_runs = m.round_runs ++ r ∷ []; hand = holds (record_of_run r) (r ∷ []) frame_write }, inl (j.0, refl), sym j.2)
-  judges_so verdict core (Epoch r) (inr j) = (record m { core = shut m.core }, inr (j.0, refl), sym j.2)
-  judges_so verdict core (Idle s) (inl j) = (record m { core = shut m.core }, (inl j.0, refl), sym j.2)
-  judges_so verdict core (Idle s) (inr j) = (record m { core = shut m.core }, (inr j.0, refl), sym j.2)
+  judges_so : (verdict : Verdict) (core : Core) (ran : Ran) → IsReached supplied m.supply m.core.committed → IsJudged m.core ran verdict core → (n : Machine) × Judges supplied m ran n × (n.core ≡ core)
+  judges_so verdict core (Epoch r) reached (inl j) = (record m { core = with_epoch m.core r; round_runs = m.round_runs ++ r ∷ []; hand = holds (record_of_run r) (r ∷ []) frame_write }, inl (j.0, reached, refl), sym j.2)
+  judges_so verdict core (Epoch r) reached (inr j) = (record m { core = shut m.core }, inr (j.0, refl), sym j.2)
+  judges_so verdict core (Idle s) reached (inl j) = (record m { core = shut m.core }, (inl j.0, refl), sym j.2)
+  judges_so verdict core (Idle s) reached (inr j) = (record m { core = shut m.core }, (inr j.0, refl), sym j.2)
 
   comes : (e : rounds.Event) (verdict : Verdict) (core : Core) → IsAllowed supplied m e → HasApplied m.core e verdict core → Goes m.core e core → (n : Machine) × Step guest supplied m (in_round e) n × (n.core ≡ core)
   comes (events.Offer i) verdict core allowed applied g = (record m { core = with_job m.core }, (none, (g.0, g.1, refl)), sym g.2)
@@ -91,8 +98,8 @@ module _ (guest : List ℕ) (supplied : Bool) (m : Machine) (none : m.left ≡ N
   comes (events.Take i ran) verdict core allowed applied g =
       (record m { core = with_stage m.core i (Taken ran); results = record { number = i; ran = ran } ∷ m.results }, (none, (g.0, allowed, refl)), sym g.1)
   comes events.Judge verdict core allowed applied g =
-      let there = judges_so verdict core g.1 (is_judged verdict core g.1 applied g.0 g.2) in
-      (there.0, (none, (allowed, g.0, g.1, g.2, there.1)), there.2)
+      let there = judges_so verdict core g.1 allowed.1 (is_judged verdict core g.1 applied g.0 g.2) in
+      (there.0, (none, (allowed.0, g.0, g.1, g.2, there.1)), there.2)
 
   pub by_note : (e : rounds.Event) (verdict : Verdict) (core : Core) → IsAllowed supplied m e → HasApplied m.core e verdict core → NotesOrRefuses m.core e verdict core
       → ((n : Machine) × Step guest supplied m (in_round e) n × (n.core ≡ core) × (IsRefusal verdict → ⊥)) ⊎ (IsRefusal verdict × (core ≡ m.core) × ((n : Machine) → Step guest supplied m (in_round e) n → ⊥))
@@ -102,7 +109,7 @@ module _ (guest : List ℕ) (supplied : Bool) (m : Machine) (none : m.left ≡ N
   by_note e verdict core allowed applied (inr refused) = inr (refused.0, refused.1, λ n s. refused.2 n.core (goes_too e n s.1))
 
   -- an epoch that is committed is in hand
-  module _ (e : epochs.Epoch) (out : List ℕ) (core : Core) (rest : IsAtRest m) where
+  module _ (e : epochs.Epoch) (out : List ℕ) (core : Core) (rest : IsAtRest m) (reached : IsReached supplied m.supply m.core.committed) where
     abbrev InHand : Type 0
     InHand = (r : EpochRun) × (r.epoch ≡ e) × (r.out ≡ out)
         × Step guest supplied m (in_round events.Judge) (record m { core = core; round_runs = m.round_runs ++ r ∷ []; hand = holds (record_of_run r) (r ∷ []) frame_write })
@@ -114,7 +121,7 @@ module _ (guest : List ℕ) (supplied : Bool) (m : Machine) (none : m.left ≡ N
       (let same : Commit e out ≡ Commit r.epoch r.out = j.1 in cc),
       (
         none,
-        (rest, going, Epoch r, next, inl (j.0, ap (λ (c : Core). record m { core = c; round_runs = m.round_runs ++ r ∷ []; hand = holds (record_of_run r) (r ∷ []) frame_write }) j.2)),
+        (rest, going, Epoch r, next, inl (j.0, reached, ap (λ (c : Core). record m { core = c; round_runs = m.round_runs ++ r ∷ []; hand = holds (record_of_run r) (r ∷ []) frame_write }) j.2)),
       ),
     )
     by_ran (Epoch r) going next (inr j) = let never : Commit e out ≡ Squash (m.core.judged + 1) = j.1 in absurd cc
@@ -137,7 +144,7 @@ module _ (guest : List ℕ) (supplied : Bool) (m : Machine) (none : m.left ≡ N
     by_closed false is j = by_stage (slice_get m.core.jobs m.core.judged) is refl j
 
 pub commit_is_in_hand : (guest : List ℕ) (supplied : Bool) (m : Machine) (e : epochs.Epoch) (out : List ℕ) (core : Core) → CommitIsInHand guest supplied m e out core
-commit_is_in_hand guest supplied m e out core = λ none rest judged. by_closed guest supplied m none e out core rest m.core.closed refl judged
+commit_is_in_hand guest supplied m e out core = λ none rest reached judged. by_closed guest supplied m none e out core rest reached m.core.closed refl judged
 
 pub applied_is_event : ((c there : Core) (e : rounds.Event) (verdict : Verdict) → HasApplied c e verdict there → NotesOrRefuses c e verdict there)
     → (guest : List ℕ) (supplied : Bool) (m : Machine) (e : rounds.Event) (verdict : Verdict) (core : Core) → AppliedIsEvent guest supplied m e verdict core
@@ -161,6 +168,24 @@ draw_is_round used_up guest supplied m d jobs i w core = λ none rest over some 
   sym w_is,
   sym core_is,
 )
+
+-- ---- a result
+
+pub run_is_takeable : ((start : State) (hints : Hints) (w : Supplied) (bounds : Bounds) (e : journals.Epoch) (output : List ℕ) (end : State) → IsScheduled start hints w bounds e output end → w.place ≤ start.input → start.input ≤ end_of w → IsSuppliedBy w start.input end.input e.answers)
+    → (supplied : Bool) (s : State) (hints : Hints) (w : Supplied) (bounds : Bounds) (ran : Ran) → HasRun s hints w bounds ran → IsTakeable supplied w ran
+run_is_takeable law supplied s hints w bounds (Epoch r) run = by_flag supplied
+  where
+    is_run : IsRunOf r.start (epoch_of r.epoch) r.out r.end
+    is_run = subst (λ (x : State). IsRunOf x (epoch_of r.epoch) r.out r.end) (sym run.from) run.runs
+
+    is_scheduled : IsScheduled r.start hints w bounds (epoch_of r.epoch) r.out r.end
+    is_scheduled = subst (λ (x : State). IsScheduled x hints w bounds (epoch_of r.epoch) r.out r.end) (sym run.from) run.scheduled
+
+    by_flag : (supplied : Bool) → IsTakeable supplied w (Epoch r)
+    by_flag true = (is_run, λ place within. law r.start hints w bounds (epoch_of r.epoch) r.out r.end is_scheduled place within)
+    by_flag false = is_run
+run_is_takeable law true s hints w bounds (Idle t) run = (tt, tt)
+run_is_takeable law false s hints w bounds (Idle t) run = tt
 
 -- ---- an append
 

@@ -19,7 +19,7 @@ use Rattle.epoch_runner.specs.Supplying.{IsSuppliedBy}
 use Rattle.guest_kernel.specs.declared.state.State.{State}
 use Rattle.recorder.specs.Drawing.{Draw, HasDrawn, readings_since, supply_of}
 use Rattle.recorder.proofs.Drawings.{IsDrawn, TakeLaws, drawn_more, has_drawn, none_drawn, taken_more}
-use Rattle.supply.specs.Supplied.{Supplied, empty}
+use Rattle.supply.specs.Supplied.{Supplied, empty, end_of}
 use Rattle.supply.specs.declared.TheConstants.{MAX_ROOM}
 use Rattle.std.proofs.lemmas.Grind.{flat_map-append}
 use Rattle.journal_text.specs.Records.{Record}
@@ -49,20 +49,21 @@ module _ (laws : TakeLaws) (guest : List ℕ) (start : State) (before : History)
   set_jobs draws m k stage d = other_jobs draws m.supply m.core.committed.input (length m.core.jobs) (length (with_stage m.core k stage).jobs) m.core.max_jobs (judged_runs m) m.input d
       (omega (arith, d.within, length-set m.core.jobs (k - 1) stage))
 
-  judged : (draws : List Draw) (m n : Machine) (ran : Ran) → AllOf m → Drawn draws m → IsAtRest m → slice_get m.core.jobs m.core.judged ≡ Some (Taken ran) → Judges m ran n → Drawn draws n
+  judged : (draws : List Draw) (m n : Machine) (ran : Ran) → AllOf m → Drawn draws m → IsAtRest m → slice_get m.core.jobs m.core.judged ≡ Some (Taken ran) → Judges true m ran n → Drawn draws n
   judged draws m n (Epoch r) all d rest next (inl j) =
       let inv = all.inside in
       let good : IsTakeable true m.supply (Epoch r) = next_known true m.supply m.began m.round_runs m.core m.results inv (Epoch r) next in
       let from : r.start.input ≡ m.core.committed.input = ap (λ (s : State). s.input) j.0 in
+      let within : m.core.committed.input ≤ end_of m.supply = omega (arith, d.drawn.within, d.drawn.last.end) in
       let supplied : IsSuppliedBy m.supply m.core.committed.input r.end.input (epoch_of r.epoch).answers =
-      subst (λ (x : ℕ). IsSuppliedBy m.supply x r.end.input (epoch_of r.epoch).answers) from good.1.1 in
+      subst (λ (x : ℕ). IsSuppliedBy m.supply x r.end.input (epoch_of r.epoch).answers) from (good.1 (omega (arith, j.1, from)) (omega (arith, within, from))) in
       let some : 0 < m.core.max_jobs = omega (arith, d.within, slice_get_within m.core.jobs m.core.judged (Taken (Epoch r)) next) in
       let answers : answers_of_runs (m.written ++ r ∷ []) ≡ answers_of_runs (judged_runs m) ++ (epoch_of r.epoch).answers =
       flat_map-append (λ (x : EpochRun). (epoch_of x.epoch).answers) m.written (r ∷ [])
       ∙ ap (λ (l : List EpochRun). answers_of_runs l ++ answers_of_runs (r ∷ [])) (sym (ap (λ (h : Hand). m.written ++ runs_in_hand h) rest.1 ∙ append-nil m.written))
       ∙ ap (λ (l : List Answer). answers_of_runs (judged_runs m) ++ l) (append-nil (epoch_of r.epoch).answers) in
-      let more = taken_more m.supply m.core.committed.input r.end.input draws (answers_of_runs (judged_runs m)) (epoch_of r.epoch).answers i m.input d.drawn (omega (arith, good.1.0, from)) supplied (d.last some) in
-      subst (Drawn draws) (sym j.1) (record {
+      let more = taken_more m.supply m.core.committed.input r.end.input draws (answers_of_runs (judged_runs m)) (epoch_of r.epoch).answers i m.input d.drawn j.1 supplied (d.last some) in
+      subst (Drawn draws) (sym j.2) (record {
         drawn = subst (λ (l : List Answer). IsDrawn m.supply r.end.input draws l i m.input) (sym answers) more;
         within = omega (arith, d.within, length-set m.core.jobs m.core.judged Judged);
         last = d.last;

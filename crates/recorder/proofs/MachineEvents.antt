@@ -45,11 +45,11 @@ module _ (guest : List ℕ) (start : State) (before : History) (is-guest : IsGue
   core_only : (m : Machine) (core : Core) → All m → m.left ≡ None → core.committed ≡ m.core.committed → Holds guest start before is-guest (record m { core = core })
   core_only m core all none same = round_only guest start before is-guest m (record m { core = core }) all.outside none same refl refl refl refl refl refl refl
 
-  judged : (m n : Machine) (ran : Ran) → All m → m.left ≡ None → IsAtRest m → m.core.closed ≡ false → slice_get m.core.jobs m.core.judged ≡ Some (Taken ran) → Judges m ran n → All n
+  judged : (m n : Machine) (ran : Ran) → All m → m.left ≡ None → IsAtRest m → m.core.closed ≡ false → slice_get m.core.jobs m.core.judged ≡ Some (Taken ran) → Judges supplied m ran n → All n
   judged m n (Epoch r) all none rest going next (inl j) =
       let inv = all.inside in
       let is : IsRunHere r = was_ran supplied m.supply (Epoch r) (next_known supplied m.supply m.began m.round_runs m.core m.results inv (Epoch r) next) in
-      subst All (sym j.1) (record {
+      subst All (sym j.2) (record {
         outside = taken_up guest start before is-guest m (with_epoch m.core r) (m.round_runs ++ r ∷ []) (record_of_run r) (r ∷ []) all.outside none rest.0 rest.1
             (subst (λ (s : State). Follows s (record_of_run r) (r ∷ []) r.end) j.0 (run_follows r is));
         inside = committed_round supplied m.supply m.began m.round_runs m.core m.results inv r next going j.0;

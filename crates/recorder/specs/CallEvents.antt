@@ -27,7 +27,7 @@ use Rattle.recorder.specs.Committing.{CommitCalls, HasCommitted}
 use Rattle.recorder.specs.declared.commit.CommitFault.{CommitFault}
 use Rattle.recorder.specs.declared.commit.CommitFault.TheVariants as commits
 use Rattle.recorder.specs.Drawing.{Draw, Drew, supply_of}
-use Rattle.recorder.specs.Machine.{Call, Event, IsAtRest, IsTakeable, Machine, Reaches, Step, after_call, fails, first_machine, frame_sync, frame_write, gate_sync, gate_write, holds, in_round, journal_end, makes, output_of_runs, record_of_run, round, send_fails, sends}
+use Rattle.recorder.specs.Machine.{Call, Event, IsAtRest, IsReached, IsTakeable, Machine, Reaches, Step, after_call, fails, first_machine, frame_sync, frame_write, gate_sync, gate_write, holds, in_round, journal_end, makes, output_of_runs, record_of_run, round, send_fails, sends}
 use Rattle.supply.specs.Supplied.{IsSupply, Supplied, end_of}
 
 -- the machine's journal, as the program counts its bytes
@@ -55,13 +55,14 @@ DrawIsRound guest supplied m d jobs i w core =
 
 -- ---- the events of a core
 
--- what the machine asks besides: a result may be taken, and the next one is judged at rest
+-- What the machine asks besides: a result may be taken; the next one is judged at rest, and the window doesn't begin after what the
+-- committed state has read.
 abbrev pub IsAllowed : (supplied : Bool) → Machine → rounds.Event → Type 0
 IsAllowed supplied m (events.Offer i) = ⊤
 IsAllowed supplied m (events.Claim i) = ⊤
 IsAllowed supplied m (events.Done i) = ⊤
 IsAllowed supplied m (events.Take i ran) = IsTakeable supplied m.supply ran
-IsAllowed supplied m events.Judge = IsAtRest m
+IsAllowed supplied m events.Judge = IsAtRest m × IsReached supplied m.supply m.core.committed
 
 -- An event that `apply` doesn't refuse is the machine's, and leaves the core that `apply` leaves. One that it refuses isn't, and changes
 -- nothing.
@@ -72,7 +73,7 @@ AppliedIsEvent guest supplied m e verdict core = m.left ≡ None → IsAllowed s
 
 -- an epoch that the core commits is in hand
 abbrev pub CommitIsInHand : (guest : List ℕ) → (supplied : Bool) → Machine → Epoch → (out : List ℕ) → Core → Type 0
-CommitIsInHand guest supplied m e out core = m.left ≡ None → IsAtRest m → HasJudged m.core (Commit e out) core
+CommitIsInHand guest supplied m e out core = m.left ≡ None → IsAtRest m → IsReached supplied m.supply m.core.committed → HasJudged m.core (Commit e out) core
     → (r : EpochRun) × (r.epoch ≡ e) × (r.out ≡ out)
     × Step guest supplied m (in_round events.Judge) (record m { core = core; round_runs = m.round_runs ++ r ∷ []; hand = holds (record_of_run r) (r ∷ []) frame_write })
 

@@ -26,7 +26,7 @@ use Rattle.guest_kernel.specs.State.{has_ended}
 use Rattle.journal_text.specs.Reading.{journal_of}
 use Rattle.journal_text.specs.Records.{IsRecord, Record, body_of, epoch, mark}
 use Rattle.recorder.specs.Drawing.{Draw, Drew, supply_of}
-use Rattle.supply.specs.Supplied.{Supplied, empty}
+use Rattle.supply.specs.Supplied.{Supplied, empty, end_of}
 use Rattle.supply.specs.declared.TheConstants.{MAX_ROOM}
 
 -- ---- the state
@@ -152,9 +152,9 @@ abbrev pub IsResult : Ran → Type 0
 IsResult (Epoch r) = IsRunOf r.start (epoch_of r.epoch) r.out r.end
 IsResult (Idle s) = ⊤
 
--- Its answers are those of this supply, whose window doesn't begin after the epoch's first input byte.
+-- If the epoch starts within this supply's window, its answers are the supply's.
 abbrev pub IsSupplied : Supplied → Ran → Type 0
-IsSupplied w (Epoch r) = (w.place ≤ r.start.input) × IsSuppliedBy w r.start.input r.end.input (epoch_of r.epoch).answers
+IsSupplied w (Epoch r) = w.place ≤ r.start.input → r.start.input ≤ end_of w → IsSuppliedBy w r.start.input r.end.input (epoch_of r.epoch).answers
 IsSupplied w (Idle s) = ⊤
 
 -- a result that may be taken: with any answers, or only with the supply's
@@ -162,12 +162,17 @@ abbrev pub IsTakeable : (supplied : Bool) → Supplied → Ran → Type 0
 IsTakeable true w ran = IsResult ran × IsSupplied w ran
 IsTakeable false w ran = IsResult ran
 
+-- The window doesn't begin after the input that this state has read. This is asked only if answers must be the supply's.
+abbrev pub IsReached : (supplied : Bool) → Supplied → State → Type 0
+IsReached true w s = w.place ≤ s.input
+IsReached false w s = ⊤
+
 -- An epoch that starts in the committed state is committed, and its record is in hand. Any other result closes the round.
-abbrev pub Judges : Machine → Ran → Machine → Type 0
-Judges m (Epoch r) n =
-    ((r.start ≡ m.core.committed) × (n ≡ record m { core = with_epoch m.core r; round_runs = m.round_runs ++ r ∷ []; hand = holds (record_of_run r) (r ∷ []) frame_write }))
+abbrev pub Judges : (supplied : Bool) → Machine → Ran → Machine → Type 0
+Judges supplied m (Epoch r) n =
+    ((r.start ≡ m.core.committed) × IsReached supplied m.supply m.core.committed × (n ≡ record m { core = with_epoch m.core r; round_runs = m.round_runs ++ r ∷ []; hand = holds (record_of_run r) (r ∷ []) frame_write }))
     ⊎ ((r.start ≢ m.core.committed) × (n ≡ record m { core = shut m.core }))
-Judges m (Idle s) n = ((s ≡ m.core.committed) ⊎ (s ≢ m.core.committed)) × (n ≡ record m { core = shut m.core })
+Judges supplied m (Idle s) n = ((s ≡ m.core.committed) ⊎ (s ≢ m.core.committed)) × (n ≡ record m { core = shut m.core })
 
 -- each comes once for a job, and after the one before it
 abbrev pub InRound : (supplied : Bool) → Machine → rounds.Event → Machine → Type 0
@@ -177,7 +182,7 @@ InRound supplied m (events.Done i) n = (stage_at m.core.jobs i ≡ Some Claimed)
 InRound supplied m (events.Take i ran) n = (stage_at m.core.jobs i ≡ Some Done) × IsTakeable supplied m.supply ran
     × (n ≡ record m { core = with_stage m.core i (Taken ran); results = record { number = i; ran = ran } ∷ m.results })
 InRound supplied m events.Judge n =
-    IsAtRest m × (m.core.closed ≡ false) × (ran : Ran) × (slice_get m.core.jobs m.core.judged ≡ Some (Taken ran)) × Judges m ran n
+    IsAtRest m × (m.core.closed ≡ false) × (ran : Ran) × (slice_get m.core.jobs m.core.judged ≡ Some (Taken ran)) × Judges supplied m ran n
 
 -- ---- mark
 

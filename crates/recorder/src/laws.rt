@@ -15,6 +15,9 @@ ghost use Rattle.dp_base.specs.declared.answer.Answer.TheVariants.{Read};
 ghost use Rattle.epoch_journal.specs.declared.append.AppendFault.{AppendFault};
 ghost use Rattle.epoch_journal.specs.Standing.{Journal, Stands};
 ghost use Rattle.epoch_record.specs.declared.epoch.Epoch as epochs;
+ghost use Rattle.epoch_runner.specs.Running.{HasRun};
+ghost use Rattle.epoch_runner.specs.declared.bounds.Bounds.{Bounds};
+ghost use Rattle.epoch_runner.specs.declared.epoch_run.Ran.{Ran};
 ghost use Rattle.guest_kernel.specs.Answers.{bytes_read};
 ghost use Rattle.guest_kernel.specs.declared.state.State.{State};
 ghost use Rattle.recorder.specs.declared.options.Options.{Options};
@@ -22,10 +25,11 @@ ghost use Rattle.recorder.specs.declared.commit.CommitFault.{CommitFault};
 ghost use Rattle.recorder.specs.Drawing.{Draw, HasDrawn};
 ghost use Rattle.journal_text.specs.Reading.{journal_of};
 ghost use Rattle.recorder.specs.CallEvents.{AppendIsEvents, AppliedIsEvent, BegunIsFirst, CommitIsEvents, CommitIsInHand, DrawIsRound, SendIsEvents};
-ghost use Rattle.recorder.specs.Machine.{Event, Machine, Reaches, first_machine, judged_runs};
+ghost use Rattle.recorder.specs.Machine.{Event, IsTakeable, Machine, Reaches, first_machine, judged_runs};
 ghost use Rattle.recorder.specs.MachineKept.{IsKept, answers_of_runs, draws_in};
 ghost use Rattle.recorder.specs.Recording.{IsNext};
 ghost use Rattle.supply.specs.Supplied.{Supplied};
+ghost use Rattle.sync_hints.specs.declared.hints.Hints.{Hints};
 ghost use Rattle.supply.specs.Windows.{bytes_left};
 
 /// The epoch that is next from a state, by a supply, the options of a recording and the thread that is first, is one, with one end
@@ -83,6 +87,14 @@ pub fn a_new_core_is_a_round()
         DrawIsRound guest supplied m d jobs i w core }
 {
     epoch_runner::laws::a_supply_lets_a_guest_step();
+}
+
+/// What `run_epoch` answers with the round's supply may be taken, whatever the job's start, hints and bounds are.
+pub fn a_run_may_be_taken()
+    ensures { (supplied : Bool) (s : State) (hints : Hints) (w : Supplied) (bounds : Bounds) (ran : Ran) →
+        HasRun s hints w bounds ran → IsTakeable supplied w ran }
+{
+    epoch_runner::laws::an_epoch_is_supplied();
 }
 
 /// An event that `Core::apply` doesn't refuse is one of the machine's, and leaves the core that `apply` leaves. One that it refuses isn't
