@@ -1,5 +1,5 @@
 -- The calls that the program makes are events.
-use Rattle.std.proofs.Common.{◌≡◌, ◌⊎◌, inl, inr, ℕ, ◌+◌, ◌-◌, ◌≤◌, Bool, true, false, List, [], ◌∷◌, ◌++◌, length, take, drop, slice_get, Option, Some, None, Result, Ok, Err, refl, sym, ◌∙◌, ap, subst, arith, append_assoc, length-append, length-drop}
+use Rattle.std.proofs.Common.{if◌then◌else◌, ◌≡◌, ◌⊎◌, inl, inr, ℕ, ◌+◌, ◌-◌, ◌≤◌, Bool, true, false, List, [], ◌∷◌, ◌++◌, length, take, drop, slice_get, Option, Some, None, Result, Ok, Err, refl, sym, ◌∙◌, ap, subst, arith, append_assoc, length-append, length-drop}
 use Rattle.std.proofs.Math.Seq.{take-add}
 use Rattle.std.proofs.lemmas.Grind.{flat_map-append}
 use Rattle.std.proofs.lemmas.List.{append-nil, take-append-drop, take_all}
@@ -36,7 +36,7 @@ use Rattle.epoch_runner.specs.declared.bounds.Bounds.{Bounds}
 use Rattle.sync_hints.specs.declared.hints.Hints.{Hints}
 use Rattle.epoch_runner.specs.declared.epoch_run.EpochRun.{EpochRun}
 use Rattle.guest_kernel.specs.declared.state.State.{State}
-use Rattle.supply.specs.Supplied.{IsSupply, Supplied, end_of}
+use Rattle.supply.specs.Supplied.{IsSupply, Supplied, end_of, refilled}
 use Rattle.recorder.specs.Drawing.{Draw, supply_of}
 use Rattle.dp_base.specs.declared.limits.TheConstants.{MAX_JOURNAL_BYTES}
 use Rattle.epoch_runner.specs.declared.epoch_run.Ran.{Ran}
@@ -152,6 +152,11 @@ applied_is_event law guest supplied m e verdict core = λ none allowed applied. 
 
 -- ---- a new core
 
+-- a round's window begins no later than the one before, or where that ended
+reached_by : (w : Supplied) (taken : List ℕ) (s : State) (due : Bool) → w.place ≤ s.input → (due ≡ true → s.input ≡ end_of w) → (if due then refilled taken w else w).place ≤ s.input
+reached_by w taken s true place used_up = omega (arith, used_up refl)
+reached_by w taken s false place used_up = place
+
 pub draw_is_round : ((s : State) (w : Supplied) → IsSupply w → w.place ≤ s.input → s.input ≤ end_of w → input_due s w ≡ true → (s.input ≡ end_of w) × (w.ended ≡ false))
     → (guest : List ℕ) (supplied : Bool) (m : Machine) (d : Draw) (jobs : ℕ) (i : Input) (w : Supplied) (core : Core) → DrawIsRound guest supplied m d jobs i w core
 draw_is_round used_up guest supplied m d jobs i w core = λ none rest over some few is_supply place within due drew w_is core_is. (
@@ -167,6 +172,7 @@ draw_is_round used_up guest supplied m d jobs i w core = λ none rest over some 
   refl,
   sym w_is,
   sym core_is,
+  reached_by m.supply d.taken m.core.committed d.due place (λ is_due. (used_up m.core.committed m.supply is_supply place within (sym due ∙ is_due)).0),
 )
 
 -- ---- a result

@@ -45,13 +45,14 @@ BegunIsFirst guest start i room j before after =
 
 -- ---- a new core
 
--- A core that is made over the committed state, after `draw` has read the round's input, is a round.
+-- A core that is made over the committed state, after `draw` has read the round's input, is a round. Its window doesn't begin after what
+-- the committed state has read.
 abbrev pub DrawIsRound : (guest : List ℕ) → (supplied : Bool) → Machine → Draw → (jobs : ℕ) → Input → Supplied → Core → Type 0
 DrawIsRound guest supplied m d jobs i w core =
     m.left ≡ None → IsAtRest m → (m.core.closed ≡ true) ⊎ (m.core.judged ≡ length m.core.jobs) → 0 < jobs → jobs ≤ MAX_JOBS
     → IsSupply m.supply → m.supply.place ≤ m.core.committed.input → m.core.committed.input ≤ end_of m.supply → d.due ≡ input_due m.core.committed m.supply
     → Drew d m.input i → w ≡ supply_of m.supply d → core ≡ fresh m.core.committed jobs
-    → (n : Machine) × Step guest supplied m (round d jobs) n × (n.input ≡ i) × (n.supply ≡ w) × (n.core ≡ core)
+    → (n : Machine) × Step guest supplied m (round d jobs) n × (n.input ≡ i) × (n.supply ≡ w) × (n.core ≡ core) × IsReached true n.supply n.core.committed
 
 -- ---- the events of a core
 
