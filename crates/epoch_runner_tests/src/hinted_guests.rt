@@ -192,7 +192,7 @@ pub(crate) const PATCHES: [u32; 10] = [
 // without items is `-`.
 pub(crate) type Row = &'static str;
 
-fn field_of(text: &str) -> (&str, &str) {
+pub(crate) fn field_of(text: &str) -> (&str, &str) {
     text.split_once(" | ").unwrap_or((text, ""))
 }
 
@@ -238,7 +238,7 @@ pub(crate) fn hints_of(alloc: Global, counts: &str, order: &str) -> Result<Hints
     })
 }
 
-fn bounds_of(text: &str) -> (u32, u32, u16) {
+pub(crate) fn bounds_of(text: &str) -> (u32, u32, u16) {
     let (steps, rest) = text.split_once(' ').unwrap_or((text, ""));
     let (slice, first) = rest.split_once(' ').unwrap_or((rest, ""));
     (
@@ -249,7 +249,12 @@ fn bounds_of(text: &str) -> (u32, u32, u16) {
 }
 
 // A page of code that may be read, written and run, and a page of zeros that may be read and written.
-fn start_of(alloc: Global, code: &[u32], threads: &[Stands], input: u64) -> Result<State, Fail> {
+pub(crate) fn start_of(
+    alloc: Global,
+    code: &[u32],
+    threads: &[Stands],
+    input: u64,
+) -> Result<State, Fail> {
     let mut bytes = Vec::new(alloc);
     for word in code {
         bytes.extend_from_slice(&word.to_le_bytes())?;
@@ -275,7 +280,7 @@ fn x10_of_thread(state: &State, tid: u16) -> u32 {
     }
 }
 
-fn outcome_of(alloc: Global, run: &EpochRun) -> Result<String, AllocError> {
+pub(crate) fn outcome_of(alloc: Global, run: &EpochRun) -> Result<String, AllocError> {
     let mut text = String::new(alloc);
     for slice in run.epoch.slices.as_slice() {
         text.push_str(if text.is_empty() { "" } else { " " })?;

@@ -2,7 +2,8 @@
 //! answers come from.
 //!
 //! This crate is its tests: they call `epoch_runner` and `supply` as a crate above them does. Each slice and each window was worked
-//! out by hand, and those of epochs that follow hints by a model that was written apart from this code.
+//! out by hand. Those of epochs that follow hints, or that are taken turn by turn, were worked out by a model that was written apart from
+//! this code.
 #![tactic(auto)]
 
 #[cfg(test)]
@@ -19,5 +20,7 @@ mod hinted_guests;
 mod input_tests;
 #[cfg(test)]
 mod supply_tests;
+#[cfg(test)]
+mod walk_tests;
 #[cfg(test)]
 mod worked_answers;
