@@ -30,14 +30,14 @@ use Rattle.epoch_replay.proofs.Moments.{each_moment, noted_moments, quiet, sent_
 -- ---- the definition, step by step
 
 -- an epoch in front of others, by what its slices come to
-epoch_plays : (s : State) (number : ℕ) (e : Epoch) (others : List Record) (tail : Tail) (r : Result After (Stop × After)) → run e.slices (at s [] e.answers) ≡ r
+pub epoch_plays : (s : State) (number : ℕ) (e : Epoch) (others : List Record) (tail : Tail) (r : Result After (Stop × After)) → run e.slices (at s [] e.answers) ≡ r
     → play_from s number (epoch e ∷ others) tail ≡ either r (λ stop. stopped (Err (bad_epoch number))) (λ here. behind here.output (play_from here.state (number + 1) others tail))
 unfolding play_from
 epoch_plays s number e others tail r ran =
     ap (λ (x : Result After (Stop × After)). either x (λ stop. stopped (Err (bad_epoch number))) (λ here. behind here.output (play_from here.state (number + 1) others tail))) ran
 
 -- a mark in front of others
-mark_plays : (s : State) (number : ℕ) (c : Checkpoint) (others : List Record) (tail : Tail) (right : Bool) → is_right c s ≡ right
+pub mark_plays : (s : State) (number : ℕ) (c : Checkpoint) (others : List Record) (tail : Tail) (right : Bool) → is_right c s ≡ right
     → play_from s number (mark c ∷ others) tail ≡ cond right (play_from s (number + 1) others tail) (stopped (Err (bad_mark number)))
 unfolding play_from
 mark_plays s number c others tail right is = ap (λ (b : Bool). cond b (play_from s (number + 1) others tail) (stopped (Err (bad_mark number)))) is
@@ -60,12 +60,12 @@ made stop output = record { output = output; stop = stop }
 behind_stop : (output : List ℕ) (stop : Result State Refusal) → behind output (stopped stop) ≡ made stop output
 behind_stop output stop = ap (made stop) (append-nil output)
 
-behind_twice : (first second : List ℕ) (p : Played) → behind first (behind second p) ≡ behind (first ++ second) p
+pub behind_twice : (first second : List ℕ) (p : Played) → behind first (behind second p) ≡ behind (first ++ second) p
 behind_twice first second p = ap (made p.stop) (sym (append_assoc first second p.output))
 
 -- ---- what was sent
 
-sent_more : (output more : List ℕ) (first now later : Option History) → IfKnown (HasSent output []) first now → IfKnown (Sent Out more true) now later → IfKnown (HasSent (output ++ more) []) first later
+pub sent_more : (output more : List ℕ) (first now later : Option History) → IfKnown (HasSent output []) first now → IfKnown (Sent Out more true) now later → IfKnown (HasSent (output ++ more) []) first later
 sent_more output more first now later so_far known = known-then _ _ _ _ _ _
     (λ s t u r b.
     record {
@@ -77,7 +77,7 @@ sent_more output more first now later so_far known = known-then _ _ _ _ _ _
     so_far known
 
 -- a prefix of what is behind it was sent
-sent_some : (output more others all : List ℕ) (first now later : Option History) → all ≡ (output ++ more) ++ others → IfKnown (HasSent output []) first now → IfKnown (Sent Out more false) now later
+pub sent_some : (output more others all : List ℕ) (first now later : Option History) → all ≡ (output ++ more) ++ others → IfKnown (HasSent output []) first now → IfKnown (Sent Out more false) now later
     → IfKnown (HasSentSome all) first later
 sent_some output more others all first now later is so_far known = known-then _ _ _ _ _ _
     (λ s t u r b. (

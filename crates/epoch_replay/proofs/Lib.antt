@@ -1,5 +1,7 @@
 pub mod Going
 pub mod Moments
+pub mod Stretches
+pub mod Parts
 mod Finding
 mod Marks
 mod Epochs

@@ -26,6 +26,8 @@ mod mark;
 mod progress;
 mod replay_fault;
 mod replaying;
+mod stretch;
+mod window;
 
 pub use dp_report::Report;
 pub use replay_fault::ReplayFault;

@@ -14,6 +14,7 @@ use crate::epoch::play_epoch;
 use crate::mark::is_right_mark;
 use crate::progress::Progress;
 use crate::replay_fault::ReplayFault;
+use crate::window::play_window;
 use checkpoint::digest;
 use device::send_all;
 use disk_model::{Stream, World};
@@ -22,10 +23,12 @@ use epoch_journal::read_whole;
 use guest_kernel::{State, start_from_file};
 use journal_text::{Head, Rec, header, next_record};
 use std::alloc::Global;
+use std::thread::Threads;
 
 /// Replays the journal on the attached disk: sends the output of its epochs on Out, in order, and then the report's line on
-/// Note. The world comes back whatever happens. The disk is read once, from its start, and isn't written. The epochs are run
-/// one after another, for any number of workers.
+/// Note. The world comes back whatever happens. The disk is read once, from its start, and isn't written. With one
+/// worker the epochs run one after another. With more, the stretches between marks run side by side, at most `workers` of them, and
+/// at most 64; the answer and what is sent are the same.
 ///
 /// At every moment of the call the disk is as it was, so a crash leaves the journal, and what was sent is a prefix of the output that
 /// the journal plays to.
@@ -33,11 +36,11 @@ use std::alloc::Global;
 /// # Errors
 ///
 /// See [`ReplayFault`]. The file is judged first, then its guest, and then the records in their order.
-pub fn replay<R, W: World>(
-    _rt: &R,
+pub fn replay<R: Threads + Sync, W: World>(
+    rt: &R,
     alloc: Global,
     mut world: W,
-    _workers: u32,
+    workers: u32,
 ) -> (W, Result<Report, ReplayFault>)
     ensures replayed { OnDisk (known_disk (W.history world))
         (λ bytes. Replayed (reads bytes) (W.history world) (W.history result.0) result.1) }
@@ -53,11 +56,16 @@ pub fn replay<R, W: World>(
         (Rose (W.disk_faults world) (W.disk_faults result.0) → ⊥) →
         (Rose (W.sink_faults world) (W.sink_faults result.0) → ⊥) → IsNoFault result.1 }
 {
-    let answer = replay_disk(alloc, &mut world);
+    let answer = replay_disk(rt, alloc, &mut world, workers);
     (world, answer)
 }
 
-fn replay_disk<W: World>(alloc: Global, world: &mut W) -> Result<Report, ReplayFault>
+fn replay_disk<R: Threads + Sync, W: World>(
+    rt: &R,
+    alloc: Global,
+    world: &mut W,
+    workers: u32,
+) -> Result<Report, ReplayFault>
     ensures replayed { OnDisk (known_disk (W.history world.old))
         (λ bytes. Replayed (reads bytes) (W.history world.old) (W.history world.new) result) }
     ensures moments { OnDisk (known_disk (W.history world.old))
@@ -72,11 +80,17 @@ fn replay_disk<W: World>(alloc: Global, world: &mut W) -> Result<Report, ReplayF
     ensures sink_count { W.sink_faults world.old ≤ W.sink_faults world.new }
 {
     let file = read_whole(alloc, world)?;
-    replay_file(alloc, world, &file)
+    replay_file(rt, alloc, world, workers, &file)
 }
 
 // Replays a journal that was read.
-fn replay_file<W: World>(alloc: Global, world: &mut W, file: &[u8]) -> Result<Report, ReplayFault>
+fn replay_file<R: Threads + Sync, W: World>(
+    rt: &R,
+    alloc: Global,
+    world: &mut W,
+    workers: u32,
+    file: &[u8],
+) -> Result<Report, ReplayFault>
     requires few { length file.now ≤ MAX_JOURNAL_BYTES }
     ensures replayed { Replayed (reads file.now) (W.history world.old) (W.history world.new) result }
     ensures moments { EachMoment (reads file.now) (W.history world.old) (W.history world.new) }
@@ -100,13 +114,15 @@ fn replay_file<W: World>(alloc: Global, world: &mut W, file: &[u8]) -> Result<Re
     };
     let first = 9 + guest_len as usize;
     let state = start_from_file(alloc, &file[9..first])?;
-    play(alloc, world, file, first as u64, state)
+    play(rt, alloc, world, workers, file, first as u64, state)
 }
 
 // Plays the records from the first one on, and reports.
-fn play<W: World>(
+fn play<R: Threads + Sync, W: World>(
+    rt: &R,
     alloc: Global,
     world: &mut W,
+    workers: u32,
     file: &[u8],
     first: u64,
     start: State,
@@ -133,7 +149,7 @@ fn play<W: World>(
     };
     let mut more = true;
     'records: while more {
-        more = play_record(alloc, world, file, &mut progress)?;
+        more = play_on(rt, alloc, world, workers, file, &mut progress)?;
     }
     let report = Report {
         epochs: progress.epochs,
@@ -148,6 +164,40 @@ fn play<W: World>(
         Ok(()) => Ok(report),
         Err(_) => Err(ReplayFault::OutputFault),
     }
+}
+
+// Plays the records that several workers ran ahead, or else the next record. Returns whether there was one.
+fn play_on<R: Threads + Sync, W: World>(
+    rt: &R,
+    alloc: Global,
+    world: &mut W,
+    workers: u32,
+    file: &[u8],
+    progress: &mut Progress,
+) -> Result<bool, ReplayFault>
+    requires few { length file.now ≤ MAX_JOURNAL_BYTES }
+    requires bounded { IsBounded file.now progress.old }
+    ensures played { (reading : Reading) (first : Option History) →
+        SoFar reading file.now first (W.history world.old) progress.old →
+        PlayedOn reading file.now first (W.history world.new) progress.new result }
+    ensures moments { (reading : Reading) (first : Option History) →
+        SoFar reading file.now first (W.history world.old) progress.old →
+        EachMoment (Some reading) first (W.history world.new) }
+    ensures others { MetNoOther result (W.disk_faults world.old) (W.disk_faults world.new)
+        (W.sink_faults world.old) (W.sink_faults world.new) }
+    ensures bounded { IfOk result (λ more. IsBounded file.now progress.new) }
+    ensures goes_on { IfOk result (λ more. IsTrue more → progress.old.at < progress.new.at) }
+    ensures stays { IfOk result (λ more. progress.old.at ≤ progress.new.at) }
+    ensures no_disk_fault { IsErrOf result ReplayFault.DiskFault → ⊥ }
+    ensures sink_cause { IsErrOf result ReplayFault.OutputFault →
+        Rose (W.sink_faults world.old) (W.sink_faults world.new) }
+    ensures disk_count { W.disk_faults world.new ≡ W.disk_faults world.old }
+    ensures sink_count { W.sink_faults world.old ≤ W.sink_faults world.new }
+{
+    if play_window(rt, alloc, world, file, workers, progress)? {
+        return Ok(true);
+    }
+    play_record(alloc, world, file, progress)
 }
 
 // Plays the record where the replay is. Returns whether there was one.

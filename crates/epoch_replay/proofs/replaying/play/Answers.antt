@@ -22,13 +22,13 @@ returns-in_err-more-clause-replayed g c =
     let l = c.records in
     let play = subst (IsPlay c.args.file.now _ _ l.progress) c.records-test.true l.invariant.play in
     let p = err_from_is_err_and c.from_residual.result c.from_residual.ensures.1 in
-    rw (p.1 ∙ ap (λ e. Err e) p.2) (at_reading (reads c.args.file.now) play.0 (g.W.World.history c.args.world.now) (g.W.World.history c.play_record.new.world) (Err c.in_err-more.field-0.0) play.1 (c.in_err-more.ensures.played play.0 _ play.2))
+    rw (p.1 ∙ ap (λ e. Err e) p.2) (at_reading (reads c.args.file.now) play.0 (g.W.World.history c.args.world.now) (g.W.World.history c.play_on.new.world) (Err c.in_err-more.field-0.0) play.1 (c.in_err-more.ensures.played play.0 _ play.2))
 
 pub records-smaller : goal.records-smaller
 records-smaller g c =
     let l = c.records in
     let e = c.in_ok-more.ensures in
-    rw c.records-test.true (smaller (length c.args.file.now) l.progress.at c.play_record.new.progress.at c.in_ok-more.more l.invariant.bounded.within e.bounded.within e.stays e.goes_on)
+    rw c.records-test.true (smaller (length c.args.file.now) l.progress.at c.play_on.new.progress.at c.in_ok-more.more l.invariant.bounded.within e.bounded.within e.stays e.goes_on)
 
 pub records-preserved : goal.records-preserved
 records-preserved g c =
@@ -70,7 +70,7 @@ pub returns-in_err-more-clause-moments : goal.returns-in_err-more-clause-moments
 returns-in_err-more-clause-moments g c =
     let l = c.records in
     let play = subst (IsPlay c.args.file.now _ _ l.progress) c.records-test.true l.invariant.play in
-    moments_at (reads c.args.file.now) play.0 (g.W.World.history c.args.world.now) (g.W.World.history c.play_record.new.world) play.1 (c.play_record.ensures.moments play.0 _ play.2)
+    moments_at (reads c.args.file.now) play.0 (g.W.World.history c.args.world.now) (g.W.World.history c.play_on.new.world) play.1 (c.play_on.ensures.moments play.0 _ play.2)
 
 pub returns-in_err-text-clause-moments : goal.returns-in_err-text-clause-moments
 returns-in_err-text-clause-moments g c =

@@ -21,7 +21,7 @@ returns-in_err-state-clause-replayed g c =
     c.a_header_stands_first.ensures.guest c.a_header_stands_first.ensures.behind c.reading_goes_on.ensures.header _ c.in_err-state.field-0.0 c.in_err-state.ensures.refused)
 
 pub play-requires-clause-starts : goal.play-requires-clause-starts
-play-requires-clause-starts g c =
+play-requires-clause-starts g c = λ lifetimes order.
     starts c.args.file.now c.requires.few (λ i. omega (arith, c.type_inv.file i)) c.header.result c.in-Whole.guest_len c.in-Whole.is c.header.ensures c.headers.ensures c.lengths.ensures.header
     c.a_header_stands_first.ensures.guest c.a_header_stands_first.ensures.behind c.in_ok-state.state c.in_ok-state.ensures.state c.in_ok-state.ensures.accepted c.a_start_state_is_encodable.ensures
 

@@ -1,0 +1,148 @@
+-- A part of a journal that was run by itself: how it grows, and where it stands in the play.
+use Rattle.std.proofs.Common.{◌≡◌, inl, Bool, ℕ, ◌+◌, ◌*◌, ◌<◌, ◌≤◌, true, false, List, [], ◌∷◌, ◌++◌, length, drop, Option, Some, Result, Ok, Err, refl, sym, ap, subst, ◌∙◌, arith}
+use Rattle.std.proofs.lemmas.List.{length-append}
+use Rattle.dp_base.specs.declared.out_of_memory.OutOfMemory.{OutOfMemory}
+use Rattle.epoch_replay.specs.declared.stretch.Stretch.{Stretch}
+use Rattle.dp_base.specs.declared.answer.Answer.{Answer}
+use Rattle.dp_base.specs.declared.limits.TheConstants.{MAX_CALL_BYTES, MAX_EPOCH_STEPS}
+use Rattle.dp_base.specs.Journal.{Epoch, steps_of}
+use Rattle.disk_model.specs.History.{History}
+use Rattle.disk_model.specs.Known.{IfKnown}
+use Rattle.disk_model.specs.declared.world.Stream.TheVariants.{Out}
+use Rattle.device.specs.Sending.{Sent}
+use Rattle.guest_kernel.specs.declared.state.State.{State}
+use Rattle.guest_kernel.specs.Slices.{at, run}
+use Rattle.guest_state.specs.Checkpoint.{Checkpoint}
+use Rattle.checkpoint.specs.State.{IsEncodable}
+use Rattle.journal_text.specs.Reading.{Reading, tail_at}
+use Rattle.journal_text.specs.Records.{Record, epoch, mark, list_from, next_at}
+use Rattle.epoch_replay.specs.declared.progress.Progress.{Progress}
+use Rattle.epoch_replay.specs.declared.replay_fault.ReplayFault.TheVariants as faults
+use Rattle.epoch_replay.specs.Play.{Played, behind, is_right, play_from, play_of}
+use Rattle.epoch_replay.specs.Playing.{SoFar, left_at}
+use Rattle.epoch_replay.specs.Replaying.{EachMoment, Replayed, epochs_of, output_of}
+use Rattle.epoch_replay.specs.Stretches.{AreResults, IsRun}
+use Rattle.epoch_replay.proofs.Moments.{each_moment, sent_moments}
+use Rattle.epoch_replay.proofs.Going.{accepted_plays, behind_twice, epoch_plays, mark_plays, sent_more, sent_some}
+
+-- ---- a stretch begins
+
+pub at_first : (file : List ℕ) (first : ℕ) (start : State) → first ≤ length file → IsRun file first start first start [] 0 0
+at_first file first start within = record {
+  plays = λ number tail. ap (λ (n : ℕ). play_from start n (left_at file first) tail) (omega arith);
+  rest = refl;
+  count = omega arith;
+  epochs_left = omega arith;
+  few_steps = omega arith;
+  little_input = omega arith;
+  little_sent = omega arith;
+  few_epochs = omega arith;
+  few = omega arith;
+  within = within;
+  encodable = λ is. is;
+}
+
+-- a mark is its own state
+pub at_mark : (file : List ℕ) (first next : ℕ) (start : State) (c : Checkpoint) → list_from (drop first file) ≡ (mark c ∷ (list_from (drop next file)).0, (list_from (drop next file)).1)
+    → is_right c start ≡ true → first < next → next ≤ length file → IsRun file first start next start [] 1 0
+at_mark file first next start c one right further within =
+    let one_left : left_at file first ≡ mark c ∷ left_at file next = ap (λ (l : List Record × List ℕ). l.0) one in
+    record {
+      plays = λ number tail. ap (λ (l : List Record). play_from start number l tail) one_left ∙ mark_plays start number c (left_at file next) tail true right;
+      rest = ap (λ (l : List Record × List ℕ). l.1) one;
+      count = omega (arith, ap (λ (l : List Record). length l) one_left);
+      epochs_left = omega (arith, ap (λ (l : List Record). length (epochs_of l)) one_left);
+      few_steps = omega arith;
+      little_input = omega arith;
+      little_sent = omega arith;
+      few_epochs = omega arith;
+      few = omega (arith, further);
+      within = within;
+      encodable = λ is. is;
+    }
+
+-- ---- a stretch goes on
+
+pub grown : (file : List ℕ) (first : ℕ) (start : State) (place : ℕ) (state : State) (output : List ℕ) (records epochs : ℕ) → IsRun file first start place state output records epochs
+    → (next : ℕ) (e : Epoch) → list_from (drop place file) ≡ (epoch e ∷ (list_from (drop next file)).0, (list_from (drop next file)).1) → place < next → next ≤ length file
+    → (s : State) (out : List ℕ) (left : List Answer) → run e.slices (at state [] e.answers) ≡ Ok (at s out left)
+    → steps_of e.slices ≤ MAX_EPOCH_STEPS → s.steps ≡ state.steps + steps_of e.slices → s.input ≤ state.input + MAX_CALL_BYTES * steps_of e.slices → length out ≤ MAX_CALL_BYTES * steps_of e.slices
+    → (IsEncodable state → IsEncodable s)
+    → IsRun file first start next s (output ++ out) (records + 1) (epochs + 1)
+grown file first start place state output records epochs is next e one further within s out left ran few counts reads writes encodable =
+    let one_left : left_at file place ≡ epoch e ∷ left_at file next = ap (λ (l : List Record × List ℕ). l.0) one in
+    record {
+      plays = λ number tail.
+          is.plays number tail
+          ∙ ap (behind output) (ap (λ (l : List Record). play_from state (number + records) l tail) one_left ∙ epoch_plays state (number + records) e (left_at file next) tail (Ok (at s out left)) ran)
+          ∙ behind_twice output out (play_from s ((number + records) + 1) (left_at file next) tail)
+          ∙ ap (λ (n : ℕ). behind (output ++ out) (play_from s n (left_at file next) tail)) (omega arith);
+      rest = is.rest ∙ ap (λ (l : List Record × List ℕ). l.1) one;
+      count = omega (arith, is.count, ap (λ (l : List Record). length l) one_left);
+      epochs_left = omega (arith, is.epochs_left, ap (λ (l : List Record). length (epochs_of l)) one_left);
+      few_steps = omega (arith, is.few_steps, few, counts);
+      little_input = omega (arith, is.little_input, few, reads);
+      little_sent = omega (arith, is.little_sent, few, writes, length-append output out);
+      few_epochs = omega (arith, is.few_epochs);
+      few = omega (arith, is.few, further);
+      within = within;
+      encodable = λ begins. encodable (is.encodable begins);
+    }
+
+-- ---- a stretch is taken: it begins where the play is, in the state that it is in
+
+module _ (reading : Reading) (file : List ℕ) (before now : Option History) (p : Progress) (so_far : SoFar reading file before now p)
+    (first : ℕ) (start : State) (place : ℕ) (state : State) (output : List ℕ) (records epochs : ℕ) (is : IsRun file first start place state output records epochs)
+    (same_place : first ≡ p.at) (same_state : start ≡ p.state) where
+  from_here : play_from p.state p.number (left_at file p.at) reading.tail ≡ behind output (play_from state (p.number + records) (left_at file place) reading.tail)
+  from_here =
+      ap (λ (n : ℕ). play_from p.state p.number (left_at file n) reading.tail) (sym same_place)
+      ∙ ap (λ (s : State). play_from s p.number (left_at file first) reading.tail) (sym same_state)
+      ∙ is.plays p.number reading.tail
+
+  plays_behind : play_of reading ≡ behind (so_far.output ++ output) (play_from state (p.number + records) (left_at file place) reading.tail)
+  plays_behind = so_far.plays ∙ ap (behind so_far.output) from_here ∙ behind_twice so_far.output output (play_from state (p.number + records) (left_at file place) reading.tail)
+
+  here : (n : ℕ) → n ≡ first → left_at file n ≡ left_at file first
+  here n at_ = ap (λ (m : ℕ). left_at file m) at_
+
+  tail_on : reading.tail ≡ tail_at (next_at (list_from (drop place file)).1) so_far.place ((p.number + records) + length (left_at file place))
+  tail_on =
+      so_far.tail
+      ∙ ap (λ (n : ℕ). tail_at (next_at (list_from (drop n file)).1) so_far.place (p.number + length (left_at file n))) (sym same_place)
+      ∙ ap (λ (l : List ℕ). tail_at (next_at l) so_far.place (p.number + length (left_at file first))) is.rest
+      ∙ ap (λ (n : ℕ). tail_at (next_at (list_from (drop place file)).1) so_far.place n) (omega (arith, is.count))
+
+  pub taken : (later : Option History) (count : ℕ) → count ≡ length output → IfKnown (Sent Out output true) now later
+      → SoFar reading file before later (record { state = state; at = place; number = p.number + records; epochs = p.epochs + epochs; sent = p.sent + count })
+  taken later count counted known = record {
+    accepted = so_far.accepted;
+    output = so_far.output ++ output;
+    plays = plays_behind;
+    place = so_far.place;
+    tail = tail_on;
+    epochs = omega (arith, so_far.epochs, is.epochs_left, ap (λ (l : List Record). length (epochs_of l)) (here p.at (sym same_place)));
+    sent = omega (arith, so_far.sent, counted, length-append so_far.output output);
+    history = sent_more so_far.output output before now later so_far.history known;
+    moments = sent_moments so_far.output output true before now later so_far.history so_far.moments known;
+  }
+
+  -- while its output is sent
+  pub taken_moments : (later : Option History) (ok : Bool) → IfKnown (Sent Out output ok) now later → EachMoment (Some reading) before later
+  taken_moments later ok known = each_moment (Some reading) (so_far.output ++ output) (play_from state (p.number + records) (left_at file place) reading.tail).output before later
+      (ap output_of (accepted_plays reading so_far.accepted) ∙ ap (λ (q : Played). q.output) plays_behind)
+      (sent_moments so_far.output output ok before now later so_far.history so_far.moments known)
+
+  pub not_taken : (later : Option History) → IfKnown (Sent Out output false) now later → Replayed (Some reading) before later (Err faults.OutputFault)
+  not_taken later known = inl (
+    play_of reading,
+    accepted_plays reading so_far.accepted,
+    sent_some so_far.output output (play_from state (p.number + records) (left_at file place) reading.tail).output (play_of reading).output before now later
+        (ap (λ (q : Played). q.output) plays_behind) so_far.history known,
+  )
+
+-- ---- results of jobs
+
+pub other_results : (file : List ℕ) (results rest : List (Result (Option Stretch) OutOfMemory)) → AreResults file results → rest ≡ drop 1 results → AreResults file rest
+other_results file [] rest are is = subst (AreResults file) (sym is) tt
+other_results file (r ∷ rs) rest are is = subst (AreResults file) (sym is) are.1
