@@ -11,9 +11,10 @@ use disk_model::World;
 use dp_report::Status;
 use epoch_replay::replay;
 use std::alloc::Global;
+use std::thread::Threads;
 
 /// Attaches the journal, which isn't made, and replays it.
-pub fn replay_journal<R, W: World>(
+pub fn replay_journal<R: Threads + Sync, W: World>(
     rt: &R,
     alloc: Global,
     mut world: W,

@@ -20,6 +20,7 @@ use dp_words::{Command, WordsFault, parse};
 use guest_kernel::{ImageFault, start_from_file};
 use recorder::Options;
 use std::alloc::Global;
+use std::thread::Threads;
 
 /// Does what the words say. `NAME record GUEST JOURNAL` with its options records the guest whose file GUEST names, with the input
 /// and the clock of the inlet, into the journal JOURNAL of the world, which is made if there is none, and sends the guest's output
@@ -31,7 +32,7 @@ use std::alloc::Global;
 /// `GuestFault` and a recording's `BadImage` the disk is as it was, and has met no fault. For a replay then come the disk, the
 /// journal's guest and its records. A status's line that can't be sent changes no status. The runtime `rt` is lent for what
 /// runs on threads; nothing does yet.
-pub fn run<R, F: Files, I: Inlet, W: World>(
+pub fn run<R: Threads + Sync, F: Files, I: Inlet, W: World>(
     rt: &R,
     alloc: Global,
     words: &[String],
@@ -100,7 +101,7 @@ pub fn run<R, F: Files, I: Inlet, W: World>(
 }
 
 // Does what the words say, but for the status's line.
-fn do_command<R, F: Files, I: Inlet, W: World>(
+fn do_command<R: Threads + Sync, F: Files, I: Inlet, W: World>(
     rt: &R,
     alloc: Global,
     words: &[String],
