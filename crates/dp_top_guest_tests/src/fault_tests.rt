@@ -4,13 +4,13 @@ use super::*;
 use crate::recorded::{Came, came_to, ok};
 use dp_report::Status;
 use std::test::Fail;
-use test_worlds::{Failing, inlet_of};
+use test_worlds::{Failing, Running, inlet_of};
 
 const LINE: &[u8] = b"dpcli: input failed\n";
 
 // What a recording comes to whose take with this number fails, and where all from it on fail.
 fn failed(
-    rt: &HostRuntime,
+    rt: &impl Running,
     words: &[u32],
     pieces: &[&[u8]],
     take: u64,

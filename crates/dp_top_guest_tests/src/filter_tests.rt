@@ -6,6 +6,7 @@ use std::alloc::Global;
 use std::test::Fail;
 use supply::{InputFault, MAX_ROOM, Supply};
 use test_files::repeated;
+use test_worlds::Running;
 
 fn cut(alloc: Global, bytes: &[u8], size: usize) -> Result<Vec<Vec<u8>>, Fail> {
     let mut pieces = Vec::new(alloc);
@@ -17,7 +18,7 @@ fn cut(alloc: Global, bytes: &[u8], size: usize) -> Result<Vec<Vec<u8>>, Fail> {
 
 // The filter that reads so many bytes at a time, with an input of so many bytes in pieces of this size.
 fn filtered(
-    rt: &HostRuntime,
+    rt: &impl Running,
     many: u32,
     count: u32,
     piece: usize,

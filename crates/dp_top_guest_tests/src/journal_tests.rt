@@ -6,7 +6,7 @@ use std::alloc::Global;
 use std::test::Fail;
 use test_files::{EXITS_WORDS, file_of};
 use test_journals::{THREE_STEPS, journal_of};
-use test_worlds::{Failing, inlet_of};
+use test_worlds::{Failing, Running, inlet_of};
 
 // The journal of a guest of these words whose records have these bodies.
 fn journal_of_words(alloc: Global, words: &[u32], bodies: &[&[u8]]) -> Result<Vec<u8>, Fail> {
@@ -24,7 +24,7 @@ const TAKES_READING: &[u8] =
 
 // Whether a recording writes the journal of these bodies.
 fn is_written(
-    rt: &HostRuntime,
+    rt: &impl Running,
     words: &[u32],
     pieces: &[&[u8]],
     clocks: &[u64],
@@ -50,7 +50,7 @@ fn journals_of_recordings(rt: HostRuntime) -> Result<(), Fail> {
 }
 
 // The status of a replay of these bodies, where it sends this on Note and nothing on Out.
-fn plays(rt: &HostRuntime, words: &[u32], bodies: &[&[u8]], note: &[u8]) -> Result<Status, Fail> {
+fn plays(rt: &impl Running, words: &[u32], bodies: &[&[u8]], note: &[u8]) -> Result<Status, Fail> {
     let journal = journal_of_words(rt.alloc(), words, bodies)?;
     let seen = replay(rt, &journal)?;
     if !seen.sent.is_empty() || seen.noted.as_slice() != note {

@@ -6,7 +6,7 @@ use dp_top::run;
 use std::alloc::Global;
 use std::test::Fail;
 use test_files::file_of;
-use test_worlds::{Failing, disk_of, file_named, inlet_of, texts_of};
+use test_worlds::{Failing, Running, disk_of, file_named, inlet_of, texts_of};
 
 // What a run came to, and what it left.
 #[derive(Drop)]
@@ -30,7 +30,7 @@ fn look_at(alloc: Global, world: &MemWorld, status: Status, takes: u64) -> Resul
 
 // A run by these words, on a disk with these bytes, where `g` is this file.
 fn ran(
-    rt: &HostRuntime,
+    rt: &impl Running,
     words: &[&str],
     file: &[u8],
     inlet: MemInlet,
@@ -50,7 +50,7 @@ pub(crate) const STEPS: (&str, &str) = ("20000", "1000");
 
 // A recording of a guest of these words, on an empty disk, with so many steps of an epoch and of a slice at most.
 pub(crate) fn record(
-    rt: &HostRuntime,
+    rt: &impl Running,
     words: &[u32],
     inlet: MemInlet,
     steps: (&str, &str),
@@ -63,7 +63,7 @@ pub(crate) fn record(
 }
 
 // A replay of a journal, with no input and no file.
-pub(crate) fn replay(rt: &HostRuntime, journal: &[u8]) -> Result<Seen, Fail> {
+pub(crate) fn replay(rt: &impl Running, journal: &[u8]) -> Result<Seen, Fail> {
     let alloc = rt.alloc();
     let none = inlet_of(alloc, &[], &[], Failing::Never)?;
     ran(rt, &["dpcli", "replay", "j"], &[], none, journal)
@@ -80,7 +80,7 @@ pub(crate) struct Came {
 
 // The same, where both send this on Out, and the recording sends the one line on Note and the replay the other.
 pub(crate) fn came_to(
-    rt: &HostRuntime,
+    rt: &impl Running,
     words: &[u32],
     inlet: MemInlet,
     steps: (&str, &str),
@@ -105,7 +105,7 @@ pub(crate) fn came_to(
 
 // What a recording that meets no fault came to.
 pub(crate) fn recorded(
-    rt: &HostRuntime,
+    rt: &impl Running,
     words: &[u32],
     pieces: &[&[u8]],
     clocks: &[u64],

@@ -37,7 +37,7 @@ fn journals_cut_short(rt: HostRuntime) -> Result<(), Fail> {
 }
 
 // The journal of nine epochs of one step, with another thread's number in the record whose gate is at this place.
-fn with_thread(rt: &HostRuntime, gate: usize, thread: &[u8]) -> Result<Vec<u8>, Fail> {
+fn with_thread(rt: &impl Running, gate: usize, thread: &[u8]) -> Result<Vec<u8>, Fail> {
     let words = ["dpcli", "record", "g", "j", "--epoch", "1"];
     let (after, _) = recorded(rt, &words, &WRITES)?;
     if after.bytes().len() != 314 {
@@ -48,7 +48,7 @@ fn with_thread(rt: &HostRuntime, gate: usize, thread: &[u8]) -> Result<Vec<u8>, 
 
 // What that journal plays to.
 fn thread_plays_as(
-    rt: &HostRuntime,
+    rt: &impl Running,
     workers: &str,
     gate: usize,
     thread: &[u8],
@@ -87,7 +87,7 @@ fn an_epoch_of_no_thread(rt: HostRuntime) -> Result<(), Fail> {
 
 // What the journal of 126 bytes plays to, with so many of its bytes from a place on replaced. Nothing is sent on Out.
 fn other_plays_as(
-    rt: &HostRuntime,
+    rt: &impl Running,
     place: usize,
     count: usize,
     by: &[u8],
@@ -211,6 +211,7 @@ enum Body {
 }
 
 use Body::{End, Nine, Other, Start, Three};
+use test_worlds::Running;
 
 // The state in which `EXITS` ends, as a mark: by the format's tables its x17, x10, pc, end and steps are not those of the
 // start.
@@ -244,7 +245,7 @@ fn bytes_of(alloc: Global, body: Body) -> Result<Vec<u8>, Fail> {
 
 // Of a guest's journal with two records of these bodies.
 fn two_play_as(
-    rt: &HostRuntime,
+    rt: &impl Running,
     guest: &[u8],
     first: &[u8],
     second: &[u8],
@@ -256,7 +257,7 @@ fn two_play_as(
 }
 
 fn bodies_play_as(
-    rt: &HostRuntime,
+    rt: &impl Running,
     first: Body,
     second: Body,
     noted: &[u8],

@@ -2,11 +2,11 @@
 use disk_mem::MemWorld;
 use dp_top::{Status, run};
 use std::test::Fail;
-use test_worlds::{Failing, file_named, inlet_of, texts_of};
+use test_worlds::{Failing, Running, file_named, inlet_of, texts_of};
 
 /// What a run with these words comes to, where `g` is this guest, the input has these pieces, and the world has this disk.
 pub(crate) fn ran(
-    rt: &HostRuntime,
+    rt: &impl Running,
     words: &[&str],
     guest: &[u8],
     fetch: Failing,

@@ -6,7 +6,7 @@ use crate::stopped::{Faults, Plays, plays, recording};
 use dp_report::Status;
 use std::test::Fail;
 use test_files::WRITES_WORDS;
-use test_worlds::Failing;
+use test_worlds::{Failing, Running};
 
 // What a recording came to, how many bytes it sent and left, and whether they are the first of the output and of the journal.
 #[derive(Clone, Copy, Debug, PartialEq, Eq)]
@@ -30,7 +30,7 @@ fn wanted(number: u64, piece: u64) -> Came {
 
 // A recording in epochs of one step, where these emits fail, of which one takes so many bytes at most. Its journal is looked at beside
 // a whole one.
-fn emits_failing(rt: &HostRuntime, sink: Failing, piece: u32, whole: &[u8]) -> Result<Came, Fail> {
+fn emits_failing(rt: &impl Running, sink: Failing, piece: u32, whole: &[u8]) -> Result<Came, Fail> {
     let faults = Faults {
         disk: Failing::Never,
         sink,
@@ -54,7 +54,7 @@ fn emits_failing(rt: &HostRuntime, sink: Failing, piece: u32, whole: &[u8]) -> R
 }
 
 // The journal of nine epochs, from a recording that meets no fault.
-fn whole(rt: &HostRuntime) -> Result<Vec<u8>, Fail> {
+fn whole(rt: &impl Running) -> Result<Vec<u8>, Fail> {
     let faults = Faults {
         disk: Failing::Never,
         sink: Failing::Never,

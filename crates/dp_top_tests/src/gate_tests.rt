@@ -7,7 +7,7 @@ use dp_report::Status;
 use std::alloc::Global;
 use std::test::Fail;
 use test_files::WRITES_WORDS;
-use test_worlds::Failing;
+use test_worlds::{Failing, Running};
 
 const GATE: usize = 133;
 
@@ -20,7 +20,7 @@ const ONE_OF_WRITES: &[u8] =
     b"epochs 1 squashes 0 steps 9 sent 3 end exit 0 state 5e7e08b662a2648fef71b4527eed27a6cdaea8232e2b564dfcc9f494b1615bd4\n";
 
 // A recording in epochs of 20,000 steps, where the disk fails from this call on.
-fn stops(rt: &HostRuntime, number: u64) -> Result<Stopped, Fail> {
+fn stops(rt: &impl Running, number: u64) -> Result<Stopped, Fail> {
     let faults = Faults {
         disk: Failing::From(number),
         sink: Failing::Never,

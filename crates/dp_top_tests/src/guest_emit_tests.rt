@@ -3,7 +3,7 @@ use crate::stopped::{Faults, Left, what_is_left};
 use dp_report::Status;
 use dp_top_guest_tests::{FILTER, PRODUCER_AND_CONSUMER};
 use std::test::Fail;
-use test_worlds::Failing;
+use test_worlds::{Failing, Running};
 
 fn failing(sink: Failing, piece: u32) -> Faults {
     Faults {
@@ -14,7 +14,7 @@ fn failing(sink: Failing, piece: u32) -> Faults {
 }
 
 // What a recording of the filter comes to where these emits fail, of which one takes so many bytes at most.
-fn filtered(rt: &HostRuntime, sink: Failing, piece: u32) -> Result<Left, Fail> {
+fn filtered(rt: &impl Running, sink: Failing, piece: u32) -> Result<Left, Fail> {
     let mut words = FILTER.to_vec(rt.alloc())?;
     words.push(4)?;
     let asked = ["dpcli", "record", "g", "j"];
@@ -30,7 +30,7 @@ fn filtered(rt: &HostRuntime, sink: Failing, piece: u32) -> Result<Left, Fail> {
 }
 
 // The same of the guest with a producer and a consumer.
-fn produced(rt: &HostRuntime, sink: Failing, piece: u32) -> Result<Left, Fail> {
+fn produced(rt: &impl Running, sink: Failing, piece: u32) -> Result<Left, Fail> {
     let asked = ["dpcli", "record", "g", "j", "--epoch", "17", "--slice", "9"];
     what_is_left(
         rt,

@@ -9,7 +9,7 @@ use dp_report::Status;
 use std::test::Fail;
 use test_files::{EXITS, repeated, replaced};
 use test_journals::journal_of;
-use test_worlds::{Failing, disk_of};
+use test_worlds::{Failing, Running, disk_of};
 
 // Writes `hi` and a newline out of a second segment of 4,097 bytes, of which the file has three, and exit_all(0): 8 steps.
 const TWO_SEGMENTS: [u8; 151] = [
@@ -26,7 +26,7 @@ const TWO_SEGMENTS: [u8; 151] = [
 ];
 
 // The status of a recording of a file on a disk whose first call would fail, where it makes none, and sends this alone.
-fn recording_refused(rt: &HostRuntime, file: &[u8], line: &[u8]) -> Result<Status, Fail> {
+fn recording_refused(rt: &impl Running, file: &[u8], line: &[u8]) -> Result<Status, Fail> {
     let failing = disk_of(rt.alloc(), b"", Failing::From(1))?;
     let (after, status) = ran(rt, &RECORD, file, Failing::Never, &[], failing)?;
     let silent = after.disk_calls() == 0 && after.sent(Stream::Out).is_empty();
@@ -38,7 +38,7 @@ fn recording_refused(rt: &HostRuntime, file: &[u8], line: &[u8]) -> Result<Statu
 
 // What a file comes to: the status of that recording, and that of a replay of a journal that has it. Both send the same on Note,
 // and nothing else.
-fn refused(rt: &HostRuntime, file: &[u8], line: &[u8]) -> Result<(Status, Status), Fail> {
+fn refused(rt: &impl Running, file: &[u8], line: &[u8]) -> Result<(Status, Status), Fail> {
     let recorded = recording_refused(rt, file, line)?;
     let journal = journal_of(rt.alloc(), file, &[])?;
     let (replayed, _) = plays_as(rt, REPLAY, &journal, b"", line)?;
@@ -47,7 +47,7 @@ fn refused(rt: &HostRuntime, file: &[u8], line: &[u8]) -> Result<(Status, Status
 
 // The same of the guest of 96 bytes with these bytes from an offset on.
 fn changed_refused(
-    rt: &HostRuntime,
+    rt: &impl Running,
     offset: usize,
     by: &[u8],
     line: &[u8],
@@ -105,7 +105,7 @@ fn images_of_no_byte_and_of_too_many(rt: HostRuntime) -> Result<(), Fail> {
 // What a recording left, as it came to this status: that, the journal's length, and the status of its replay, where both send the
 // same on Out and on Note.
 fn replayed_as(
-    rt: &HostRuntime,
+    rt: &impl Running,
     after: &MemWorld,
     status: Status,
     sent: &[u8],
@@ -120,7 +120,7 @@ fn replayed_as(
 
 // The same of a recording of a file.
 fn recorded_as(
-    rt: &HostRuntime,
+    rt: &impl Running,
     file: &[u8],
     sent: &[u8],
     noted: &[u8],

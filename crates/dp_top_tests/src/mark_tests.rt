@@ -7,7 +7,7 @@ use dp_report::Status;
 use std::alloc::Global;
 use std::test::Fail;
 use test_files::{WRITES_WORDS, file_of};
-use test_worlds::Failing;
+use test_worlds::{Failing, Running};
 
 // The guest behind its first step, by the format's tables: x10 is 1 and pc the second word's.
 fn mark_behind_one_step(alloc: Global) -> Result<Vec<u8>, Fail> {
@@ -44,7 +44,7 @@ fn mark_behind_one_step(alloc: Global) -> Result<Vec<u8>, Fail> {
 }
 
 // The journal of nine epochs with this mark's record in front of the gate at this place.
-fn marked(rt: &HostRuntime, place: usize) -> Result<Vec<u8>, Fail> {
+fn marked(rt: &impl Running, place: usize) -> Result<Vec<u8>, Fail> {
     let alloc = rt.alloc();
     let faults = Faults {
         disk: Failing::Never,
@@ -66,7 +66,7 @@ fn marked(rt: &HostRuntime, place: usize) -> Result<Vec<u8>, Fail> {
     Ok(journal)
 }
 
-fn cut_plays(rt: &HostRuntime, journal: &[u8], len: usize) -> Result<Plays, Fail> {
+fn cut_plays(rt: &impl Running, journal: &[u8], len: usize) -> Result<Plays, Fail> {
     let (image, _) = journal.split_at(len.min(journal.len()));
     plays(rt, image, b"", b"hi\n")
 }

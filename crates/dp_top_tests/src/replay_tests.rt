@@ -9,7 +9,7 @@ use std::alloc::Global;
 use std::test::Fail;
 use test_files::{EXITS, WRITES};
 use test_journals::journal_of;
-use test_worlds::{Failing, world_of};
+use test_worlds::{Failing, Running, world_of};
 
 pub(crate) const REPLAY: &[&str] = &["dpcli", "replay", "j"];
 
@@ -62,7 +62,7 @@ fn is_right(world: &MemWorld, journal: &[u8], sent: &[u8], noted: &[u8]) -> Resu
 // The status of a replay in this world, and its number, where it sent these bytes on Out and on Note, and did no more than read the
 // disk, which has this journal.
 fn replays_as(
-    rt: &HostRuntime,
+    rt: &impl Running,
     words: &[&str],
     world: MemWorld,
     journal: &[u8],
@@ -76,7 +76,7 @@ fn replays_as(
 
 // The same of a replay, by these words, that meets no fault.
 pub(crate) fn plays_as(
-    rt: &HostRuntime,
+    rt: &impl Running,
     words: &[&str],
     journal: &[u8],
     sent: &[u8],
@@ -88,7 +88,7 @@ pub(crate) fn plays_as(
 
 // A recording, by these words, on an empty disk.
 pub(crate) fn recorded(
-    rt: &HostRuntime,
+    rt: &impl Running,
     words: &[&str],
     guest: &[u8],
 ) -> Result<(MemWorld, Status), Fail> {
@@ -98,7 +98,7 @@ pub(crate) fn recorded(
 
 // Of a journal, where some calls fail, and an emit takes so many bytes at most.
 fn failing_plays_as(
-    rt: &HostRuntime,
+    rt: &impl Running,
     journal: &[u8],
     disk: Failing,
     sink: Failing,
@@ -114,7 +114,7 @@ fn failing_plays_as(
 
 // Of the journal of `WRITES` with one epoch.
 fn writes_play_as(
-    rt: &HostRuntime,
+    rt: &impl Running,
     disk: Failing,
     sink: Failing,
     piece: u32,
@@ -128,7 +128,7 @@ fn writes_play_as(
 }
 
 // The same where the call on the disk with this number fails, and where all from it on fail.
-fn disk_fails(rt: &HostRuntime, number: u64) -> Result<[(Status, u8); 2], Fail> {
+fn disk_fails(rt: &impl Running, number: u64) -> Result<[(Status, u8); 2], Fail> {
     let line: &[u8] = b"dpcli: journal device failed\n";
     let (one, all) = (Failing::At(number), Failing::From(number));
     let once = writes_play_as(rt, one, Failing::Never, 4096, b"", line)?;
@@ -138,7 +138,7 @@ fn disk_fails(rt: &HostRuntime, number: u64) -> Result<[(Status, u8); 2], Fail> 
 
 // The same of an emit, with what Note gets of each.
 fn emit_fails(
-    rt: &HostRuntime,
+    rt: &impl Running,
     number: u64,
     piece: u32,
     sent: &[u8],
@@ -154,7 +154,7 @@ fn emit_fails(
 }
 
 // How long that journal is, and how many calls on the disk a replay of it makes.
-fn calls_of_writes(rt: &HostRuntime) -> Result<(usize, u64), Fail> {
+fn calls_of_writes(rt: &impl Running) -> Result<(usize, u64), Fail> {
     let journal = journal_of(rt.alloc(), &WRITES, &[NINE_STEPS])?;
     let world = world_with(rt.alloc(), &journal, Failing::Never, Failing::Never, 4096)?;
     let (after, _) = ran(rt, REPLAY, &[], Failing::Never, &[], world)?;
@@ -180,7 +180,7 @@ fn each_disk_call_of_a_replay_fails(rt: HostRuntime) -> Result<(), Fail> {
 }
 
 // Where the calls behind the last would fail.
-fn behind_the_disk_calls(rt: &HostRuntime) -> Result<(Status, u8), Fail> {
+fn behind_the_disk_calls(rt: &impl Running) -> Result<(Status, u8), Fail> {
     let (_, calls) = calls_of_writes(rt)?;
     let behind = Failing::From(calls.saturating_add(1));
     writes_play_as(rt, behind, Failing::Never, 4096, b"hi\n", ONE_OF_WRITES)
@@ -269,7 +269,7 @@ fn sent_again(first: &MemWorld, second: &MemWorld) -> Result<(bool, bool), Fail>
 }
 
 // The status of that replay, and the same.
-fn replay_of(rt: &HostRuntime, first: &MemWorld) -> Result<(Status, bool, bool), Fail> {
+fn replay_of(rt: &impl Running, first: &MemWorld) -> Result<(Status, bool, bool), Fail> {
     let world = world_with(
         rt.alloc(),
         first.bytes(),
@@ -284,7 +284,7 @@ fn replay_of(rt: &HostRuntime, first: &MemWorld) -> Result<(Status, bool, bool),
 
 // The statuses of a recording and of a replay of what it left, and whether the second sent the same on Out and on Note.
 fn recorded_and_replayed(
-    rt: &HostRuntime,
+    rt: &impl Running,
     words: &[&str],
     guest: &[u8],
 ) -> Result<(Status, Status, bool, bool), Fail> {

@@ -6,7 +6,7 @@ use dp_top::Status;
 use std::alloc::Global;
 use std::test::Fail;
 use test_files::{EXITS, WRITES};
-use test_worlds::{Failing, disk_of, world_of};
+use test_worlds::{Failing, Running, disk_of, world_of};
 
 // The header before the guest, and what stands behind it: one epoch of one slice, thread 1 for 3 steps, and the closed
 // gate.
@@ -61,7 +61,7 @@ fn look_at(world: &MemWorld, status: Status, out: &[u8], note: &[u8]) -> Came {
 
 // A run on an empty disk that fetches each file.
 fn came_to(
-    rt: &HostRuntime,
+    rt: &impl Running,
     words: &[&str],
     guest: &[u8],
     disk: Failing,
@@ -75,19 +75,19 @@ fn came_to(
 }
 
 // A recording of a guest on a disk that has these bytes.
-fn recorded_on(rt: &HostRuntime, guest: &[u8], disk: &[u8]) -> Result<(MemWorld, Status), Fail> {
+fn recorded_on(rt: &impl Running, guest: &[u8], disk: &[u8]) -> Result<(MemWorld, Status), Fail> {
     let used = disk_of(rt.alloc(), disk, Failing::Never)?;
     ran(rt, &RECORD, guest, Failing::Never, &[], used)
 }
 
 // Whether a recording leaves these bytes on a disk that had these first.
-fn leaves(rt: &HostRuntime, guest: &[u8], first: &[u8], wanted: &[u8]) -> Result<bool, Fail> {
+fn leaves(rt: &impl Running, guest: &[u8], first: &[u8], wanted: &[u8]) -> Result<bool, Fail> {
     let (after, _) = recorded_on(rt, guest, first)?;
     Ok(after.bytes() == wanted)
 }
 
 // Whether the recording of `EXITS` leaves the journal of 126 bytes.
-fn leaves_its_journal(rt: &HostRuntime) -> Result<bool, Fail> {
+fn leaves_its_journal(rt: &impl Running) -> Result<bool, Fail> {
     let journal = journal_of_exits(rt.alloc())?;
     leaves(rt, &EXITS, b"", &journal)
 }
@@ -145,7 +145,7 @@ fn options_of_a_recording(rt: HostRuntime) -> Result<(), Fail> {
 // A run of a guest of no byte, where fetches fail from this one on and each call on the disk would: its status, how many calls
 // there were on the disk, and whether this was sent on Note.
 fn refused_as(
-    rt: &HostRuntime,
+    rt: &impl Running,
     words: &[&str],
     fetch: u64,
     sink: Failing,
@@ -197,7 +197,7 @@ fn refusals_before_the_disk(rt: HostRuntime) -> Result<(), Fail> {
 }
 
 // A recording of `WRITES` on a disk that has these bytes.
-fn came_to_on(rt: &HostRuntime, disk: &[u8], out: &[u8], note: &[u8]) -> Result<Came, Fail> {
+fn came_to_on(rt: &impl Running, disk: &[u8], out: &[u8], note: &[u8]) -> Result<Came, Fail> {
     let (after, status) = recorded_on(rt, &WRITES, disk)?;
     Ok(look_at(&after, status, out, note))
 }
@@ -247,7 +247,7 @@ fn calls_that_fail() -> [(Failing, Failing, Status, (u64, u64), &'static [u8]); 
 // What a recording of `WRITES` comes to where these calls fail: its status, whether it sent this line on Note, and how many calls on
 // the disk and emits failed.
 fn faults_of(
-    rt: &HostRuntime,
+    rt: &impl Running,
     disk: Failing,
     sink: Failing,
     line: &[u8],

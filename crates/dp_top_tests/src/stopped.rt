@@ -9,7 +9,7 @@ use dp_report::Status;
 use std::alloc::Global;
 use std::test::Fail;
 use test_files::file_of;
-use test_worlds::{Failing, disk_of, world_of};
+use test_worlds::{Failing, Running, disk_of, world_of};
 
 // Which calls of a recording fail, and how many bytes one emit takes at most.
 #[derive(Drop)]
@@ -42,7 +42,7 @@ fn images_of(alloc: Global, world: &MemWorld, status: Status) -> Result<Stopped,
 
 // A recording on an empty disk.
 pub(crate) fn recording(
-    rt: &HostRuntime,
+    rt: &impl Running,
     asked: &[&str],
     words: &[u32],
     pieces: &[&[u8]],
@@ -72,7 +72,7 @@ fn look_at(alloc: Global, world: &MemWorld, status: Status) -> Result<Played, Fa
 }
 
 // A replay of an image that meets no fault.
-pub(crate) fn replay(rt: &HostRuntime, image: &[u8]) -> Result<Played, Fail> {
+pub(crate) fn replay(rt: &impl Running, image: &[u8]) -> Result<Played, Fail> {
     let alloc = rt.alloc();
     let world = disk_of(alloc, image, Failing::Never)?;
     let (after, status) = ran(rt, REPLAY, &[], Failing::Never, &[], world)?;
@@ -98,7 +98,7 @@ pub(crate) const NO_JOURNAL: Plays = (Status::NoJournal, 0, 0);
 
 // What an image plays to, where the output begins with what a recording has sent, and the guest's whole output begins with it.
 pub(crate) fn plays(
-    rt: &HostRuntime,
+    rt: &impl Running,
     image: &[u8],
     said: &[u8],
     whole: &[u8],
@@ -126,7 +126,7 @@ pub(crate) struct Left {
 
 // The same of a recording some of whose calls fail, of a guest whose whole output this is.
 pub(crate) fn what_is_left(
-    rt: &HostRuntime,
+    rt: &impl Running,
     asked: &[&str],
     words: &[u32],
     pieces: &[&[u8]],
