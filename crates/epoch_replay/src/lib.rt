@@ -1,5 +1,6 @@
-//! The replayer. It reads a journal whole, runs its epochs one after another from the guest's start, sends their output, and compares
-//! each mark with the guest's state.
+//! The replayer. It reads a journal whole, runs its epochs in order from the guest's start, sends their output, and compares each mark
+//! with the guest's state. With several workers the stretches between marks run side by side, each from its mark, and a stretch is used
+//! only if the replay reaches its start in the same state (`stretch`, `window`).
 //!
 //! Promises (the contract of `replay`): `specs/Play.antt` defines what a journal plays to. Each answer but a device's fault and
 //! `OutOfMemory` is the one that the definition gives, and the output sent is then exactly the output that it gives; after the others a
