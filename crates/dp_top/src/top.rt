@@ -30,8 +30,8 @@ use std::thread::Threads;
 ///
 /// The words are looked at first. For a recording then come the guest's file, its image, and the disk: after `Usage`,
 /// `GuestFault` and a recording's `BadImage` the disk is as it was, and has met no fault. For a replay then come the disk, the
-/// journal's guest and its records. A status's line that can't be sent changes no status. The runtime `rt` is lent for what
-/// runs on threads; nothing does yet.
+/// journal's guest and its records. A status's line that can't be sent changes no status. The runtime `rt` is lent for the
+/// threads of a replay, at most as many as the words' `--workers`.
 pub fn run<R: Threads + Sync, F: Files, I: Inlet, W: World>(
     rt: &R,
     alloc: Global,

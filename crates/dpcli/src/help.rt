@@ -110,7 +110,7 @@ fn replay<'a>(alloc: Global) -> Result<Command<'a>, AllocError> {
             1,
             MAX_WORKERS as u64,
             "4",
-            "1 to 64; changes nothing yet",
+            "Threads for the parts of a journal between marks, 1 to 64: no mark is written yet",
         ))
 }
 
