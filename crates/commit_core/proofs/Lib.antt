@@ -1,3 +1,3 @@
 mod Commits
 mod Notes
-mod Judges
+pub mod Judges

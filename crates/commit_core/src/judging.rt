@@ -1,5 +1,8 @@
 // A round's results, judged in order.
-ghost use Rattle.std.specs.Prelude.{◌≡◌, ◌<◌, ◌≤◌, ◌+◌, IfOk, [], false, slice_get};
+ghost use Rattle.std.specs.Prelude.{◌≡◌, ◌<◌, ◌≤◌, ◌+◌, IfOk, [], false, true, slice_get, Some};
+ghost use Rattle.commit_core.specs.declared.stage.Stage.TheVariants.{Taken};
+ghost use Rattle.epoch_runner.specs.declared.epoch_run.EpochRun.{EpochRun};
+ghost use Rattle.epoch_runner.specs.declared.epoch_run.Ran.TheVariants.{Epoch};
 ghost use Rattle.std.specs.Option.{option_copied};
 ghost use Rattle.dp_base.specs.declared.limits.TheConstants.{MAX_JOBS};
 ghost use Rattle.commit_core.specs.Judging.{HasApplied, HasJudged, IsJudgement, claimed, fresh, finished, offered, stage_at, taken};
@@ -76,8 +79,16 @@ impl Core {
             Event::Claim(i) => self.claim(i),
             Event::Done(i) => self.finish(i),
             Event::Take(i, ran) => self.take(i, ran),
-            Event::Judge => self.judge(),
+            Event::Judge => self.judge(false),
         }
+    }
+
+    /// Judges the next result as `apply` does, where an epoch is known to start in the committed state. So its start isn't compared.
+    pub fn judge_known(&mut self) -> Verdict
+        requires { (run : EpochRun) → slice_get self.old.jobs self.old.judged ≡ Some (Taken (Epoch run)) → run.start ≡ self.old.committed }
+        ensures { HasApplied self.old Event.Judge result self.new }
+    {
+        self.judge(true)
     }
 
     /// Returns the committed state.
@@ -158,14 +169,16 @@ impl Core {
         }
     }
 
-    fn judge(&mut self) -> Verdict
+    // Judges the next result. An epoch's start is compared if it isn't known to be the committed state.
+    fn judge(&mut self, known: bool) -> Verdict
+        requires { known ≡ true → (run : EpochRun) → slice_get self.old.jobs self.old.judged ≡ Some (Taken (Epoch run)) → run.start ≡ self.old.committed }
         ensures { HasJudged self.old result self.new }
     {
         if self.closed {
             return Verdict::Closed;
         }
         let i = self.judged + 1;
-        match judged_as(stage_of(&self.jobs, i), &self.committed) {
+        match judged_as(stage_of(&self.jobs, i), &self.committed, known) {
             Judgement::NotYet => Verdict::NotYet { i },
             Judgement::Squash => {
                 self.closed = true;
@@ -204,12 +217,13 @@ fn stage_of(jobs: &[Stage], i: u32) -> Option<&Stage>
 }
 
 // The judgement of a job, by its last event.
-fn judged_as(stage: Option<&Stage>, committed: &State) -> Judgement
+fn judged_as(stage: Option<&Stage>, committed: &State, known: bool) -> Judgement
+    requires { known ≡ true → (run : EpochRun) → option_copied stage ≡ Some (Taken (Epoch run)) → run.start ≡ committed.now }
     ensures { IsJudgement committed.now (option_copied stage.entry) result }
 {
     match stage {
         Some(Stage::Taken(Ran::Epoch(run))) => {
-            if equal(&run.start, committed) {
+            if known || equal(&run.start, committed) {
                 Judgement::Commit
             } else {
                 Judgement::Squash
