@@ -32,4 +32,4 @@ mod window;
 
 pub use dp_report::Report;
 pub use replay_fault::ReplayFault;
-pub use replaying::replay;
+pub use replaying::{replay, replay_through};

@@ -17,7 +17,7 @@ use crate::replay_fault::ReplayFault;
 use crate::window::play_window;
 use checkpoint::digest;
 use device::send_all;
-use disk_model::{Stream, World};
+use disk_model::{Gate, OpenGate, Stream, World};
 use dp_report::{Report, line};
 use epoch_journal::read_whole;
 use guest_kernel::{State, start_from_file};
@@ -28,7 +28,8 @@ use std::thread::Threads;
 /// Replays the journal on the attached disk: sends the output of its epochs on Out, in order, and then the report's line on
 /// Note. The world comes back whatever happens. The disk is read once, from its start, and isn't written. With one
 /// worker the epochs run one after another. With more, the stretches between marks run side by side, at most `workers` of them, and
-/// at most 64; the answer and what is sent are the same.
+/// at most 64. Where the answer is `DiskFault`, `OutputFault` or `OutOfMemory`, another number of workers may have come further, or less
+/// far. All other answers are the same for every number, and so is all that is sent then.
 ///
 /// At every moment of the call the disk is as it was, so a crash leaves the journal, and what was sent is a prefix of the output that
 /// the journal plays to.
@@ -39,7 +40,7 @@ use std::thread::Threads;
 pub fn replay<R: Threads + Sync, W: World>(
     rt: &R,
     alloc: Global,
-    mut world: W,
+    world: W,
     workers: u32,
 ) -> (W, Result<Report, ReplayFault>)
     ensures replayed { OnDisk (known_disk (W.history world))
@@ -56,15 +57,46 @@ pub fn replay<R: Threads + Sync, W: World>(
         (Rose (W.disk_faults world) (W.disk_faults result.0) → ⊥) →
         (Rose (W.sink_faults world) (W.sink_faults result.0) → ⊥) → IsNoFault result.1 }
 {
-    let answer = replay_disk(rt, alloc, &mut world, workers);
+    replay_through(rt, alloc, world, workers, &OpenGate)
+}
+
+/// Replays as [`replay`] does, and passes a gate before each stretch that runs beside others: as worker and as job the stretch's number
+/// among those, from 1.
+///
+/// # Errors
+///
+/// See [`ReplayFault`].
+pub fn replay_through<R: Threads + Sync, W: World, G: Gate + Sync>(
+    rt: &R,
+    alloc: Global,
+    mut world: W,
+    workers: u32,
+    gate: &G,
+) -> (W, Result<Report, ReplayFault>)
+    ensures replayed { OnDisk (known_disk (W.history world))
+        (λ bytes. Replayed (reads bytes) (W.history world) (W.history result.0) result.1) }
+    ensures moments { OnDisk (known_disk (W.history world))
+        (λ bytes. EachMoment (reads bytes) (W.history world) (W.history result.0)) }
+    ensures others { MetNoOther result.1 (W.disk_faults world) (W.disk_faults result.0) (W.sink_faults world) (W.sink_faults result.0) }
+    ensures disk_cause { result.1 ≡ Err faults.DiskFault → Rose (W.disk_faults world) (W.disk_faults result.0) }
+    ensures sink_cause { result.1 ≡ Err faults.OutputFault → Rose (W.sink_faults world) (W.sink_faults result.0) }
+    ensures disk_count { W.disk_faults world ≤ W.disk_faults result.0 }
+    ensures sink_count { W.sink_faults world ≤ W.sink_faults result.0 }
+    // A journal that plays to its end is replayed, if nothing fails.
+    ensures complete { IsKnownToEnd (known_disk (W.history world)) →
+        (Rose (W.disk_faults world) (W.disk_faults result.0) → ⊥) →
+        (Rose (W.sink_faults world) (W.sink_faults result.0) → ⊥) → IsNoFault result.1 }
+{
+    let answer = replay_disk(rt, alloc, &mut world, workers, gate);
     (world, answer)
 }
 
-fn replay_disk<R: Threads + Sync, W: World>(
+fn replay_disk<R: Threads + Sync, W: World, G: Gate + Sync>(
     rt: &R,
     alloc: Global,
     world: &mut W,
     workers: u32,
+    gate: &G,
 ) -> Result<Report, ReplayFault>
     ensures replayed { OnDisk (known_disk (W.history world.old))
         (λ bytes. Replayed (reads bytes) (W.history world.old) (W.history world.new) result) }
@@ -80,15 +112,16 @@ fn replay_disk<R: Threads + Sync, W: World>(
     ensures sink_count { W.sink_faults world.old ≤ W.sink_faults world.new }
 {
     let file = read_whole(alloc, world)?;
-    replay_file(rt, alloc, world, workers, &file)
+    replay_file(rt, alloc, world, workers, gate, &file)
 }
 
 // Replays a journal that was read.
-fn replay_file<R: Threads + Sync, W: World>(
+fn replay_file<R: Threads + Sync, W: World, G: Gate + Sync>(
     rt: &R,
     alloc: Global,
     world: &mut W,
     workers: u32,
+    gate: &G,
     file: &[u8],
 ) -> Result<Report, ReplayFault>
     requires few { length file.now ≤ MAX_JOURNAL_BYTES }
@@ -114,15 +147,16 @@ fn replay_file<R: Threads + Sync, W: World>(
     };
     let first = 9 + guest_len as usize;
     let state = start_from_file(alloc, &file[9..first])?;
-    play(rt, alloc, world, workers, file, first as u64, state)
+    play(rt, alloc, world, workers, gate, file, first as u64, state)
 }
 
 // Plays the records from the first one on, and reports.
-fn play<R: Threads + Sync, W: World>(
+fn play<R: Threads + Sync, W: World, G: Gate + Sync>(
     rt: &R,
     alloc: Global,
     world: &mut W,
     workers: u32,
+    gate: &G,
     file: &[u8],
     first: u64,
     start: State,
@@ -149,7 +183,7 @@ fn play<R: Threads + Sync, W: World>(
     };
     let mut more = true;
     'records: while more {
-        more = play_on(rt, alloc, world, workers, file, &mut progress)?;
+        more = play_on(rt, alloc, world, workers, gate, file, &mut progress)?;
     }
     let report = Report {
         epochs: progress.epochs,
@@ -167,11 +201,12 @@ fn play<R: Threads + Sync, W: World>(
 }
 
 // Plays the records that several workers ran ahead, or else the next record. Returns whether there was one.
-fn play_on<R: Threads + Sync, W: World>(
+fn play_on<R: Threads + Sync, W: World, G: Gate + Sync>(
     rt: &R,
     alloc: Global,
     world: &mut W,
     workers: u32,
+    gate: &G,
     file: &[u8],
     progress: &mut Progress,
 ) -> Result<bool, ReplayFault>
@@ -194,7 +229,7 @@ fn play_on<R: Threads + Sync, W: World>(
     ensures disk_count { W.disk_faults world.new ≡ W.disk_faults world.old }
     ensures sink_count { W.sink_faults world.old ≤ W.sink_faults world.new }
 {
-    if play_window(rt, alloc, world, file, workers, progress)? {
+    if play_window(rt, alloc, world, file, workers, gate, progress)? {
         return Ok(true);
     }
     play_record(alloc, world, file, progress)

@@ -9,6 +9,7 @@ ghost use Rattle.epoch_replay.specs.Stretches.{IsResult, IsStretch, IsUseful};
 
 use crate::epoch::play_epoch;
 use crate::mark::open_mark;
+use disk_model::Gate;
 use dp_base::OutOfMemory;
 use dp_base::limits::MAX_JOURNAL_BYTES;
 use guest_kernel::State;
@@ -24,6 +25,8 @@ const TOO_MANY: u64 = 1 << 63;
 /// What a worker runs: the records from this gate on, from this state, or from the mark at the gate if there is no state.
 #[derive(Drop)]
 pub struct Job {
+    /// Its number among those that run side by side, from 1.
+    pub index: u32,
     pub at: u64,
     pub state: Option<State>,
 }
@@ -49,9 +52,15 @@ pub struct Stretch {
 
 /// Runs a stretch of the file: its epochs up to the next mark, or up to a limit of this file. Returns `None` if an epoch can't be
 /// run, or if there is no mark where the job begins. `None` says nothing of the journal: the replay runs these records itself.
-pub fn run_job(alloc: Global, file: &[u8], job: Job) -> Result<Option<Stretch>, OutOfMemory>
+pub fn run_job<G: Gate>(
+    alloc: Global,
+    file: &[u8],
+    job: Job,
+    gate: &G,
+) -> Result<Option<Stretch>, OutOfMemory>
     ensures { IsResult file.now result }
 {
+    gate.pass(job.index, job.index);
     if file.len() > MAX_JOURNAL_BYTES as usize || job.at > file.len() as u64 {
         return Ok(None);
     }
@@ -73,7 +82,7 @@ fn begin(alloc: Global, file: &[u8], job: Job) -> Result<Option<Stretch>, OutOfM
     requires within { job.at ≤ length file.now }
     ensures { IsResult file.now result }
 {
-    let Job { at, state } = job;
+    let Job { at, state, .. } = job;
     match state {
         Some(state) => begin_at(alloc, file, at, state),
         None => begin_at_mark(alloc, file, at),

@@ -14,7 +14,7 @@ use crate::progress::Progress;
 use crate::replay_fault::ReplayFault;
 use crate::stretch::{Job, Stretch, run_job};
 use device::send_all;
-use disk_model::{Stream, World};
+use disk_model::{Gate, Stream, World};
 use dp_base::OutOfMemory;
 use dp_base::field::{read_u32, read_u64};
 use dp_base::journal::OPEN_GATE;
@@ -32,12 +32,13 @@ const WORTH_A_THREAD: u64 = 16_384;
 /// Runs stretches side by side from where the replay is, if it is at the first record or at a mark, and takes the results in
 /// order, up to the first whose start the play doesn't reach. Returns whether the replay went on. With one worker it returns
 /// `false` at once.
-pub fn play_window<R: Threads + Sync, W: World>(
+pub fn play_window<R: Threads + Sync, W: World, G: Gate + Sync>(
     rt: &R,
     alloc: Global,
     world: &mut W,
     file: &[u8],
     workers: u32,
+    gate: &G,
     progress: &mut Progress,
 ) -> Result<bool, ReplayFault>
     requires few { length file.now ≤ MAX_JOURNAL_BYTES }
@@ -71,7 +72,7 @@ pub fn play_window<R: Threads + Sync, W: World>(
     if jobs.len() < 2 {
         return Ok(false);
     }
-    let Ok(results) = run_jobs(rt, alloc, file, jobs) else {
+    let Ok(results) = run_jobs(rt, alloc, file, jobs, gate) else {
         return Ok(false);
     };
     let before = progress.at;
@@ -98,15 +99,17 @@ fn jobs_from(
         Some(progress.state.share(alloc)?)
     };
     jobs.push(Job {
+        index: 1,
         at: progress.at,
         state,
     })?;
     let mut gate = progress.at;
-    'jobs: for _ in 0..marks {
+    'jobs: for number in 0..marks {
         let Some(mark) = next_mark(file, gate) else {
             return Ok(jobs);
         };
         jobs.push(Job {
+            index: number.saturating_add(2),
             at: mark,
             state: None,
         })?;
@@ -185,16 +188,17 @@ fn next_gate(file: &[u8], gate: u64) -> Option<u64> {
 }
 
 // Runs each job in a thread of its own.
-fn run_jobs<R: Threads + Sync>(
+fn run_jobs<R: Threads + Sync, G: Gate + Sync>(
     rt: &R,
     alloc: Global,
     file: &[u8],
     jobs: Vec<Job>,
+    gate: &G,
 ) -> Result<Vec<Result<Option<Stretch>, OutOfMemory>>, AllocError>
     ensures len { IfOk result (λ all. length all.items ≡ length jobs.items) }
     ensures each { IfOk result (λ all. (i : ℕ) (d : _) → i < length jobs.items → IsResult file.now (slice_index_or all.items i d)) }
 {
-    thread::map_vec(rt, jobs, &|job| run_job(alloc, file, job))
+    thread::map_vec(rt, jobs, &|job| run_job(alloc, file, job, gate))
 }
 
 // Takes results in order, up to the first whose start the play doesn't reach.

@@ -7,6 +7,10 @@
 #[cfg(test)]
 mod emit_tests;
 #[cfg(test)]
+mod gate_tests;
+#[cfg(test)]
+mod head_tests;
+#[cfg(test)]
 mod journals;
 #[cfg(test)]
 mod replays;

@@ -77,9 +77,22 @@ pub(crate) fn by_all<R: Threads + Sync>(
     requires { 0 < piece }
 {
     let journal = journal(alloc, letters)?;
-    let one = replayed_by(rt, alloc, &journal, 1, sink, piece)?;
+    of_journal(rt, alloc, &journal, sink, piece)
+}
+
+/// The same of a journal of the guest.
+pub(crate) fn of_journal<R: Threads + Sync>(
+    rt: &R,
+    alloc: Global,
+    journal: &[u8],
+    sink: Failing,
+    piece: u32,
+) -> Result<(Result<u32, ReplayFault>, usize), Fail>
+    requires { 0 < piece }
+{
+    let one = replayed_by(rt, alloc, journal, 1, sink, piece)?;
     for workers in [2u32, 3, 64] {
-        if !is_same(rt, alloc, &journal, workers, sink, piece, &one)? {
+        if !is_same(rt, alloc, journal, workers, sink, piece, &one)? {
             return Err("several workers differ from one".into());
         }
     }
