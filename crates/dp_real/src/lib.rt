@@ -11,7 +11,8 @@
 //! ```text
 //! let mut files = RealFiles::new(rt);
 //! let mut inlet = RealInlet::new(rt);
-//! let (_, status) = run(&rt, alloc, &words, &mut files, &mut inlet, RealWorld::new(rt));
+//! let world = RealWorld::new(rt);
+//! let (_, status) = run(&rt, alloc, &words, &mut files, &mut inlet, world, &mut IdleRacer, &OpenGate);
 //! ```
 #![tactic(auto)]
 

@@ -18,9 +18,10 @@ use Rattle.guest_kernel.specs.Slices.{Stop, at, chain, either, onto, run}
 use Rattle.guest_kernel.specs.Start.{IsGuestFile, start_state}
 use Rattle.journal_text.specs.Reading.{Reading, Tail, end, ending, journal_of, reads}
 use Rattle.journal_text.specs.Records.{IsRecord, Record}
+use Rattle.racing_runner.specs.Offers.{Tells}
 use Rattle.recorder.specs.declared.options.Options.{Options}
-use Rattle.recorder.specs.Recording.{HasRoom, Recorded, Run, epochs, records_of, report_of}
-use Rattle.recorder.proofs.Moments.{are_records}
+use Rattle.recorder.specs.Recording.{HasRoom, Recorded, Run, epochs, records_of, report_of, squashes}
+use Rattle.recorder.proofs.JobRuns.{are_records}
 use Rattle.supply.specs.Supplied.{empty}
 use Rattle.supply.specs.declared.TheConstants.{MAX_ROOM}
 
@@ -102,17 +103,17 @@ AtRest = (guest : List ℕ) (records : List Record) → IsGuest guest → AllByR
 abbrev Short : Type 0
 Short = (file : List ℕ) → IsGuestFile file → length file ≤ MAX_GUEST_BYTES
 
-module _ (law : AtRest) (size : Short) (guest : List ℕ) (options : Options) (r : Run options (start_state guest)) (accepted : IsGuestFile guest) (fits : AreBytes guest) (room : HasRoom guest options (epochs r)) where
+module _ (law : AtRest) (size : Short) (guest : List ℕ) (tells : Tells) (options : Options) (r : Run tells options (start_state guest)) (accepted : IsGuestFile guest) (fits : AreBytes guest) (room : HasRoom guest options (epochs r)) where
   abbrev place : ℕ
   place = length (journal_of guest (records_of (epochs r))) - 1
 
   reads_as : reads (journal_of guest (records_of (epochs r))) ≡ Some (ending guest (records_of (epochs r)) place)
-  reads_as = law guest (records_of (epochs r)) (omega (arith, size guest accepted), fits) (are_records options 1 (start_state guest) (empty MAX_ROOM) r.rounds r.each) (omega (arith, room, options.room_range))
+  reads_as = law guest (records_of (epochs r)) (omega (arith, size guest accepted), fits) (are_records options tells r.racer 1 (start_state guest) r.end (empty MAX_ROOM) r.rounds r.each) (omega (arith, room, options.room_range))
 
   pub run_plays : plays_to (reads (journal_of guest (records_of (epochs r)))) ≡ played (made (Ok r.end) r.output)
   run_plays = chain_is_played guest accepted (journal_of guest (records_of (epochs r))) (epochs r) place reads_as r.end r.output r.chained
 
-  pub run_ends : (report : Report) → report ≡ record { epochs = length (epochs r); squashes = 0; steps = r.end.steps; sent = length r.output; end = r.end.end; state = digest_of r.end }
+  pub run_ends : (report : Report) → report ≡ record { epochs = length (epochs r); squashes = squashes r; steps = r.end.steps; sent = length r.output; end = r.end.end; state = digest_of r.end }
       → Ends (reads (journal_of guest (records_of (epochs r)))) r.output (record report { squashes = 0 })
   run_ends report is = record {
     journal = ending guest (records_of (epochs r)) place;
@@ -122,13 +123,13 @@ module _ (law : AtRest) (size : Short) (guest : List ℕ) (options : Options) (r
     reported = (let count = ap (λ (l : List Epoch). length l) (epochs_are (epochs r)) in let report_is = is in cc);
   }
 
-pub recording_plays : AtRest → Short → (guest : List ℕ) (options : Options) (i j : Option Input) (before after : History) (report : Report) → IsGuestFile guest → AreBytes guest
-    → Recorded guest (start_state guest) options i j (Some before) (Some after) (Ok report) → (output : List ℕ) × (after.sent ≡ before.sent ++ output) × Ends (reads after.disk) output (record report { squashes = 0 })
-recording_plays law size guest options i j before after report accepted fits recorded =
+pub recording_plays : AtRest → Short → (guest : List ℕ) (tells : Tells) (options : Options) (i j : Option Input) (before after : History) (report : Report) → IsGuestFile guest → AreBytes guest
+    → Recorded guest tells (start_state guest) options i j (Some before) (Some after) (Ok report) → (output : List ℕ) × (after.sent ≡ before.sent ++ output) × Ends (reads after.disk) output (record report { squashes = 0 })
+recording_plays law size guest tells options i j before after report accepted fits recorded =
     let r = recorded.0 in
     let k = recorded.5 in
     let there_is : after ≡ k.0 = same_Some _ _ k.1 in (
       r.output,
       ap (λ (h : History). h.sent) there_is ∙ k.2.sent,
-      subst (λ (disk : List ℕ). Ends (reads disk) r.output (record report { squashes = 0 })) (sym (ap (λ (h : History). h.disk) there_is ∙ k.2.stands.disk)) (run_ends law size guest options r accepted fits recorded.3 report recorded.2),
+      subst (λ (disk : List ℕ). Ends (reads disk) r.output (record report { squashes = 0 })) (sym (ap (λ (h : History). h.disk) there_is ∙ k.2.stands.disk)) (run_ends law size guest tells options r accepted fits recorded.3 report recorded.2),
     )

@@ -17,6 +17,7 @@ use Rattle.dp_report.specs.declared.status.Status.{Status}
 use Rattle.dp_report.specs.Texts.{status_line}
 use Rattle.guest_kernel.specs.declared.state.State.{State}
 use Rattle.guest_kernel.specs.Start.{start_state}
+use Rattle.racing_runner.specs.Offers.{Tells}
 use Rattle.recorder.specs.declared.options.Options.{Options}
 use Rattle.recorder.specs.declared.record_fault.RecordFault.{RecordFault}
 use Rattle.recorder.specs.declared.record_fault.RecordFault.TheVariants as faults
@@ -47,30 +48,31 @@ module _ (name : List ℕ) (files : Option (List File)) (i j : Option Input) whe
 -- ---- a recording
 
 -- it found an empty disk, or did nothing
-found_or_same : (guest : List ℕ) (start : State) (options : Options) (i j : Option Input) (before after : Option History) (answer : Result Report RecordFault) → Recorded guest start options i j before after answer
+found_or_same : (guest : List ℕ) (tells : Tells) (start : State) (options : Options) (i j : Option Input) (before after : Option History) (answer : Result Report RecordFault) → Recorded guest tells start options i j before after answer
     → IfKnown (λ s t. (s.disk ≡ []) ⊎ (t ≡ s)) before after
-found_or_same guest start options i j before after (Ok report) (r, ended, said, room, drawn, known) = known-map _ _ _ _ (λ s t k. inl k.empty) known
-found_or_same guest start options i j before after (Err (faults.StepLimit n)) (r, going, is, most, room, drawn, known) = known-map _ _ _ _ (λ s t k. inl k.empty) known
-found_or_same guest start options i j before after (Err faults.InputFault) (r, going, due, room, drawn, known) = known-map _ _ _ _ (λ s t k. inl k.empty) known
-found_or_same guest start options i j before after (Err (faults.JournalFull end need)) (inl (zero_, needs, full, same, known)) = known-map _ _ _ _ (λ s t k. inl k.0) known
-found_or_same guest start options i j before after (Err (faults.JournalFull end need)) (inr (r, next_, room, end_is, need_is, full, drawn, known)) =
+found_or_same guest tells start options i j before after (Ok report) (r, ended, said, room, drawn, known) = known-map _ _ _ _ (λ s t k. inl k.empty) known
+found_or_same guest tells start options i j before after (Err (faults.StepLimit n)) (r, going, is, most, room, drawn, known) = known-map _ _ _ _ (λ s t k. inl k.empty) known
+found_or_same guest tells start options i j before after (Err faults.InputFault) (r, going, due, room, drawn, known) = known-map _ _ _ _ (λ s t k. inl k.empty) known
+found_or_same guest tells start options i j before after (Err (faults.JournalFull end need)) (inl (zero_, needs, full, same, known)) = known-map _ _ _ _ (λ s t k. inl k.0) known
+found_or_same guest tells start options i j before after (Err (faults.JournalFull end need)) (inr (r, next_, room, end_is, need_is, full, drawn, known)) =
     known-map _ _ _ _ (λ s t k. inl k.empty) known
-found_or_same guest start options i j before after (Err faults.OutOfMemory) (inl (same, known)) = known-map _ _ _ _ (λ s t k. inl k.0) known
-found_or_same guest start options i j before after (Err faults.OutOfMemory) (inr (r, may_go, room, drawn, known)) = known-map _ _ _ _ (λ s t k. inl k.empty) known
-found_or_same guest start options i j before after (Err (faults.JournalInUse len)) (some, same, known) = known-map _ _ _ _ (λ s t k. inr k.1) known
-found_or_same guest start options i j before after (Err faults.DiskFault) (inl (same, known)) = known-map _ _ _ _ (λ s t k. k.untouched) known
-found_or_same guest start options i j before after (Err faults.DiskFault) (inr (r, next_, room, drawn, known)) = known-map _ _ _ _ (λ s t k. inl k.empty) known
-found_or_same guest start options i j before after (Err faults.OutputFault) (inl (r, next_, room, drawn, known)) = known-map _ _ _ _ (λ s t k. inl k.1.empty) known
-found_or_same guest start options i j before after (Err faults.OutputFault) (inr (r, ended, room, drawn, known)) = known-map _ _ _ _ (λ s t k. inl k.1.empty) known
+found_or_same guest tells start options i j before after (Err faults.OutOfMemory) (inl (same, known)) = known-map _ _ _ _ (λ s t k. inl k.0) known
+found_or_same guest tells start options i j before after (Err faults.OutOfMemory) (inr (inl (r, may_go, room, drawn, known))) = known-map _ _ _ _ (λ s t k. inl k.empty) known
+found_or_same guest tells start options i j before after (Err faults.OutOfMemory) (inr (inr (on, next_, room, drawn, known))) = known-map _ _ _ _ (λ s t k. inl k.empty) known
+found_or_same guest tells start options i j before after (Err (faults.JournalInUse len)) (some, same, known) = known-map _ _ _ _ (λ s t k. inr k.1) known
+found_or_same guest tells start options i j before after (Err faults.DiskFault) (inl (same, known)) = known-map _ _ _ _ (λ s t k. k.untouched) known
+found_or_same guest tells start options i j before after (Err faults.DiskFault) (inr (r, next_, room, drawn, known)) = known-map _ _ _ _ (λ s t k. inl k.empty) known
+found_or_same guest tells start options i j before after (Err faults.OutputFault) (inl (r, next_, room, drawn, known)) = known-map _ _ _ _ (λ s t k. inl k.1.empty) known
+found_or_same guest tells start options i j before after (Err faults.OutputFault) (inr (r, ended, room, drawn, known)) = known-map _ _ _ _ (λ s t k. inl k.1.empty) known
 
-module _ (name : List ℕ) (options : Options) (files : Option (List File)) (i j : Option Input) (before after : Option History) where
-  recorded_moments : (answer : Result Report RecordFault) → RecordedAs name options files i j before after answer → IfKnown (EveryMoment name files i j) before after
+module _ (tells : Tells) (name : List ℕ) (options : Options) (files : Option (List File)) (i j : Option Input) (before after : Option History) where
+  recorded_moments : (answer : Result Report RecordFault) → RecordedAs tells name options files i j before after answer → IfKnown (EveryMoment name files i j) before after
   recorded_moments answer as_ = known-map _ _ _ _
       (λ s t both. (
         λ empty synced. always-weaker (HoldsAt as_.bytes (start_state as_.bytes) i j s) (StandsFor name files i j s) s t (stands s) (both.0 empty synced),
         λ some. untouched s t some both.1,
       ))
-      (known-both _ _ _ _ as_.moments (found_or_same as_.bytes (start_state as_.bytes) options i j before after answer as_.recorded))
+      (known-both _ _ _ _ as_.moments (found_or_same as_.bytes tells (start_state as_.bytes) options i j before after answer as_.recorded))
     where
       stands : (s : History) (image sent : List ℕ) → HoldsAt as_.bytes (start_state as_.bytes) i j s image sent → StandsFor name files i j s image sent
       stands s image sent (said, is, inl none) = (said, is, inl none)
@@ -81,30 +83,30 @@ module _ (name : List ℕ) (options : Options) (files : Option (List File)) (i j
       untouched s t some (inl empty) = absurd (omega (arith, some, ap (λ (l : List ℕ). length l) empty))
       untouched s t some (inr same) = subst (λ (h : History). Always (IsStill s) s h) (sym same) (still_start s)
 
-  came_moments : (status : Status) → CameTo name options files i j before after status → IfKnown (EveryMoment name files i j) before after
+  came_moments : (status : Status) → CameTo tells name options files i j before after status → IfKnown (EveryMoment name files i j) before after
   came_moments status (inl came) = idle name files i j before after came.2
   came_moments status (inr (inl came)) = idle name files i j before after came.6
   came_moments status (inr (inr (answer, is, as_))) = recorded_moments answer as_
 
 -- ---- a command
 
-did_moments : (words : List (String Global)) (files : Option (List File)) (i j : Option Input) (before mid : Option History) (status : Status) → Did words files i j before mid status
+did_moments : (tells : Tells) (words : List (String Global)) (files : Option (List File)) (i j : Option Input) (before mid : Option History) (status : Status) → Did tells words files i j before mid status
     → (a : Asked words) → IfKnown (EveryMoment a.guest files i j) before mid
-did_moments words files i j before mid status (inl refused) a = absurd (let not_taken = refused.1 in let taken = a.taken in cc)
-did_moments words files i j before mid status (inr (inl memory)) a = idle a.guest files i j before mid memory.2
-did_moments words files i j before mid status (inr (inr (inl did))) a =
-    subst (λ (name : List ℕ). IfKnown (EveryMoment name files i j) before mid) (same_name words did.0 a) (came_moments did.0.guest did.0.options files i j before mid status did.1)
-did_moments words files i j before mid status (inr (inr (inr did))) a = absurd (not_both words a did.0)
+did_moments tells words files i j before mid status (inl refused) a = absurd (let not_taken = refused.1 in let taken = a.taken in cc)
+did_moments tells words files i j before mid status (inr (inl memory)) a = idle a.guest files i j before mid memory.2
+did_moments tells words files i j before mid status (inr (inr (inl did))) a =
+    subst (λ (name : List ℕ). IfKnown (EveryMoment name files i j) before mid) (same_name words did.0 a) (came_moments tells did.0.guest did.0.options files i j before mid status did.1)
+did_moments tells words files i j before mid status (inr (inr (inr did))) a = absurd (not_both words a did.0)
 
 -- and then its status's line is sent
-pub command_moments : (words : List (String Global)) (files : Option (List File)) (i j : Option Input) (before mid after : Option History) (status : Status) (told : Bool) → Did words files i j before mid status
+pub command_moments : (tells : Tells) (words : List (String Global)) (files : Option (List File)) (i j : Option Input) (before mid after : Option History) (status : Status) (told : Bool) → Did tells words files i j before mid status
     → IfKnown (Sent Note (status_line status) told) mid after → (a : Asked words) → IfKnown (EveryMoment a.guest files i j) before after
-command_moments words files i j before mid after status told did line a = known-then _ _ _ _ _ _
+command_moments tells words files i j before mid after status told did line a = known-then _ _ _ _ _ _
     (λ s t u e b. (
       λ empty synced. noted-too (StandsFor a.guest files i j s) (status_line status) s t u (e.0 empty synced) b.1.moments,
       λ some. noted-too (IsStill s) (status_line status) s t u (e.1 some) b.1.moments,
     ))
-    (did_moments words files i j before mid status did a) line
+    (did_moments tells words files i j before mid status did a) line
 
 pub still_throughout : (before mid after : Option History) (status : Status) (told : Bool) → mid ≡ before → IfKnown (Sent Note (status_line status) told) mid after → IfKnown StillThroughout before after
 still_throughout before mid after status told same line =

@@ -14,6 +14,7 @@ use Rattle.disk_model.specs.Known.{IfKnown}
 use Rattle.disk_model.proofs.Knowing.{known-same}
 use Rattle.guest_kernel.specs.declared.state.State.{State}
 use Rattle.guest_kernel.specs.Start.{IsGuestFile, start_state}
+use Rattle.racing_runner.specs.Offers.{Tells}
 use Rattle.recorder.specs.declared.options.Options.{Options}
 use Rattle.dp_report.specs.declared.report.Report.{Report}
 use Rattle.recorder.specs.declared.record_fault.RecordFault.{RecordFault}
@@ -31,23 +32,23 @@ use Rattle.dp_top.specs.Asking.{Asked, AskedReplay}
 use Rattle.dp_top.specs.Running.{RecordedAs, CameTo, Did, NamesGuest, IsKnownEmpty, IsNoFault}
 
 -- a disk that could not be attached
-pub not_attached : (guest : List ℕ) (start : State) (options : Options) (i j : Option Input) (before after : Option History) → j ≡ i → after ≡ before
-    → Recorded guest start options i j before after (Err faults.DiskFault)
-not_attached guest start options i j before after kept same =
+pub not_attached : (guest : List ℕ) (tells : Tells) (start : State) (options : Options) (i j : Option Input) (before after : Option History) → j ≡ i → after ≡ before
+    → Recorded guest tells start options i j before after (Err faults.DiskFault)
+not_attached guest tells start options i j before after kept same =
     inl (kept, known-same _ _ _ same (λ s. record { sent = refl; noted = refl; untouched = inr refl; synced = nothing_synced s; left = nothing_left guest s }))
 
 -- the guest that was fetched was recorded
-pub came_by : (name : List ℕ) (options : Options) (files : Option (List File)) (i j : Option Input) (before after : Option History) (guest loaded there : List ℕ) (state : State) (answer : Result Report RecordFault) (status : Status)
+pub came_by : (tells : Tells) (name : List ℕ) (options : Options) (files : Option (List File)) (i j : Option Input) (before after : Option History) (guest loaded there : List ℕ) (state : State) (answer : Result Report RecordFault) (status : Status)
     → AreBytes there → IsFetched files name guest → loaded ≡ guest → there ≡ guest → IsGuestFile loaded → state ≡ start_state loaded
-    → status ≡ status_of answer → Recorded there state options i j before after answer → EachMoment there state i j before after → CameTo name options files i j before after status
-came_by name options files i j before after guest loaded there state answer status of_bytes fetched loaded_is there_is accepted state_is status_is recorded moments =
+    → status ≡ status_of answer → Recorded there tells state options i j before after answer → EachMoment there state i j before after → CameTo tells name options files i j before after status
+came_by tells name options files i j before after guest loaded there state answer status of_bytes fetched loaded_is there_is accepted state_is status_is recorded moments =
     let started : state ≡ start_state guest = state_is ∙ ap start_state loaded_is in
-    let as_ : RecordedAs name options files i j before after answer = record {
+    let as_ : RecordedAs tells name options files i j before after answer = record {
       bytes = guest;
       of_bytes = subst AreBytes there_is of_bytes;
       fetched = fetched;
       accepted = subst IsGuestFile loaded_is accepted;
-      recorded = subst (λ (s : State). Recorded guest s options i j before after answer) started (subst (λ (g : List ℕ). Recorded g state options i j before after answer) there_is recorded);
+      recorded = subst (λ (s : State). Recorded guest tells s options i j before after answer) started (subst (λ (g : List ℕ). Recorded g tells state options i j before after answer) there_is recorded);
       moments = subst (λ (s : State). EachMoment guest s i j before after) started (subst (λ (g : List ℕ). EachMoment g state i j before after) there_is moments);
     } in
     inr (inr (answer, status_is, as_))
@@ -98,34 +99,34 @@ not_in_use len None after some used empty = empty
 not_in_use len (Some h) after some used empty = let none : len ≡ 0 = used.2.0 ∙ ap (λ (l : List ℕ). length l) empty in omega (arith, some, none)
 
 -- of a recording
-answered : (name : List ℕ) (options : Options) (files : Option (List File)) (i j : Option Input) (before there : Option History) (answer : Result Report RecordFault) → RecordedAs name options files i j before there answer → IsKnownEmpty before
+answered : (tells : Tells) (name : List ℕ) (options : Options) (files : Option (List File)) (i j : Option Input) (before there : Option History) (answer : Result Report RecordFault) → RecordedAs tells name options files i j before there answer → IsKnownEmpty before
     → (answer ≡ Err faults.InputFault → ⊥) → (answer ≡ Err faults.DiskFault → ⊥) → (answer ≡ Err faults.OutputFault → ⊥) → IsNoFault (status_of answer)
-answered name options files i j before there (Ok report) as_ empty input disk sink = tt
-answered name options files i j before there (Err faults.InputFault) as_ empty input disk sink = input refl
-answered name options files i j before there (Err faults.DiskFault) as_ empty input disk sink = disk refl
-answered name options files i j before there (Err faults.OutputFault) as_ empty input disk sink = sink refl
-answered name options files i j before there (Err (faults.JournalInUse len)) as_ empty input disk sink = not_in_use len before there as_.recorded.0 as_.recorded.2 empty
-answered name options files i j before there (Err (faults.StepLimit steps)) as_ empty input disk sink = tt
-answered name options files i j before there (Err (faults.JournalFull end need)) as_ empty input disk sink = tt
-answered name options files i j before there (Err faults.OutOfMemory) as_ empty input disk sink = tt
+answered tells name options files i j before there (Ok report) as_ empty input disk sink = tt
+answered tells name options files i j before there (Err faults.InputFault) as_ empty input disk sink = input refl
+answered tells name options files i j before there (Err faults.DiskFault) as_ empty input disk sink = disk refl
+answered tells name options files i j before there (Err faults.OutputFault) as_ empty input disk sink = sink refl
+answered tells name options files i j before there (Err (faults.JournalInUse len)) as_ empty input disk sink = not_in_use len before there as_.recorded.0 as_.recorded.2 empty
+answered tells name options files i j before there (Err (faults.StepLimit steps)) as_ empty input disk sink = tt
+answered tells name options files i j before there (Err (faults.JournalFull end need)) as_ empty input disk sink = tt
+answered tells name options files i j before there (Err faults.OutOfMemory) as_ empty input disk sink = tt
 
-pub complete_by : (name : List ℕ) (options : Options) (files : Option (List File)) (i j : Option Input) (before there : Option History) (status : Status) → CameTo name options files i j before there status → NamesGuest name files → IsKnownEmpty before
+pub complete_by : (tells : Tells) (name : List ℕ) (options : Options) (files : Option (List File)) (i j : Option Input) (before there : Option History) (status : Status) → CameTo tells name options files i j before there status → NamesGuest name files → IsKnownEmpty before
     → (status ≡ statuses.GuestFault → ⊥) → (status ≡ statuses.InputFault → ⊥) → (status ≡ statuses.DiskFault → ⊥) → (status ≡ statuses.OutputFault → ⊥) → IsNoFault status
-complete_by name options files i j before there status (inl (inl is, kept, same)) names empty file input disk sink = absurd (file is)
-complete_by name options files i j before there status (inl (inr is, kept, same)) names empty file input disk sink = subst IsNoFault (sym is) tt
-complete_by name options files i j before there status (inr (inl (bytes, fault, is, fetched, refused, kept, same))) names empty file input disk sink =
+complete_by tells name options files i j before there status (inl (inl is, kept, same)) names empty file input disk sink = absurd (file is)
+complete_by tells name options files i j before there status (inl (inr is, kept, same)) names empty file input disk sink = subst IsNoFault (sym is) tt
+complete_by tells name options files i j before there status (inr (inl (bytes, fault, is, fetched, refused, kept, same))) names empty file input disk sink =
     absurd (let none = same_guest files name bytes names fetched in let some = refused in cc)
-complete_by name options files i j before there status (inr (inr (answer, is, as_))) names empty file input disk sink =
-    subst IsNoFault (sym is) (answered name options files i j before there answer as_ empty
+complete_by tells name options files i j before there status (inr (inr (answer, is, as_))) names empty file input disk sink =
+    subst IsNoFault (sym is) (answered tells name options files i j before there answer as_ empty
     (λ e. input (is ∙ ap status_of e)) (λ e. disk (is ∙ ap status_of e)) (λ e. sink (is ∙ ap status_of e)))
 
-pub complete : (words : List (String Global)) (files : Option (List File)) (i j : Option Input) (before there : Option History) (status : Status) → Did words files i j before there status → (asked : Asked words) → NamesGuest asked.guest files → IsKnownEmpty before
+pub complete : (tells : Tells) (words : List (String Global)) (files : Option (List File)) (i j : Option Input) (before there : Option History) (status : Status) → Did tells words files i j before there status → (asked : Asked words) → NamesGuest asked.guest files → IsKnownEmpty before
     → (status ≡ statuses.GuestFault → ⊥) → (status ≡ statuses.InputFault → ⊥) → (status ≡ statuses.DiskFault → ⊥) → (status ≡ statuses.OutputFault → ⊥) → IsNoFault status
-complete words files i j before there status (inl refused) asked names empty file input disk sink = absurd (let not_taken = refused.1 in let taken = asked.taken in cc)
-complete words files i j before there status (inr (inl memory)) asked names empty file input disk sink = subst IsNoFault (sym memory.0) tt
-complete words files i j before there status (inr (inr (inl did))) asked names empty file input disk sink =
-    complete_by did.0.guest did.0.options files i j before there status did.1 (subst (λ (n : List ℕ). NamesGuest n files) (same_name words asked did.0) names) empty file input disk sink
-complete words files i j before there status (inr (inr (inr did))) asked names empty file input disk sink = absurd (not_both words asked did.0)
+complete tells words files i j before there status (inl refused) asked names empty file input disk sink = absurd (let not_taken = refused.1 in let taken = asked.taken in cc)
+complete tells words files i j before there status (inr (inl memory)) asked names empty file input disk sink = subst IsNoFault (sym memory.0) tt
+complete tells words files i j before there status (inr (inr (inl did))) asked names empty file input disk sink =
+    complete_by tells did.0.guest did.0.options files i j before there status did.1 (subst (λ (n : List ℕ). NamesGuest n files) (same_name words asked did.0) names) empty file input disk sink
+complete tells words files i j before there status (inr (inr (inr did))) asked names empty file input disk sink = absurd (not_both words asked did.0)
 
 -- a count that rose has risen later too
 pub rose_before : (a b c : ℕ) → a ≤ b → b ≤ c → Rose a b → Rose a c

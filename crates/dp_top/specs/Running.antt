@@ -14,6 +14,7 @@ use Rattle.dp_report.specs.declared.status.Status.TheVariants as statuses
 use Rattle.dp_report.specs.Texts.{status_line}
 use Rattle.elf_image.specs.Faults.{image_fault}
 use Rattle.guest_kernel.specs.Start.{IsGuestFile, start_state}
+use Rattle.racing_runner.specs.Offers.{Tells}
 use Rattle.recorder.specs.declared.options.Options.{Options}
 use Rattle.recorder.specs.declared.record_fault.RecordFault.{RecordFault}
 use Rattle.recorder.specs.Moments.{EachMoment}
@@ -25,22 +26,22 @@ use Rattle.journal_text.specs.Reading.{reads}
 use Rattle.dp_top.specs.Answer.{status_of, status_of_replay}
 use Rattle.dp_top.specs.Asking.{Asked, AskedReplay}
 
--- The file of this name, which is of bytes, is a guest, and its recording with these options came to this.
-pub record RecordedAs (name : List ℕ) (options : Options) (files : Option (List File)) (i j : Option Input) (before after : Option History) (answer : Result Report RecordFault) : Type 0 where
+-- The file of this name, which is of bytes, is a guest, and its recording with these options came to this, by a racer that told this at first.
+pub record RecordedAs (tells : Tells) (name : List ℕ) (options : Options) (files : Option (List File)) (i j : Option Input) (before after : Option History) (answer : Result Report RecordFault) : Type 0 where
   pub bytes : List ℕ
   pub of_bytes : AreBytes bytes
   pub fetched : IsFetched files name bytes
   pub accepted : IsGuestFile bytes
-  pub recorded : Recorded bytes (start_state bytes) options i j before after answer
+  pub recorded : Recorded bytes tells (start_state bytes) options i j before after answer
   pub moments : EachMoment bytes (start_state bytes) i j before after
 
 -- What a record command results in, before its status's line is sent on Note. Nothing was done, since the guest's file could not be
 -- read, or is refused, or memory ran out; or the guest was recorded, and the status is that of the recording's answer.
-abbrev pub CameTo : (name : List ℕ) → Options → Option (List File) → (i j : Option Input) → (before after : Option History) → Status → Type 0
-CameTo name options files i j before after status =
+abbrev pub CameTo : Tells → (name : List ℕ) → Options → Option (List File) → (i j : Option Input) → (before after : Option History) → Status → Type 0
+CameTo tells name options files i j before after status =
     (((status ≡ statuses.GuestFault) ⊎ (status ≡ statuses.OutOfMemory)) × (j ≡ i) × (after ≡ before))
     ⊎ ((bytes : List ℕ) × (fault : ℕ) × (status ≡ statuses.BadImage fault) × IsFetched files name bytes × (image_fault bytes ≡ Some fault) × (j ≡ i) × (after ≡ before))
-    ⊎ ((answer : Result Report RecordFault) × (status ≡ status_of answer) × RecordedAs name options files i j before after answer)
+    ⊎ ((answer : Result Report RecordFault) × (status ≡ status_of answer) × RecordedAs tells name options files i j before after answer)
 
 -- What a replay command comes to, before its status is told on Note: a replay of the bytes that the disk reads as.
 abbrev pub ReplayedTo : Option History → Option History → Status → Type 0
@@ -49,17 +50,17 @@ ReplayedTo before after status = (answer : Result Report ReplayFault) × (status
 
 -- The words aren't taken, or ask for a recording or for a replay that came to this. Only a recording takes from the input or reads
 -- the clock.
-abbrev pub Did : List (String Global) → Option (List File) → (i j : Option Input) → (before after : Option History) → Status → Type 0
-Did words files i j before after status =
+abbrev pub Did : Tells → List (String Global) → Option (List File) → (i j : Option Input) → (before after : Option History) → Status → Type 0
+Did tells words files i j before after status =
     ((status ≡ statuses.Usage) × (are_taken words ≡ false) × (j ≡ i) × (after ≡ before))
     ⊎ ((status ≡ statuses.OutOfMemory) × (j ≡ i) × (after ≡ before))
-    ⊎ ((a : Asked words) × CameTo a.guest a.options files i j before after status)
+    ⊎ ((a : Asked words) × CameTo tells a.guest a.options files i j before after status)
     ⊎ (AskedReplay words × (j ≡ i) × ReplayedTo before after status)
 
 -- The command came to this, and then the status's line was sent on Note: all of it, or a prefix. At Ok it has no line: the
 -- report's has been sent by then.
-abbrev pub Ran : List (String Global) → Option (List File) → (i j : Option Input) → (before after : Option History) → Status → (told : Bool) → Type 0
-Ran words files i j before after status told = (done : Option History) × Did words files i j before done status × IfKnown (Sent Note (status_line status) told) done after
+abbrev pub Ran : Tells → List (String Global) → Option (List File) → (i j : Option Input) → (before after : Option History) → Status → (told : Bool) → Type 0
+Ran tells words files i j before after status told = (done : Option History) × Did tells words files i j before done status × IfKnown (Sent Note (status_line status) told) done after
 
 -- the guest's file is refused
 abbrev pub IsBadImage : Status → Type 0

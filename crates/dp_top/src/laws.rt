@@ -10,6 +10,7 @@ ghost use Rattle.epoch_replay.specs.Play.{no_journal, played, plays_to};
 ghost use Rattle.epoch_replay.specs.Replaying.{Ends, Replayed};
 ghost use Rattle.guest_kernel.specs.Start.{IsGuestFile, start_state};
 ghost use Rattle.journal_text.specs.Reading.{journal_of, reads};
+ghost use Rattle.racing_runner.specs.Offers.{Tells};
 ghost use Rattle.recorder.specs.declared.options.Options.{Options};
 ghost use Rattle.recorder.specs.Moments.{IsRecording};
 ghost use Rattle.recorder.specs.Recording.{HasRoom, Recorded, Run, epochs, records_of, report_of};
@@ -17,7 +18,7 @@ ghost use Rattle.recorder.specs.Recording.{HasRoom, Recorded, Run, epochs, recor
 /// The journal of a run, however far it came, plays to its end if it has room: to the run's whole output, and to the state in which the run
 /// ends.
 pub fn a_run_plays_to_its_end()
-    ensures { (guest : List ℕ) (options : Options) (r : Run options (start_state guest)) → IsGuestFile guest → AreBytes guest →
+    ensures { (guest : List ℕ) (tells : Tells) (options : Options) (r : Run tells options (start_state guest)) → IsGuestFile guest → AreBytes guest →
         HasRoom guest options (epochs r) →
         plays_to (reads (journal_of guest (records_of (epochs r)))) ≡ played (record { output = r.output; stop = Ok r.end }) }
 {
@@ -28,8 +29,8 @@ pub fn a_run_plays_to_its_end()
 /// A journal that a recording answered `Ok` for plays to exactly the output that the recording sent, and to the report that it
 /// gave, but for the squashes, of which a replay has none.
 pub fn a_recording_plays_as_it_was()
-    ensures { (guest : List ℕ) (options : Options) (i j : Option Input) (before after : History) (report : Report) → IsGuestFile guest → AreBytes guest →
-        Recorded guest (start_state guest) options i j (Some before) (Some after) (Ok report) →
+    ensures { (guest : List ℕ) (tells : Tells) (options : Options) (i j : Option Input) (before after : History) (report : Report) → IsGuestFile guest → AreBytes guest →
+        Recorded guest tells (start_state guest) options i j (Some before) (Some after) (Ok report) →
         (output : List ℕ) × (after.sent ≡ before.sent ++ output)
         × Ends (reads after.disk) output (record report { squashes = 0 }) }
 {

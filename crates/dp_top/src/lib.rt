@@ -12,7 +12,9 @@
 //! and `disk_model`.
 //!
 //! ```text
-//! let (world, status) = run(&rt, alloc, &words, &mut files, &mut inlet, world);
+//! let (world, status) = run(
+//!     &rt, alloc, &words, &mut files, &mut inlet, world, &mut IdleRacer, &OpenGate,
+//! );
 //! ExitCode::from(status.number())
 //! ```
 #![tactic(auto)]

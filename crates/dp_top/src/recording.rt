@@ -10,14 +10,16 @@ ghost use Rattle.recorder.specs.Recording.{Recorded};
 ghost use Rattle.dp_top.specs.Answer.{status_of};
 
 use crate::answer::status_of_answer;
-use disk_model::{Inlet, World};
+use disk_model::{Gate, Inlet, World};
 use dp_report::Status;
 use guest_kernel::State;
+use racing_runner::Racer;
 use recorder::{Options, record_};
 use std::alloc::Global;
+use std::thread::Threads;
 
 /// Attaches the journal and records into it.
-pub fn record_guest<R, I: Inlet, W: World>(
+pub fn record_guest<R: Threads + Sync, I: Inlet, W: World, Q: Racer, G: Gate + Sync>(
     rt: &R,
     alloc: Global,
     inlet: &mut I,
@@ -26,12 +28,14 @@ pub fn record_guest<R, I: Inlet, W: World>(
     guest: &[u8],
     start: State,
     options: Options,
+    racer: &mut Q,
+    gate: &G,
 ) -> (W, Status)
     requires guest { IsGuestFile guest.now }
     requires starts { start ≡ start_state guest.now }
     ensures bytes { AreBytes guest.now }
     ensures recorded { (answer : Result Report RecordFault) × (result.1 ≡ status_of answer)
-        × Recorded guest.now start options (I.input inlet.old) (I.input inlet.new) (W.history world) (W.history result.0) answer }
+        × Recorded guest.now (Q.tells racer.old) start options (I.input inlet.old) (I.input inlet.new) (W.history world) (W.history result.0) answer }
     ensures moments { EachMoment guest.now start (I.input inlet.old) (I.input inlet.new) (W.history world) (W.history result.0) }
     ensures none { result.1 ≡ Status.Ok → (W.sink_faults result.0 ≡ W.sink_faults world)
         × (I.input_faults inlet.new ≡ I.input_faults inlet.old) }
@@ -45,6 +49,6 @@ pub fn record_guest<R, I: Inlet, W: World>(
     if world.attach(journal, true).is_err() {
         return (world, Status::DiskFault);
     }
-    let (world, answer) = record_(rt, alloc, world, inlet, guest, start, options);
+    let (world, answer) = record_(rt, alloc, world, inlet, guest, start, options, racer, gate);
     (world, status_of_answer(answer))
 }

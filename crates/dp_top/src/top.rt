@@ -13,11 +13,12 @@ ghost use Rattle.dp_top.specs.Running.{CameTo, Did, IsBadImage, IsKnownEmpty, Is
 
 use crate::recording::record_guest;
 use crate::replaying::replay_journal;
-use disk_model::{FetchFault, Files, Inlet, World};
+use disk_model::{FetchFault, Files, Gate, Inlet, World};
 use dp_base::limits::MAX_JOURNAL_BYTES;
 use dp_report::{Status, emit_fault};
 use dp_words::{Command, WordsFault, parse};
 use guest_kernel::{ImageFault, start_from_file};
+use racing_runner::Racer;
 use recorder::Options;
 use std::alloc::Global;
 use std::thread::Threads;
@@ -30,20 +31,23 @@ use std::thread::Threads;
 ///
 /// The words are looked at first. For a recording then come the guest's file, its image, and the disk: after `Usage`,
 /// `GuestFault` and a recording's `BadImage` the disk is as it was, and has met no fault. For a replay then come the disk, the
-/// journal's guest and its records. A status's line that can't be sent changes no status. The runtime `rt` is lent for the
-/// threads of a replay, at most as many as the words' `--workers`.
-pub fn run<R: Threads + Sync, F: Files, I: Inlet, W: World>(
+/// journal's guest and its records. A status's line that can't be sent changes no status. A recording's jobs run on threads of the runtime
+/// `rt`, at most as many as the words' `--workers`. They start in states that the racer offers, at most `--ahead` in a round, and before each
+/// of them its worker passes the gate. The parts of a journal between marks are replayed on as many threads as the words of a replay say.
+pub fn run<R: Threads + Sync, F: Files, I: Inlet, W: World, Q: Racer, G: Gate + Sync>(
     rt: &R,
     alloc: Global,
     words: &[String],
     files: &mut F,
     inlet: &mut I,
     world: W,
+    racer: &mut Q,
+    gate: &G,
 ) -> (W, Status)
     // What stands, by the status, and what was sent on Note. The line is cut off only where an emit has failed, and at `OutputFault` one more
     // than the answer's.
     ensures ran { (told : Bool) × (faults : ℕ)
-        × Ran words.now (F.directory files.old) (I.input inlet.old) (I.input inlet.new) (W.history world) (W.history result.0) result.1 told
+        × Ran (Q.tells racer.old) words.now (F.directory files.old) (I.input inlet.old) (I.input inlet.new) (W.history world) (W.history result.0) result.1 told
         × (W.sink_faults world ≤ faults) × (faults ≤ W.sink_faults result.0)
         × (result.1 ≡ Status.OutputFault → Rose (W.sink_faults world) faults)
         × (told ≡ false → Rose faults (W.sink_faults result.0)) }
@@ -95,21 +99,23 @@ pub fn run<R: Threads + Sync, F: Files, I: Inlet, W: World>(
         (Rose (W.sink_faults world) (W.sink_faults result.0) → ⊥) →
         (result.1 ≡ Status.Ok) ⊎ (result.1 ≡ Status.OutOfMemory) }
 {
-    let (mut world, status) = do_command(rt, alloc, words, files, inlet, world);
+    let (mut world, status) = do_command(rt, alloc, words, files, inlet, world, racer, gate);
     let _ = emit_fault(&mut world, &status);
     (world, status)
 }
 
 // Does what the words say, but for the status's line.
-fn do_command<R: Threads + Sync, F: Files, I: Inlet, W: World>(
+fn do_command<R: Threads + Sync, F: Files, I: Inlet, W: World, Q: Racer, G: Gate + Sync>(
     rt: &R,
     alloc: Global,
     words: &[String],
     files: &mut F,
     inlet: &mut I,
     world: W,
+    racer: &mut Q,
+    gate: &G,
 ) -> (W, Status)
-    ensures did { Did words.now (F.directory files.old) (I.input inlet.old) (I.input inlet.new) (W.history world) (W.history result.0) result.1 }
+    ensures did { Did (Q.tells racer.old) words.now (F.directory files.old) (I.input inlet.old) (I.input inlet.new) (W.history world) (W.history result.0) result.1 }
     ensures guest_fault { result.1 ≡ Status.GuestFault → Rose (F.file_faults files.old) (F.file_faults files.new) }
     ensures input_fault { result.1 ≡ Status.InputFault → Rose (I.input_faults inlet.old) (I.input_faults inlet.new) }
     ensures disk_fault { result.1 ≡ Status.DiskFault → Rose (W.disk_faults world) (W.disk_faults result.0) }
@@ -160,6 +166,8 @@ fn do_command<R: Threads + Sync, F: Files, I: Inlet, W: World>(
                 guest.as_str(),
                 journal.as_str(),
                 options,
+                racer,
+                gate,
             )
         }
         Ok(Command::Replay { journal, workers }) => {
@@ -171,7 +179,7 @@ fn do_command<R: Threads + Sync, F: Files, I: Inlet, W: World>(
 }
 
 // Records the guest whose file has this name.
-fn record_named<R, F: Files, I: Inlet, W: World>(
+fn record_named<R: Threads + Sync, F: Files, I: Inlet, W: World, Q: Racer, G: Gate + Sync>(
     rt: &R,
     alloc: Global,
     files: &mut F,
@@ -180,8 +188,10 @@ fn record_named<R, F: Files, I: Inlet, W: World>(
     name: &str,
     journal: &str,
     options: Options,
+    racer: &mut Q,
+    gate: &G,
 ) -> (W, Status)
-    ensures came { CameTo name.now options (F.directory files.old) (I.input inlet.old) (I.input inlet.new) (W.history world) (W.history result.0) result.1 }
+    ensures came { CameTo (Q.tells racer.old) name.now options (F.directory files.old) (I.input inlet.old) (I.input inlet.new) (W.history world) (W.history result.0) result.1 }
     ensures guest_fault { result.1 ≡ Status.GuestFault → Rose (F.file_faults files.old) (F.file_faults files.new) }
     ensures input_fault { result.1 ≡ Status.InputFault → Rose (I.input_faults inlet.old) (I.input_faults inlet.new) }
     ensures disk_fault { result.1 ≡ Status.DiskFault → Rose (W.disk_faults world) (W.disk_faults result.0) }
@@ -203,7 +213,9 @@ fn record_named<R, F: Files, I: Inlet, W: World>(
         Ok(state) => state,
         Err(fault) => return (world, status_of_fault(fault)),
     };
-    record_guest(rt, alloc, inlet, world, journal, &guest, start, options)
+    record_guest(
+        rt, alloc, inlet, world, journal, &guest, start, options, racer, gate,
+    )
 }
 
 // The status of a guest whose file is refused.

@@ -1,7 +1,9 @@
 // Guests that call for the clock, recorded and replayed. The values come from the model that `read_tests` has.
 use super::*;
 use crate::recorded::{Came, ok, recorded};
+use std::alloc::Global;
 use std::test::Fail;
+use std::thread::Threads;
 
 #[test]
 fn readings_of_the_clock(rt: HostRuntime) -> Result<(), Fail> {
@@ -70,7 +72,16 @@ fn readings_of_the_clock(rt: HostRuntime) -> Result<(), Fail> {
         ),
     ];
     for (pieces, clocks, steps, wanted, out, note) in cases {
-        let came = recorded(&rt, &THREE_READINGS, pieces, clocks, steps, out, note)?;
+        let came = recorded(
+            &rt,
+            rt.alloc(),
+            &THREE_READINGS,
+            pieces,
+            clocks,
+            steps,
+            out,
+            note,
+        )?;
         assert_eq!(rt; came, wanted);
     }
     Ok(())
@@ -114,7 +125,16 @@ fn one_reading(rt: HostRuntime) -> Result<(), Fail> {
         ),
     ];
     for (pieces, clocks, steps, wanted, out, note) in cases {
-        let came = recorded(&rt, &READS_CLOCK, pieces, clocks, steps, out, note)?;
+        let came = recorded(
+            &rt,
+            rt.alloc(),
+            &READS_CLOCK,
+            pieces,
+            clocks,
+            steps,
+            out,
+            note,
+        )?;
         assert_eq!(rt; came, wanted);
     }
     Ok(())

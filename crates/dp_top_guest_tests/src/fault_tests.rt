@@ -3,14 +3,17 @@
 use super::*;
 use crate::recorded::{Came, came_to, ok};
 use dp_report::Status;
+use std::alloc::Global;
 use std::test::Fail;
-use test_worlds::{Failing, Running, inlet_of};
+use std::thread::Threads;
+use test_worlds::{Failing, inlet_of};
 
 const LINE: &[u8] = b"dpcli: input failed\n";
 
 // What a recording comes to whose take with this number fails, and where all from it on fail.
-fn failed(
-    rt: &impl Running,
+fn failed<R: Threads + Sync>(
+    rt: &R,
+    alloc: Global,
     words: &[u32],
     pieces: &[&[u8]],
     take: u64,
@@ -18,12 +21,11 @@ fn failed(
     out: &[u8],
     note: &[u8],
 ) -> Result<(Came, Came), Fail> {
-    let alloc = rt.alloc();
     let once = inlet_of(alloc, pieces, &[], Failing::At(take))?;
     let ever = inlet_of(alloc, pieces, &[], Failing::From(take))?;
     Ok((
-        came_to(rt, words, once, steps, out, (LINE, note))?,
-        came_to(rt, words, ever, steps, out, (LINE, note))?,
+        came_to(rt, alloc, words, once, steps, out, (LINE, note))?,
+        came_to(rt, alloc, words, ever, steps, out, (LINE, note))?,
     ))
 }
 
@@ -62,6 +64,7 @@ fn two_reads(rt: HostRuntime) -> Result<(), Fail> {
     for (take, journal, out, note) in cases {
         let both = failed(
             &rt,
+            rt.alloc(),
             &READS_TWICE,
             pieces,
             take,
@@ -81,6 +84,7 @@ fn two_reads(rt: HostRuntime) -> Result<(), Fail> {
     let inlet = inlet_of(rt.alloc(), pieces, &[], Failing::From(3))?;
     let came = came_to(
         &rt,
+        rt.alloc(),
         &READS_TWICE,
         inlet,
         ("20000", "1000"),
@@ -124,7 +128,16 @@ fn a_filter(rt: HostRuntime) -> Result<(), Fail> {
     words.push(4)?;
     let pieces: &[&[u8]] = &[b"abcdef", b"gh", b"ijklm"];
     for (take, journal, out, note) in cases {
-        let both = failed(&rt, &words, pieces, take, ("20000", "1000"), out, note)?;
+        let both = failed(
+            &rt,
+            rt.alloc(),
+            &words,
+            pieces,
+            take,
+            ("20000", "1000"),
+            out,
+            note,
+        )?;
         assert_eq!(rt;
             both,
             (fault(journal, take), fault(journal, take)),
@@ -137,6 +150,7 @@ fn a_filter(rt: HostRuntime) -> Result<(), Fail> {
     let inlet = inlet_of(rt.alloc(), pieces, &[], Failing::From(5))?;
     let came = came_to(
         &rt,
+        rt.alloc(),
         &words,
         inlet,
         ("20000", "1000"),
@@ -178,7 +192,16 @@ fn two_readers(rt: HostRuntime) -> Result<(), Fail> {
     ];
     let pieces: &[&[u8]] = &[b"abcde", b"f", b"gh"];
     for (take, journal, out, note) in cases {
-        let both = failed(&rt, &TWO_READERS, pieces, take, ("20000", "5"), out, note)?;
+        let both = failed(
+            &rt,
+            rt.alloc(),
+            &TWO_READERS,
+            pieces,
+            take,
+            ("20000", "5"),
+            out,
+            note,
+        )?;
         assert_eq!(rt;
             both,
             (fault(journal, take), fault(journal, take)),
@@ -191,6 +214,7 @@ fn two_readers(rt: HostRuntime) -> Result<(), Fail> {
     let inlet = inlet_of(rt.alloc(), pieces, &[], Failing::From(5))?;
     let came = came_to(
         &rt,
+        rt.alloc(),
         &TWO_READERS,
         inlet,
         ("20000", "5"),
@@ -228,6 +252,7 @@ fn a_reader_and_a_counter(rt: HostRuntime) -> Result<(), Fail> {
     for (take, journal, out, note) in cases {
         let both = failed(
             &rt,
+            rt.alloc(),
             &READER_AND_COUNTER,
             pieces,
             take,
@@ -247,6 +272,7 @@ fn a_reader_and_a_counter(rt: HostRuntime) -> Result<(), Fail> {
     let inlet = inlet_of(rt.alloc(), pieces, &[], Failing::From(4))?;
     let came = came_to(
         &rt,
+        rt.alloc(),
         &READER_AND_COUNTER,
         inlet,
         ("20", "7"),

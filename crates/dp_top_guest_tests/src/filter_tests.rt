@@ -4,9 +4,9 @@ use crate::recorded::{Came, STEPS, came_to, ok};
 use disk_mem::{Fails, MemInlet};
 use std::alloc::Global;
 use std::test::Fail;
+use std::thread::Threads;
 use supply::{InputFault, MAX_ROOM, Supply};
 use test_files::repeated;
-use test_worlds::Running;
 
 fn cut(alloc: Global, bytes: &[u8], size: usize) -> Result<Vec<Vec<u8>>, Fail> {
     let mut pieces = Vec::new(alloc);
@@ -17,20 +17,20 @@ fn cut(alloc: Global, bytes: &[u8], size: usize) -> Result<Vec<Vec<u8>>, Fail> {
 }
 
 // The filter that reads so many bytes at a time, with an input of so many bytes in pieces of this size.
-fn filtered(
-    rt: &impl Running,
+fn filtered<R: Threads + Sync>(
+    rt: &R,
+    alloc: Global,
     many: u32,
     count: u32,
     piece: usize,
     note: &[u8],
 ) -> Result<Came, Fail> {
-    let alloc = rt.alloc();
     let bytes = repeated(alloc, count)?;
     let pieces = cut(alloc, &bytes, piece)?;
     let inlet = MemInlet::new(pieces, Vec::new(alloc), Fails::Never);
     let mut words = FILTER.to_vec(alloc)?;
     words.push(many)?;
-    came_to(rt, &words, inlet, STEPS, &bytes, (note, note))
+    came_to(rt, alloc, &words, inlet, STEPS, &bytes, (note, note))
 }
 
 #[test]
@@ -117,7 +117,7 @@ fn a_filter_of_few_bytes(rt: HostRuntime) -> Result<(), Fail> {
     ];
     for (many, count, piece, wanted, note) in cases {
         assert_eq!(rt;
-            filtered(&rt, many, count, piece, note)?,
+            filtered(&rt, rt.alloc(), many, count, piece, note)?,
             wanted,
             "{many} {count} {piece}"
         );
@@ -188,7 +188,7 @@ fn a_filter_of_many_bytes(rt: HostRuntime) -> Result<(), Fail> {
     ];
     for (many, count, piece, wanted, note) in cases {
         assert_eq!(rt;
-            filtered(&rt, many, count, piece, note)?,
+            filtered(&rt, rt.alloc(), many, count, piece, note)?,
             wanted,
             "{many} {count} {piece}"
         );

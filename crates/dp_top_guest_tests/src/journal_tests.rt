@@ -4,9 +4,10 @@ use crate::recorded::{STEPS, record, replay};
 use dp_report::Status;
 use std::alloc::Global;
 use std::test::Fail;
+use std::thread::Threads;
 use test_files::{EXITS_WORDS, file_of};
 use test_journals::{THREE_STEPS, journal_of};
-use test_worlds::{Failing, Running, inlet_of};
+use test_worlds::{Failing, inlet_of};
 
 // The journal of a guest of these words whose records have these bodies.
 fn journal_of_words(alloc: Global, words: &[u32], bodies: &[&[u8]]) -> Result<Vec<u8>, Fail> {
@@ -23,36 +24,61 @@ const TAKES_READING: &[u8] =
     b"\x00\x01\x00\x00\x00\x01\x00\x05\x00\x00\x00\x01\x00\x00\x00\x01\x05\x00\x00\x00\x00\x00\x00\x00";
 
 // Whether a recording writes the journal of these bodies.
-fn is_written(
-    rt: &impl Running,
+fn is_written<R: Threads + Sync>(
+    rt: &R,
+    alloc: Global,
     words: &[u32],
     pieces: &[&[u8]],
     clocks: &[u64],
     bodies: &[&[u8]],
 ) -> Result<bool, Fail> {
-    let inlet = inlet_of(rt.alloc(), pieces, clocks, Failing::Never)?;
-    let seen = record(rt, words, inlet, STEPS)?;
-    let journal = journal_of_words(rt.alloc(), words, bodies)?;
+    let inlet = inlet_of(alloc, pieces, clocks, Failing::Never)?;
+    let seen = record(rt, alloc, words, inlet, STEPS)?;
+    let journal = journal_of_words(alloc, words, bodies)?;
     Ok(seen.status == Status::Ok && seen.journal == journal)
 }
 
 #[test]
 fn journals_of_recordings(rt: HostRuntime) -> Result<(), Fail> {
     let reads: &[&[u8]] = &[&THREE_STEPS, READS, SEES_END];
-    assert!(rt; is_written(&rt, &READS_TWICE, &[b"abc"], &[], reads)?);
-    assert!(rt; is_written(&rt, &READS_TWICE, &[b"abc"], &[9, 8], reads)?);
-    assert!(rt; is_written(&rt, &READS_CLOCK, &[], &[5], &[TAKES_READING])?);
-    assert!(rt; is_written(&rt, &READS_CLOCK, &[b"abc"], &[5, 6], &[TAKES_READING])?);
+    assert!(rt; is_written(&rt, rt.alloc(), &READS_TWICE, &[b"abc"], &[], reads)?);
+    assert!(rt; is_written(&rt, rt.alloc(), &READS_TWICE, &[b"abc"], &[9, 8], reads)?);
+    assert!(rt; is_written(&rt, rt.alloc(), &READS_CLOCK, &[], &[5], &[TAKES_READING])?);
+    assert!(rt;
+        is_written(
+            &rt,
+            rt.alloc(),
+            &READS_CLOCK,
+            &[b"abc"],
+            &[5, 6],
+            &[TAKES_READING]
+        )?
+    );
     let exits: &[&[u8]] = &[&THREE_STEPS];
-    assert!(rt; is_written(&rt, &EXITS_WORDS, &[], &[], exits)?);
-    assert!(rt; is_written(&rt, &EXITS_WORDS, &[b"abc", b"", b"d"], &[5, 6], exits)?);
+    assert!(rt; is_written(&rt, rt.alloc(), &EXITS_WORDS, &[], &[], exits)?);
+    assert!(rt;
+        is_written(
+            &rt,
+            rt.alloc(),
+            &EXITS_WORDS,
+            &[b"abc", b"", b"d"],
+            &[5, 6],
+            exits
+        )?
+    );
     Ok(())
 }
 
 // The status of a replay of these bodies, where it sends this on Note and nothing on Out.
-fn plays(rt: &impl Running, words: &[u32], bodies: &[&[u8]], note: &[u8]) -> Result<Status, Fail> {
-    let journal = journal_of_words(rt.alloc(), words, bodies)?;
-    let seen = replay(rt, &journal)?;
+fn plays<R: Threads + Sync>(
+    rt: &R,
+    alloc: Global,
+    words: &[u32],
+    bodies: &[&[u8]],
+    note: &[u8],
+) -> Result<Status, Fail> {
+    let journal = journal_of_words(alloc, words, bodies)?;
+    let seen = replay(rt, alloc, &journal)?;
     if !seen.sent.is_empty() || seen.noted.as_slice() != note {
         return Err("the replay's output and its note".into());
     }
@@ -179,7 +205,7 @@ fn journals_with_other_answers(rt: HostRuntime) -> Result<(), Fail> {
         ),
     ];
     for (words, bodies, status, note) in cases {
-        assert_eq!(rt; plays(&rt, words, bodies, note)?, status);
+        assert_eq!(rt; plays(&rt, rt.alloc(), words, bodies, note)?, status);
     }
     Ok(())
 }

@@ -2,7 +2,9 @@
 // words by the ISA's text, the input by its pieces, and the schedule by its rules.
 use super::*;
 use crate::recorded::{Came, ok, recorded};
+use std::alloc::Global;
 use std::test::Fail;
+use std::thread::Threads;
 use test_files::EXITS_WORDS;
 
 #[test]
@@ -74,7 +76,16 @@ fn two_reads(rt: HostRuntime) -> Result<(), Fail> {
         ),
     ];
     for (pieces, clocks, steps, wanted, out, note) in cases {
-        let came = recorded(&rt, &READS_TWICE, pieces, clocks, steps, out, note)?;
+        let came = recorded(
+            &rt,
+            rt.alloc(),
+            &READS_TWICE,
+            pieces,
+            clocks,
+            steps,
+            out,
+            note,
+        )?;
         assert_eq!(rt; came, wanted);
     }
     Ok(())
@@ -111,7 +122,16 @@ fn no_input_is_asked_for(rt: HostRuntime) -> Result<(), Fail> {
         ),
     ];
     for (pieces, clocks, steps, wanted, out, note) in cases {
-        let came = recorded(&rt, &EXITS_WORDS, pieces, clocks, steps, out, note)?;
+        let came = recorded(
+            &rt,
+            rt.alloc(),
+            &EXITS_WORDS,
+            pieces,
+            clocks,
+            steps,
+            out,
+            note,
+        )?;
         assert_eq!(rt; came, wanted);
     }
     Ok(())
@@ -156,7 +176,16 @@ fn edges_of_a_read(rt: HostRuntime) -> Result<(), Fail> {
         ),
     ];
     for (pieces, clocks, steps, wanted, out, note) in cases {
-        let came = recorded(&rt, &READ_EDGES, pieces, clocks, steps, out, note)?;
+        let came = recorded(
+            &rt,
+            rt.alloc(),
+            &READ_EDGES,
+            pieces,
+            clocks,
+            steps,
+            out,
+            note,
+        )?;
         assert_eq!(rt; came, wanted);
     }
     Ok(())
@@ -250,7 +279,16 @@ fn two_readers(rt: HostRuntime) -> Result<(), Fail> {
         ),
     ];
     for (pieces, clocks, steps, wanted, out, note) in cases {
-        let came = recorded(&rt, &TWO_READERS, pieces, clocks, steps, out, note)?;
+        let came = recorded(
+            &rt,
+            rt.alloc(),
+            &TWO_READERS,
+            pieces,
+            clocks,
+            steps,
+            out,
+            note,
+        )?;
         assert_eq!(rt; came, wanted);
     }
     Ok(())
@@ -311,7 +349,16 @@ fn a_reader_and_a_counter(rt: HostRuntime) -> Result<(), Fail> {
         ),
     ];
     for (pieces, clocks, steps, wanted, out, note) in cases {
-        let came = recorded(&rt, &READER_AND_COUNTER, pieces, clocks, steps, out, note)?;
+        let came = recorded(
+            &rt,
+            rt.alloc(),
+            &READER_AND_COUNTER,
+            pieces,
+            clocks,
+            steps,
+            out,
+            note,
+        )?;
         assert_eq!(rt; came, wanted);
     }
     Ok(())

@@ -1,12 +1,14 @@
 // A recording of a guest with an input and a clock in memory, and its replay.
 use disk_mem::{MemInlet, MemWorld};
-use disk_model::Stream;
+use disk_model::{OpenGate, Stream};
 use dp_report::Status;
 use dp_top::run;
+use racing_runner::IdleRacer;
 use std::alloc::Global;
 use std::test::Fail;
+use std::thread::Threads;
 use test_files::file_of;
-use test_worlds::{Failing, Running, disk_of, file_named, inlet_of, texts_of};
+use test_worlds::{Failing, disk_of, file_named, inlet_of, texts_of};
 
 // What a run came to, and what it left.
 #[derive(Drop)]
@@ -29,19 +31,28 @@ fn look_at(alloc: Global, world: &MemWorld, status: Status, takes: u64) -> Resul
 }
 
 // A run by these words, on a disk with these bytes, where `g` is this file.
-fn ran(
-    rt: &impl Running,
+fn ran<R: Threads + Sync>(
+    rt: &R,
+    alloc: Global,
     words: &[&str],
     file: &[u8],
     inlet: MemInlet,
     disk: &[u8],
 ) -> Result<Seen, Fail> {
-    let alloc = rt.alloc();
     let texts = texts_of(alloc, words)?;
     let mut files = file_named(alloc, "g", file, Failing::Never)?;
     let mut inlet = inlet;
     let world = disk_of(alloc, disk, Failing::Never)?;
-    let (after, status) = run(rt, alloc, &texts, &mut files, &mut inlet, world);
+    let (after, status) = run(
+        rt,
+        alloc,
+        &texts,
+        &mut files,
+        &mut inlet,
+        world,
+        &mut IdleRacer,
+        &OpenGate,
+    );
     look_at(alloc, &after, status, inlet.takes())
 }
 
@@ -49,24 +60,28 @@ fn ran(
 pub(crate) const STEPS: (&str, &str) = ("20000", "1000");
 
 // A recording of a guest of these words, on an empty disk, with so many steps of an epoch and of a slice at most.
-pub(crate) fn record(
-    rt: &impl Running,
+pub(crate) fn record<R: Threads + Sync>(
+    rt: &R,
+    alloc: Global,
     words: &[u32],
     inlet: MemInlet,
     steps: (&str, &str),
 ) -> Result<Seen, Fail> {
-    let file = file_of(rt.alloc(), words)?;
+    let file = file_of(alloc, words)?;
     let asked = [
         "dpcli", "record", "g", "j", "--epoch", steps.0, "--slice", steps.1,
     ];
-    ran(rt, &asked, &file, inlet, &[])
+    ran(rt, alloc, &asked, &file, inlet, &[])
 }
 
 // A replay of a journal, with no input and no file.
-pub(crate) fn replay(rt: &impl Running, journal: &[u8]) -> Result<Seen, Fail> {
-    let alloc = rt.alloc();
+pub(crate) fn replay<R: Threads + Sync>(
+    rt: &R,
+    alloc: Global,
+    journal: &[u8],
+) -> Result<Seen, Fail> {
     let none = inlet_of(alloc, &[], &[], Failing::Never)?;
-    ran(rt, &["dpcli", "replay", "j"], &[], none, journal)
+    ran(rt, alloc, &["dpcli", "replay", "j"], &[], none, journal)
 }
 
 // What a recording came to and its replay: both statuses, the journal's bytes, and how often the input was asked.
@@ -79,19 +94,20 @@ pub(crate) struct Came {
 }
 
 // The same, where both send this on Out, and the recording sends the one line on Note and the replay the other.
-pub(crate) fn came_to(
-    rt: &impl Running,
+pub(crate) fn came_to<R: Threads + Sync>(
+    rt: &R,
+    alloc: Global,
     words: &[u32],
     inlet: MemInlet,
     steps: (&str, &str),
     out: &[u8],
     notes: (&[u8], &[u8]),
 ) -> Result<Came, Fail> {
-    let seen = record(rt, words, inlet, steps)?;
+    let seen = record(rt, alloc, words, inlet, steps)?;
     if seen.sent.as_slice() != out || seen.noted.as_slice() != notes.0 {
         return Err("the recording's output and its note".into());
     }
-    let again = replay(rt, &seen.journal)?;
+    let again = replay(rt, alloc, &seen.journal)?;
     if again.sent.as_slice() != out || again.noted.as_slice() != notes.1 {
         return Err("the replay's output and its note".into());
     }
@@ -104,8 +120,9 @@ pub(crate) fn came_to(
 }
 
 // What a recording that meets no fault came to.
-pub(crate) fn recorded(
-    rt: &impl Running,
+pub(crate) fn recorded<R: Threads + Sync>(
+    rt: &R,
+    alloc: Global,
     words: &[u32],
     pieces: &[&[u8]],
     clocks: &[u64],
@@ -113,8 +130,8 @@ pub(crate) fn recorded(
     out: &[u8],
     note: &[u8],
 ) -> Result<Came, Fail> {
-    let inlet = inlet_of(rt.alloc(), pieces, clocks, Failing::Never)?;
-    came_to(rt, words, inlet, steps, out, (note, note))
+    let inlet = inlet_of(alloc, pieces, clocks, Failing::Never)?;
+    came_to(rt, alloc, words, inlet, steps, out, (note, note))
 }
 
 // A recording and its replay that both answer Ok.

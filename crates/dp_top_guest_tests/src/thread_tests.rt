@@ -2,7 +2,9 @@
 // runs the words by the ISA's text and the schedule's rules.
 use super::*;
 use crate::recorded::{STEPS, ok, recorded};
+use std::alloc::Global;
 use std::test::Fail;
+use std::thread::Threads;
 
 #[test]
 fn two_adders(rt: HostRuntime) -> Result<(), Fail> {
@@ -40,7 +42,16 @@ fn two_adders(rt: HostRuntime) -> Result<(), Fail> {
         ),
     ];
     for (epoch, slice, len, note) in cases {
-        let came = recorded(&rt, &ADDERS, &[], &[], (epoch, slice), b"8\n", note)?;
+        let came = recorded(
+            &rt,
+            rt.alloc(),
+            &ADDERS,
+            &[],
+            &[],
+            (epoch, slice),
+            b"8\n",
+            note,
+        )?;
         assert_eq!(rt; came, ok(len, 0), "epoch {epoch} slice {slice}");
     }
     Ok(())
@@ -84,6 +95,7 @@ fn a_producer_and_a_consumer(rt: HostRuntime) -> Result<(), Fail> {
     for (epoch, slice, len, note) in cases {
         let came = recorded(
             &rt,
+            rt.alloc(),
             &PRODUCER_AND_CONSUMER,
             &[],
             &[],
@@ -126,7 +138,16 @@ fn a_deadlock(rt: HostRuntime) -> Result<(), Fail> {
         ),
     ];
     for (epoch, slice, len, note) in cases {
-        let came = recorded(&rt, &DEADLOCKED, &[], &[], (epoch, slice), b"x\n", note)?;
+        let came = recorded(
+            &rt,
+            rt.alloc(),
+            &DEADLOCKED,
+            &[],
+            &[],
+            (epoch, slice),
+            b"x\n",
+            note,
+        )?;
         assert_eq!(rt; came, ok(len, 0), "epoch {epoch} slice {slice}");
     }
     Ok(())
@@ -136,7 +157,7 @@ fn a_deadlock(rt: HostRuntime) -> Result<(), Fail> {
 fn a_wait_that_nobody_ends(rt: HostRuntime) -> Result<(), Fail> {
     let note =
         b"epochs 1 squashes 0 steps 3 sent 0 end deadlock state 1601e67ec84ac914eba86160b97697b9bd23ec162f55374b236a88d9e8bc977a\n";
-    let came = recorded(&rt, &WAITS_ALONE, &[], &[], STEPS, b"", note)?;
+    let came = recorded(&rt, rt.alloc(), &WAITS_ALONE, &[], &[], STEPS, b"", note)?;
     assert_eq!(rt; came, ok(126, 0));
     Ok(())
 }

@@ -6,6 +6,7 @@ use dp_report::Status;
 use recorder_tests::mark_of_start;
 use std::alloc::Global;
 use std::test::Fail;
+use std::thread::Threads;
 use test_files::{EXITS, WRITES, replaced};
 use test_journals::{THREE_STEPS, journal_of};
 
@@ -29,7 +30,7 @@ fn journals_cut_short(rt: HostRuntime) -> Result<(), Fail> {
     for (first, last, answer, noted) in cases {
         for len in first..=last {
             let (cut, _) = journal.split_at(len.min(journal.len()));
-            let came = plays_as(&rt, REPLAY, cut, b"", noted)?;
+            let came = plays_as(&rt, rt.alloc(), REPLAY, cut, b"", noted)?;
             assert_eq!(rt; (came, cut.len()), (answer, len));
         }
     }
@@ -37,27 +38,34 @@ fn journals_cut_short(rt: HostRuntime) -> Result<(), Fail> {
 }
 
 // The journal of nine epochs of one step, with another thread's number in the record whose gate is at this place.
-fn with_thread(rt: &impl Running, gate: usize, thread: &[u8]) -> Result<Vec<u8>, Fail> {
+fn with_thread<R: Threads + Sync>(
+    rt: &R,
+    alloc: Global,
+    gate: usize,
+    thread: &[u8],
+) -> Result<Vec<u8>, Fail> {
     let words = ["dpcli", "record", "g", "j", "--epoch", "1"];
-    let (after, _) = recorded(rt, &words, &WRITES)?;
+    let (after, _) = recorded(rt, alloc, &words, &WRITES)?;
     if after.bytes().len() != 314 {
         return Err("the journal of nine epochs has 314 bytes".into());
     }
-    Ok(replaced(rt.alloc(), after.bytes(), gate.min(314) + 10, 2, thread)?)
+    Ok(replaced(alloc, after.bytes(), gate.min(314) + 10, 2, thread)?)
 }
 
 // What that journal plays to.
-fn thread_plays_as(
-    rt: &impl Running,
+fn thread_plays_as<R: Threads + Sync>(
+    rt: &R,
+    alloc: Global,
     workers: &str,
     gate: usize,
     thread: &[u8],
     sent: &[u8],
     noted: &[u8],
 ) -> Result<(Status, u8), Fail> {
-    let journal = with_thread(rt, gate, thread)?;
+    let journal = with_thread(rt, alloc, gate, thread)?;
     plays_as(
         rt,
+        alloc,
         &["dpcli", "replay", "j", "--workers", workers],
         &journal,
         sent,
@@ -78,7 +86,7 @@ fn an_epoch_of_no_thread(rt: HostRuntime) -> Result<(), Fail> {
     ];
     for (gate, thread, answer, sent, noted) in cases {
         for workers in ["1", "2", "64"] {
-            let came = thread_plays_as(&rt, workers, gate, thread, sent, noted)?;
+            let came = thread_plays_as(&rt, rt.alloc(), workers, gate, thread, sent, noted)?;
             assert_eq!(rt; came, answer, "workers {workers}");
         }
     }
@@ -86,16 +94,17 @@ fn an_epoch_of_no_thread(rt: HostRuntime) -> Result<(), Fail> {
 }
 
 // What the journal of 126 bytes plays to, with so many of its bytes from a place on replaced. Nothing is sent on Out.
-fn other_plays_as(
-    rt: &impl Running,
+fn other_plays_as<R: Threads + Sync>(
+    rt: &R,
+    alloc: Global,
     place: usize,
     count: usize,
     by: &[u8],
     noted: &[u8],
 ) -> Result<(Status, u8), Fail> {
-    let journal = journal_of_exits(rt.alloc())?;
-    let other = replaced(rt.alloc(), &journal, place, count, by)?;
-    plays_as(rt, REPLAY, &other, b"", noted)
+    let journal = journal_of_exits(alloc)?;
+    let other = replaced(alloc, &journal, place, count, by)?;
+    plays_as(rt, alloc, REPLAY, &other, b"", noted)
 }
 
 // In each table a row is an offset in the journal of 126 bytes, how many bytes are replaced, by what, and what comes of it.
@@ -141,7 +150,7 @@ fn records_refused(rt: HostRuntime) -> Result<(), Fail> {
         ),
     ];
     for (place, count, by, answer, noted) in cases {
-        let came = other_plays_as(&rt, place, count, by, noted)?;
+        let came = other_plays_as(&rt, rt.alloc(), place, count, by, noted)?;
         assert_eq!(rt; came, answer);
     }
     Ok(())
@@ -180,7 +189,7 @@ fn guests_and_lists_of_a_journal(rt: HostRuntime) -> Result<(), Fail> {
         ),
     ];
     for (place, count, by, answer, noted) in cases {
-        let came = other_plays_as(&rt, place, count, by, noted)?;
+        let came = other_plays_as(&rt, rt.alloc(), place, count, by, noted)?;
         assert_eq!(rt; came, answer);
     }
     Ok(())
@@ -193,7 +202,7 @@ fn a_bad_guest_before_a_bad_record(rt: HostRuntime) -> Result<(), Fail> {
     let alloc = rt.alloc();
     let journal = journal_of_exits(alloc)?;
     let both = all_replaced(alloc, &journal, &[(110, 1, b"\x02"), (9, 1, b"\x7e")])?;
-    let came = plays_as(&rt, REPLAY, &both, b"", no_guest)?;
+    let came = plays_as(&rt, rt.alloc(), REPLAY, &both, b"", no_guest)?;
     assert_eq!(rt; came, (Status::BadImage(2), 4));
     Ok(())
 }
@@ -211,7 +220,6 @@ enum Body {
 }
 
 use Body::{End, Nine, Other, Start, Three};
-use test_worlds::Running;
 
 // The state in which `EXITS` ends, as a mark: by the format's tables its x17, x10, pc, end and steps are not those of the
 // start.
@@ -244,27 +252,29 @@ fn bytes_of(alloc: Global, body: Body) -> Result<Vec<u8>, Fail> {
 }
 
 // Of a guest's journal with two records of these bodies.
-fn two_play_as(
-    rt: &impl Running,
+fn two_play_as<R: Threads + Sync>(
+    rt: &R,
+    alloc: Global,
     guest: &[u8],
     first: &[u8],
     second: &[u8],
     sent: &[u8],
     noted: &[u8],
 ) -> Result<(Status, u8), Fail> {
-    let journal = journal_of(rt.alloc(), guest, &[first, second])?;
-    plays_as(rt, REPLAY, &journal, sent, noted)
+    let journal = journal_of(alloc, guest, &[first, second])?;
+    plays_as(rt, alloc, REPLAY, &journal, sent, noted)
 }
 
-fn bodies_play_as(
-    rt: &impl Running,
+fn bodies_play_as<R: Threads + Sync>(
+    rt: &R,
+    alloc: Global,
     first: Body,
     second: Body,
     noted: &[u8],
 ) -> Result<(Status, u8), Fail> {
-    let first = bytes_of(rt.alloc(), first)?;
-    let second = bytes_of(rt.alloc(), second)?;
-    two_play_as(rt, &EXITS, &first, &second, b"", noted)
+    let first = bytes_of(alloc, first)?;
+    let second = bytes_of(alloc, second)?;
+    two_play_as(rt, alloc, &EXITS, &first, &second, b"", noted)
 }
 
 #[test]
@@ -283,7 +293,10 @@ fn marks_judged(rt: HostRuntime) -> Result<(), Fail> {
         (Other, Three, (Status::BadMark(1), 15), first_wrong),
     ];
     for (first, second, answer, noted) in cases {
-        assert_eq!(rt; bodies_play_as(&rt, first, second, noted)?, answer);
+        assert_eq!(rt;
+            bodies_play_as(&rt, rt.alloc(), first, second, noted)?,
+            answer
+        );
     }
     Ok(())
 }
@@ -293,9 +306,17 @@ fn marks_judged(rt: HostRuntime) -> Result<(), Fail> {
 fn a_wrong_mark_behind_output(rt: HostRuntime) -> Result<(), Fail> {
     let start = mark_of_start(rt.alloc(), &WRITES)?;
     let wrong: &[u8] = b"dpcli: record 2 is a wrong mark\n";
-    let came = two_play_as(&rt, &WRITES, NINE_STEPS, &start, b"hi\n", wrong)?;
+    let came = two_play_as(&rt, rt.alloc(), &WRITES, NINE_STEPS, &start, b"hi\n", wrong)?;
     assert_eq!(rt; came, (Status::BadMark(2), 15));
-    let came = two_play_as(&rt, &WRITES, &start, NINE_STEPS, b"hi\n", ONE_OF_WRITES)?;
+    let came = two_play_as(
+        &rt,
+        rt.alloc(),
+        &WRITES,
+        &start,
+        NINE_STEPS,
+        b"hi\n",
+        ONE_OF_WRITES,
+    )?;
     assert_eq!(rt; came, (Status::Ok, 0));
     Ok(())
 }

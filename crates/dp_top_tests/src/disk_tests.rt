@@ -6,7 +6,9 @@
 use crate::stopped::{Faults, Left, NO_JOURNAL, Plays, what_is_left};
 use dp_report::Status;
 use dp_top_guest_tests::{FILTER, PRODUCER_AND_CONSUMER};
+use std::alloc::Global;
 use std::test::Fail;
+use std::thread::Threads;
 use test_files::WRITES_WORDS;
 use test_worlds::Failing;
 
@@ -82,7 +84,15 @@ fn each_disk_call_of_nine_epochs(rt: HostRuntime) -> Result<(), Fail> {
     let output = [0, 0, 0, 0, 0, 0, 3, 3, 3, 3];
     let mut failing = 0;
     for number in 1..=45 {
-        let came = what_is_left(&rt, &asked, &WRITES_WORDS, &[], b"hi\n", from(number))?;
+        let came = what_is_left(
+            &rt,
+            rt.alloc(),
+            &asked,
+            &WRITES_WORDS,
+            &[],
+            b"hi\n",
+            from(number),
+        )?;
         assert_eq!(rt; came, left_of(number, 44, &output), "call {number}");
         if came.status == Status::DiskFault {
             failing = number;
@@ -101,7 +111,15 @@ fn each_disk_call_of_a_filter(rt: HostRuntime) -> Result<(), Fail> {
     let output = [0, 0, 6, 8, 8];
     for number in 1..=25 {
         let pieces: [&[u8]; 2] = [b"abcdef", b"gh"];
-        let came = what_is_left(&rt, &asked, &words, &pieces, b"abcdefgh", from(number))?;
+        let came = what_is_left(
+            &rt,
+            rt.alloc(),
+            &asked,
+            &words,
+            &pieces,
+            b"abcdefgh",
+            from(number),
+        )?;
         assert_eq!(rt;
             came,
             left_of(number, calls_of(4), &output),
@@ -118,6 +136,7 @@ fn disk_calls_of_two_threads(rt: HostRuntime) -> Result<(), Fail> {
     for number in 1..=36 {
         let came = what_is_left(
             &rt,
+            rt.alloc(),
             &asked,
             &PRODUCER_AND_CONSUMER,
             &[],
@@ -131,7 +150,15 @@ fn disk_calls_of_two_threads(rt: HostRuntime) -> Result<(), Fail> {
             assert!(rt; plays.2 == 0 || plays.2 == 4, "call {number}");
         }
     }
-    let came = what_is_left(&rt, &asked, &PRODUCER_AND_CONSUMER, &[], b"abc\n", from(37))?;
+    let came = what_is_left(
+        &rt,
+        rt.alloc(),
+        &asked,
+        &PRODUCER_AND_CONSUMER,
+        &[],
+        b"abc\n",
+        from(37),
+    )?;
     assert_eq!(rt; (came.status, came.sent), (Status::Ok, 4));
     assert_eq!(rt; came.plays, [(Status::Ok, 7, 4); 3]);
     Ok(())

@@ -2,8 +2,10 @@
 use crate::stopped::{Faults, Left, what_is_left};
 use dp_report::Status;
 use dp_top_guest_tests::{FILTER, PRODUCER_AND_CONSUMER};
+use std::alloc::Global;
 use std::test::Fail;
-use test_worlds::{Failing, Running};
+use std::thread::Threads;
+use test_worlds::Failing;
 
 fn failing(sink: Failing, piece: u32) -> Faults {
     Faults {
@@ -14,13 +16,19 @@ fn failing(sink: Failing, piece: u32) -> Faults {
 }
 
 // What a recording of the filter comes to where these emits fail, of which one takes so many bytes at most.
-fn filtered(rt: &impl Running, sink: Failing, piece: u32) -> Result<Left, Fail> {
-    let mut words = FILTER.to_vec(rt.alloc())?;
+fn filtered<R: Threads + Sync>(
+    rt: &R,
+    alloc: Global,
+    sink: Failing,
+    piece: u32,
+) -> Result<Left, Fail> {
+    let mut words = FILTER.to_vec(alloc)?;
     words.push(4)?;
     let asked = ["dpcli", "record", "g", "j"];
     let pieces: [&[u8]; 2] = [b"abcdef", b"gh"];
     what_is_left(
         rt,
+        alloc,
         &asked,
         &words,
         &pieces,
@@ -30,10 +38,16 @@ fn filtered(rt: &impl Running, sink: Failing, piece: u32) -> Result<Left, Fail> 
 }
 
 // The same of the guest with a producer and a consumer.
-fn produced(rt: &impl Running, sink: Failing, piece: u32) -> Result<Left, Fail> {
+fn produced<R: Threads + Sync>(
+    rt: &R,
+    alloc: Global,
+    sink: Failing,
+    piece: u32,
+) -> Result<Left, Fail> {
     let asked = ["dpcli", "record", "g", "j", "--epoch", "17", "--slice", "9"];
     what_is_left(
         rt,
+        alloc,
         &asked,
         &PRODUCER_AND_CONSUMER,
         &[],
@@ -71,9 +85,9 @@ fn each_emit_of_a_filter(rt: HostRuntime) -> Result<(), Fail> {
             sent,
             plays: [(Status::Ok, epochs, bytes); 3],
         };
-        let once = filtered(&rt, Failing::At(number), piece)?;
+        let once = filtered(&rt, rt.alloc(), Failing::At(number), piece)?;
         assert_eq!(rt; once, wanted, "emit {number} of {piece} bytes");
-        let ever = filtered(&rt, Failing::From(number), piece)?;
+        let ever = filtered(&rt, rt.alloc(), Failing::From(number), piece)?;
         assert_eq!(rt; ever, wanted, "emits from {number} of {piece} bytes");
     }
     Ok(())
@@ -83,7 +97,7 @@ fn each_emit_of_a_filter(rt: HostRuntime) -> Result<(), Fail> {
 // that were sent.
 #[test]
 fn each_emit_of_two_threads(rt: HostRuntime) -> Result<(), Fail> {
-    let first = produced(&rt, Failing::From(1), 4096)?.plays[0];
+    let first = produced(&rt, rt.alloc(), Failing::From(1), 4096)?.plays[0];
     assert_eq!(rt; (first.0, first.2), (Status::Ok, 4));
     assert!(rt; 0 < first.1 && first.1 <= 7);
     let cases: [(u32, u64, usize); 10] = [
@@ -105,9 +119,9 @@ fn each_emit_of_two_threads(rt: HostRuntime) -> Result<(), Fail> {
             sent,
             plays: [(Status::Ok, epochs, 4); 3],
         };
-        let once = produced(&rt, Failing::At(number), piece)?;
+        let once = produced(&rt, rt.alloc(), Failing::At(number), piece)?;
         assert_eq!(rt; once, wanted, "emit {number} of {piece} bytes");
-        let ever = produced(&rt, Failing::From(number), piece)?;
+        let ever = produced(&rt, rt.alloc(), Failing::From(number), piece)?;
         assert_eq!(rt; ever, wanted, "emits from {number} of {piece} bytes");
     }
     Ok(())

@@ -6,10 +6,12 @@ use crate::run_tests::RECORD;
 use disk_mem::MemWorld;
 use disk_model::Stream;
 use dp_report::Status;
+use std::alloc::Global;
 use std::test::Fail;
+use std::thread::Threads;
 use test_files::{EXITS, repeated, replaced};
 use test_journals::journal_of;
-use test_worlds::{Failing, Running, disk_of};
+use test_worlds::{Failing, disk_of};
 
 // Writes `hi` and a newline out of a second segment of 4,097 bytes, of which the file has three, and exit_all(0): 8 steps.
 const TWO_SEGMENTS: [u8; 151] = [
@@ -26,9 +28,14 @@ const TWO_SEGMENTS: [u8; 151] = [
 ];
 
 // The status of a recording of a file on a disk whose first call would fail, where it makes none, and sends this alone.
-fn recording_refused(rt: &impl Running, file: &[u8], line: &[u8]) -> Result<Status, Fail> {
-    let failing = disk_of(rt.alloc(), b"", Failing::From(1))?;
-    let (after, status) = ran(rt, &RECORD, file, Failing::Never, &[], failing)?;
+fn recording_refused<R: Threads + Sync>(
+    rt: &R,
+    alloc: Global,
+    file: &[u8],
+    line: &[u8],
+) -> Result<Status, Fail> {
+    let failing = disk_of(alloc, b"", Failing::From(1))?;
+    let (after, status) = ran(rt, alloc, &RECORD, file, Failing::Never, &[], failing)?;
     let silent = after.disk_calls() == 0 && after.sent(Stream::Out).is_empty();
     if !silent || after.sent(Stream::Note) != line {
         return Err("the line of the fault alone".into());
@@ -38,22 +45,28 @@ fn recording_refused(rt: &impl Running, file: &[u8], line: &[u8]) -> Result<Stat
 
 // What a file comes to: the status of that recording, and that of a replay of a journal that has it. Both send the same on Note,
 // and nothing else.
-fn refused(rt: &impl Running, file: &[u8], line: &[u8]) -> Result<(Status, Status), Fail> {
-    let recorded = recording_refused(rt, file, line)?;
-    let journal = journal_of(rt.alloc(), file, &[])?;
-    let (replayed, _) = plays_as(rt, REPLAY, &journal, b"", line)?;
+fn refused<R: Threads + Sync>(
+    rt: &R,
+    alloc: Global,
+    file: &[u8],
+    line: &[u8],
+) -> Result<(Status, Status), Fail> {
+    let recorded = recording_refused(rt, alloc, file, line)?;
+    let journal = journal_of(alloc, file, &[])?;
+    let (replayed, _) = plays_as(rt, alloc, REPLAY, &journal, b"", line)?;
     Ok((recorded, replayed))
 }
 
 // The same of the guest of 96 bytes with these bytes from an offset on.
-fn changed_refused(
-    rt: &impl Running,
+fn changed_refused<R: Threads + Sync>(
+    rt: &R,
+    alloc: Global,
     offset: usize,
     by: &[u8],
     line: &[u8],
 ) -> Result<(Status, Status), Fail> {
-    let file = replaced(rt.alloc(), &EXITS, offset, by.len(), by)?;
-    refused(rt, &file, line)
+    let file = replaced(alloc, &EXITS, offset, by.len(), by)?;
+    refused(rt, alloc, &file, line)
 }
 
 #[test]
@@ -85,7 +98,10 @@ fn images_refused(rt: HostRuntime) -> Result<(), Fail> {
     ];
     for (offset, by, number, line) in cases {
         let fault = Status::BadImage(number);
-        assert_eq!(rt; changed_refused(&rt, offset, by, line)?, (fault, fault));
+        assert_eq!(rt;
+            changed_refused(&rt, rt.alloc(), offset, by, line)?,
+            (fault, fault)
+        );
     }
     Ok(())
 }
@@ -94,18 +110,19 @@ fn images_refused(rt: HostRuntime) -> Result<(), Fail> {
 fn images_of_no_byte_and_of_too_many(rt: HostRuntime) -> Result<(), Fail> {
     let fault = Status::BadImage(2);
     let line: &[u8] = b"dpcli: guest refused: 2 NotElf\n";
-    assert_eq!(rt; refused(&rt, &[], line)?, (fault, fault));
+    assert_eq!(rt; refused(&rt, rt.alloc(), &[], line)?, (fault, fault));
     let long = repeated(rt.alloc(), 1_048_577)?;
     let fault = Status::BadImage(1);
     let line: &[u8] = b"dpcli: guest refused: 1 TooLong\n";
-    assert_eq!(rt; refused(&rt, &long, line)?, (fault, fault));
+    assert_eq!(rt; refused(&rt, rt.alloc(), &long, line)?, (fault, fault));
     Ok(())
 }
 
 // What a recording left, as it came to this status: that, the journal's length, and the status of its replay, where both send the
 // same on Out and on Note.
-fn replayed_as(
-    rt: &impl Running,
+fn replayed_as<R: Threads + Sync>(
+    rt: &R,
+    alloc: Global,
     after: &MemWorld,
     status: Status,
     sent: &[u8],
@@ -114,19 +131,20 @@ fn replayed_as(
     if after.sent(Stream::Out) != sent || after.sent(Stream::Note) != noted {
         return Err("other bytes on Out or on Note".into());
     }
-    let (replayed, _) = plays_as(rt, REPLAY, after.bytes(), sent, noted)?;
+    let (replayed, _) = plays_as(rt, alloc, REPLAY, after.bytes(), sent, noted)?;
     Ok((status, after.bytes().len(), replayed))
 }
 
 // The same of a recording of a file.
-fn recorded_as(
-    rt: &impl Running,
+fn recorded_as<R: Threads + Sync>(
+    rt: &R,
+    alloc: Global,
     file: &[u8],
     sent: &[u8],
     noted: &[u8],
 ) -> Result<(Status, usize, Status), Fail> {
-    let (after, status) = recorded(rt, &RECORD, file)?;
-    replayed_as(rt, &after, status, sent, noted)
+    let (after, status) = recorded(rt, alloc, &RECORD, file)?;
+    replayed_as(rt, alloc, &after, status, sent, noted)
 }
 
 // The digests were had from the format's tables.
@@ -150,11 +168,11 @@ fn images_accepted(rt: HostRuntime) -> Result<(), Fail> {
             ),
         ],
     )?;
-    let came = recorded_as(&rt, &file, b"", noted)?;
+    let came = recorded_as(&rt, rt.alloc(), &file, b"", noted)?;
     assert_eq!(rt; came, (Status::Ok, 158, Status::Ok));
     let noted: &[u8] =
         b"epochs 1 squashes 0 steps 8 sent 3 end exit 0 state 72ae5c3bfa6d562ea014d581330a795ded39dfb7aadbebe470e74bc9a0917fdf\n";
-    let came = recorded_as(&rt, &TWO_SEGMENTS, b"hi\n", noted)?;
+    let came = recorded_as(&rt, rt.alloc(), &TWO_SEGMENTS, b"hi\n", noted)?;
     assert_eq!(rt; came, (Status::Ok, 181, Status::Ok));
     Ok(())
 }
@@ -169,7 +187,7 @@ fn a_guest_that_traps(rt: HostRuntime) -> Result<(), Fail> {
         (68, 5, b"\x58\0\0\0\x58"),
     ];
     let file = all_replaced(rt.alloc(), &EXITS, &changes)?;
-    let came = recorded_as(&rt, &file, b"", noted)?;
+    let came = recorded_as(&rt, rt.alloc(), &file, b"", noted)?;
     assert_eq!(rt; came, (Status::Ok, 118, Status::Ok));
     Ok(())
 }

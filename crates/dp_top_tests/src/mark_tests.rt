@@ -6,8 +6,9 @@ use crate::stopped::{Faults, NO_JOURNAL, Plays, plays, recording, replay};
 use dp_report::Status;
 use std::alloc::Global;
 use std::test::Fail;
+use std::thread::Threads;
 use test_files::{WRITES_WORDS, file_of};
-use test_worlds::{Failing, Running};
+use test_worlds::Failing;
 
 // The guest behind its first step, by the format's tables: x10 is 1 and pc the second word's.
 fn mark_behind_one_step(alloc: Global) -> Result<Vec<u8>, Fail> {
@@ -44,15 +45,14 @@ fn mark_behind_one_step(alloc: Global) -> Result<Vec<u8>, Fail> {
 }
 
 // The journal of nine epochs with this mark's record in front of the gate at this place.
-fn marked(rt: &impl Running, place: usize) -> Result<Vec<u8>, Fail> {
-    let alloc = rt.alloc();
+fn marked<R: Threads + Sync>(rt: &R, alloc: Global, place: usize) -> Result<Vec<u8>, Fail> {
     let faults = Faults {
         disk: Failing::Never,
         sink: Failing::Never,
         piece: 4096,
     };
     let asked = ["dpcli", "record", "g", "j", "--epoch", "1"];
-    let seen = recording(rt, &asked, &WRITES_WORDS, &[], faults)?;
+    let seen = recording(rt, alloc, &asked, &WRITES_WORDS, &[], faults)?;
     let body = mark_behind_one_step(alloc)?;
     if seen.kept.len() != 314 || body.len() != 69_880 {
         return Err("the journal has 314 bytes, and the mark 69,880".into());
@@ -66,14 +66,19 @@ fn marked(rt: &impl Running, place: usize) -> Result<Vec<u8>, Fail> {
     Ok(journal)
 }
 
-fn cut_plays(rt: &impl Running, journal: &[u8], len: usize) -> Result<Plays, Fail> {
+fn cut_plays<R: Threads + Sync>(
+    rt: &R,
+    alloc: Global,
+    journal: &[u8],
+    len: usize,
+) -> Result<Plays, Fail> {
     let (image, _) = journal.split_at(len.min(journal.len()));
-    plays(rt, image, b"", b"hi\n")
+    plays(rt, alloc, image, b"", b"hi\n")
 }
 
 #[test]
 fn journals_with_a_mark_cut_short(rt: HostRuntime) -> Result<(), Fail> {
-    let journal = marked(&rt, 153)?;
+    let journal = marked(&rt, rt.alloc(), 153)?;
     assert_eq!(rt; journal.len(), 70_199);
     // a length, how many epochs are whole then, and the bytes that are sent
     let cases: [(usize, u8, usize); 13] = [
@@ -94,11 +99,15 @@ fn journals_with_a_mark_cut_short(rt: HostRuntime) -> Result<(), Fail> {
         (70_199, 9, 3),
     ];
     for (len, epochs, sent) in cases {
-        let came = cut_plays(&rt, &journal, len)?;
+        let came = cut_plays(&rt, rt.alloc(), &journal, len)?;
         assert_eq!(rt; came, (Status::Ok, epochs, sent), "cut to {len}");
     }
     for len in [0, 1, 132] {
-        assert_eq!(rt; cut_plays(&rt, &journal, len)?, NO_JOURNAL, "cut to {len}");
+        assert_eq!(rt;
+            cut_plays(&rt, rt.alloc(), &journal, len)?,
+            NO_JOURNAL,
+            "cut to {len}"
+        );
     }
     Ok(())
 }
@@ -106,17 +115,17 @@ fn journals_with_a_mark_cut_short(rt: HostRuntime) -> Result<(), Fail> {
 // The same mark behind the second epoch isn't right, once it is there whole.
 #[test]
 fn a_mark_of_another_place_cut_short(rt: HostRuntime) -> Result<(), Fail> {
-    let journal = marked(&rt, 173)?;
+    let journal = marked(&rt, rt.alloc(), 173)?;
     for len in [173, 178, 70_057] {
         assert_eq!(rt;
-            cut_plays(&rt, &journal, len)?,
+            cut_plays(&rt, rt.alloc(), &journal, len)?,
             (Status::Ok, 2, 0),
             "cut to {len}"
         );
     }
     for len in [70_058, 70_199] {
         let (image, _) = journal.split_at(len.min(journal.len()));
-        let came = replay(&rt, image)?;
+        let came = replay(&rt, rt.alloc(), image)?;
         assert_eq!(rt;
             (came.status, came.sent.len()),
             (Status::BadMark(3), 0),

@@ -7,9 +7,10 @@ use disk_model::Stream;
 use dp_report::Status;
 use std::alloc::Global;
 use std::test::Fail;
+use std::thread::Threads;
 use test_files::{EXITS, WRITES};
 use test_journals::journal_of;
-use test_worlds::{Failing, Running, world_of};
+use test_worlds::{Failing, world_of};
 
 pub(crate) const REPLAY: &[&str] = &["dpcli", "replay", "j"];
 
@@ -61,44 +62,48 @@ fn is_right(world: &MemWorld, journal: &[u8], sent: &[u8], noted: &[u8]) -> Resu
 
 // The status of a replay in this world, and its number, where it sent these bytes on Out and on Note, and did no more than read the
 // disk, which has this journal.
-fn replays_as(
-    rt: &impl Running,
+fn replays_as<R: Threads + Sync>(
+    rt: &R,
+    alloc: Global,
     words: &[&str],
     world: MemWorld,
     journal: &[u8],
     sent: &[u8],
     noted: &[u8],
 ) -> Result<(Status, u8), Fail> {
-    let (after, status) = ran(rt, words, &[], Failing::Never, &[], world)?;
+    let (after, status) = ran(rt, alloc, words, &[], Failing::Never, &[], world)?;
     is_right(&after, journal, sent, noted)?;
     Ok((status, status.number()))
 }
 
 // The same of a replay, by these words, that meets no fault.
-pub(crate) fn plays_as(
-    rt: &impl Running,
+pub(crate) fn plays_as<R: Threads + Sync>(
+    rt: &R,
+    alloc: Global,
     words: &[&str],
     journal: &[u8],
     sent: &[u8],
     noted: &[u8],
 ) -> Result<(Status, u8), Fail> {
-    let world = world_with(rt.alloc(), journal, Failing::Never, Failing::Never, 4096)?;
-    replays_as(rt, words, world, journal, sent, noted)
+    let world = world_with(alloc, journal, Failing::Never, Failing::Never, 4096)?;
+    replays_as(rt, alloc, words, world, journal, sent, noted)
 }
 
 // A recording, by these words, on an empty disk.
-pub(crate) fn recorded(
-    rt: &impl Running,
+pub(crate) fn recorded<R: Threads + Sync>(
+    rt: &R,
+    alloc: Global,
     words: &[&str],
     guest: &[u8],
 ) -> Result<(MemWorld, Status), Fail> {
-    let empty = world_with(rt.alloc(), b"", Failing::Never, Failing::Never, 4096)?;
-    ran(rt, words, guest, Failing::Never, &[], empty)
+    let empty = world_with(alloc, b"", Failing::Never, Failing::Never, 4096)?;
+    ran(rt, alloc, words, guest, Failing::Never, &[], empty)
 }
 
 // Of a journal, where some calls fail, and an emit takes so many bytes at most.
-fn failing_plays_as(
-    rt: &impl Running,
+fn failing_plays_as<R: Threads + Sync>(
+    rt: &R,
+    alloc: Global,
     journal: &[u8],
     disk: Failing,
     sink: Failing,
@@ -108,13 +113,14 @@ fn failing_plays_as(
 ) -> Result<(Status, u8), Fail>
     requires { 0 < piece }
 {
-    let world = world_with(rt.alloc(), journal, disk, sink, piece)?;
-    replays_as(rt, REPLAY, world, journal, sent, noted)
+    let world = world_with(alloc, journal, disk, sink, piece)?;
+    replays_as(rt, alloc, REPLAY, world, journal, sent, noted)
 }
 
 // Of the journal of `WRITES` with one epoch.
-fn writes_play_as(
-    rt: &impl Running,
+fn writes_play_as<R: Threads + Sync>(
+    rt: &R,
+    alloc: Global,
     disk: Failing,
     sink: Failing,
     piece: u32,
@@ -123,22 +129,27 @@ fn writes_play_as(
 ) -> Result<(Status, u8), Fail>
     requires { 0 < piece }
 {
-    let journal = journal_of(rt.alloc(), &WRITES, &[NINE_STEPS])?;
-    failing_plays_as(rt, &journal, disk, sink, piece, sent, noted)
+    let journal = journal_of(alloc, &WRITES, &[NINE_STEPS])?;
+    failing_plays_as(rt, alloc, &journal, disk, sink, piece, sent, noted)
 }
 
 // The same where the call on the disk with this number fails, and where all from it on fail.
-fn disk_fails(rt: &impl Running, number: u64) -> Result<[(Status, u8); 2], Fail> {
+fn disk_fails<R: Threads + Sync>(
+    rt: &R,
+    alloc: Global,
+    number: u64,
+) -> Result<[(Status, u8); 2], Fail> {
     let line: &[u8] = b"dpcli: journal device failed\n";
     let (one, all) = (Failing::At(number), Failing::From(number));
-    let once = writes_play_as(rt, one, Failing::Never, 4096, b"", line)?;
-    let ever = writes_play_as(rt, all, Failing::Never, 4096, b"", line)?;
+    let once = writes_play_as(rt, alloc, one, Failing::Never, 4096, b"", line)?;
+    let ever = writes_play_as(rt, alloc, all, Failing::Never, 4096, b"", line)?;
     Ok([once, ever])
 }
 
 // The same of an emit, with what Note gets of each.
-fn emit_fails(
-    rt: &impl Running,
+fn emit_fails<R: Threads + Sync>(
+    rt: &R,
+    alloc: Global,
     number: u64,
     piece: u32,
     sent: &[u8],
@@ -148,47 +159,55 @@ fn emit_fails(
     requires { 0 < piece }
 {
     let (one, all) = (Failing::At(number), Failing::From(number));
-    let once = writes_play_as(rt, Failing::Never, one, piece, sent, noted)?;
-    let ever = writes_play_as(rt, Failing::Never, all, piece, sent, noted_before)?;
+    let once = writes_play_as(rt, alloc, Failing::Never, one, piece, sent, noted)?;
+    let ever = writes_play_as(rt, alloc, Failing::Never, all, piece, sent, noted_before)?;
     Ok([once, ever])
 }
 
 // How long that journal is, and how many calls on the disk a replay of it makes.
-fn calls_of_writes(rt: &impl Running) -> Result<(usize, u64), Fail> {
-    let journal = journal_of(rt.alloc(), &WRITES, &[NINE_STEPS])?;
-    let world = world_with(rt.alloc(), &journal, Failing::Never, Failing::Never, 4096)?;
-    let (after, _) = ran(rt, REPLAY, &[], Failing::Never, &[], world)?;
+fn calls_of_writes<R: Threads + Sync>(rt: &R, alloc: Global) -> Result<(usize, u64), Fail> {
+    let journal = journal_of(alloc, &WRITES, &[NINE_STEPS])?;
+    let world = world_with(alloc, &journal, Failing::Never, Failing::Never, 4096)?;
+    let (after, _) = ran(rt, alloc, REPLAY, &[], Failing::Never, &[], world)?;
     Ok((journal.len(), after.disk_calls()))
 }
 
 // It is attached, and read.
 #[test]
 fn disk_calls_of_a_replay(rt: HostRuntime) -> Result<(), Fail> {
-    let (len, calls) = calls_of_writes(&rt)?;
+    let (len, calls) = calls_of_writes(&rt, rt.alloc())?;
     assert_eq!(rt; (len, calls >= 2), (154, true));
     Ok(())
 }
 
 #[test]
 fn each_disk_call_of_a_replay_fails(rt: HostRuntime) -> Result<(), Fail> {
-    let (_, calls) = calls_of_writes(&rt)?;
+    let (_, calls) = calls_of_writes(&rt, rt.alloc())?;
     for number in 1..=calls {
-        let came = disk_fails(&rt, number)?;
+        let came = disk_fails(&rt, rt.alloc(), number)?;
         assert_eq!(rt; came, [(Status::DiskFault, 6); 2], "call {number}");
     }
     Ok(())
 }
 
 // Where the calls behind the last would fail.
-fn behind_the_disk_calls(rt: &impl Running) -> Result<(Status, u8), Fail> {
-    let (_, calls) = calls_of_writes(rt)?;
+fn behind_the_disk_calls<R: Threads + Sync>(rt: &R, alloc: Global) -> Result<(Status, u8), Fail> {
+    let (_, calls) = calls_of_writes(rt, alloc)?;
     let behind = Failing::From(calls.saturating_add(1));
-    writes_play_as(rt, behind, Failing::Never, 4096, b"hi\n", ONE_OF_WRITES)
+    writes_play_as(
+        rt,
+        alloc,
+        behind,
+        Failing::Never,
+        4096,
+        b"hi\n",
+        ONE_OF_WRITES,
+    )
 }
 
 #[test]
 fn disk_calls_behind_the_last(rt: HostRuntime) -> Result<(), Fail> {
-    assert_eq!(rt; behind_the_disk_calls(&rt)?, (Status::Ok, 0));
+    assert_eq!(rt; behind_the_disk_calls(&rt, rt.alloc())?, (Status::Ok, 0));
     Ok(())
 }
 
@@ -214,7 +233,7 @@ fn emits_that_fail() -> [(
 #[test]
 fn each_emit_of_a_replay_fails(rt: HostRuntime) -> Result<(), Fail> {
     for (number, answer, sent, noted, noted_before) in emits_that_fail() {
-        let came = emit_fails(&rt, number, 4096, sent, noted, noted_before)?;
+        let came = emit_fails(&rt, rt.alloc(), number, 4096, sent, noted, noted_before)?;
         assert_eq!(rt; came, [answer; 2], "emit {number}");
     }
     Ok(())
@@ -252,7 +271,7 @@ fn bytes_that_fail() -> [(
 #[test]
 fn bytes_of_a_replay_fail(rt: HostRuntime) -> Result<(), Fail> {
     for (number, answer, sent, noted, noted_before) in bytes_that_fail() {
-        let came = emit_fails(&rt, number, 1, sent, noted, noted_before)?;
+        let came = emit_fails(&rt, rt.alloc(), number, 1, sent, noted, noted_before)?;
         assert_eq!(rt; came, [answer; 2], "emit {number}");
     }
     Ok(())
@@ -269,27 +288,26 @@ fn sent_again(first: &MemWorld, second: &MemWorld) -> Result<(bool, bool), Fail>
 }
 
 // The status of that replay, and the same.
-fn replay_of(rt: &impl Running, first: &MemWorld) -> Result<(Status, bool, bool), Fail> {
-    let world = world_with(
-        rt.alloc(),
-        first.bytes(),
-        Failing::Never,
-        Failing::Never,
-        4096,
-    )?;
-    let (second, status) = ran(rt, REPLAY, &[], Failing::Never, &[], world)?;
+fn replay_of<R: Threads + Sync>(
+    rt: &R,
+    alloc: Global,
+    first: &MemWorld,
+) -> Result<(Status, bool, bool), Fail> {
+    let world = world_with(alloc, first.bytes(), Failing::Never, Failing::Never, 4096)?;
+    let (second, status) = ran(rt, alloc, REPLAY, &[], Failing::Never, &[], world)?;
     let (same_sent, same_noted) = sent_again(first, &second)?;
     Ok((status, same_sent, same_noted))
 }
 
 // The statuses of a recording and of a replay of what it left, and whether the second sent the same on Out and on Note.
-fn recorded_and_replayed(
-    rt: &impl Running,
+fn recorded_and_replayed<R: Threads + Sync>(
+    rt: &R,
+    alloc: Global,
     words: &[&str],
     guest: &[u8],
 ) -> Result<(Status, Status, bool, bool), Fail> {
-    let (first, recorded) = recorded(rt, words, guest)?;
-    let (replayed, same_sent, same_noted) = replay_of(rt, &first)?;
+    let (first, recorded) = recorded(rt, alloc, words, guest)?;
+    let (replayed, same_sent, same_noted) = replay_of(rt, alloc, &first)?;
     Ok((recorded, replayed, same_sent, same_noted))
 }
 
@@ -298,7 +316,7 @@ fn recordings_replayed(rt: HostRuntime) -> Result<(), Fail> {
     for steps in ["1", "2", "3", "5", "6", "8", "9", "20000"] {
         let words = ["dpcli", "record", "g", "j", "--epoch", steps];
         for guest in [WRITES.as_slice(), EXITS.as_slice()] {
-            let came = recorded_and_replayed(&rt, &words, guest)?;
+            let came = recorded_and_replayed(&rt, rt.alloc(), &words, guest)?;
             assert_eq!(rt; came, (Status::Ok, Status::Ok, true, true), "epoch {steps}");
         }
     }
@@ -317,7 +335,7 @@ fn stopped_recordings_replayed(rt: HostRuntime) -> Result<(), Fail> {
     ];
     for (limit, answer, same) in cases {
         let words = ["dpcli", "record", "g", "j", "--limit", limit];
-        let came = recorded_and_replayed(&rt, &words, &WRITES)?;
+        let came = recorded_and_replayed(&rt, rt.alloc(), &words, &WRITES)?;
         assert_eq!(rt; came, (answer, Status::Ok, true, same), "limit {limit}");
     }
     Ok(())

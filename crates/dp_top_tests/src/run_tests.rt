@@ -5,8 +5,9 @@ use disk_model::Stream;
 use dp_top::Status;
 use std::alloc::Global;
 use std::test::Fail;
+use std::thread::Threads;
 use test_files::{EXITS, WRITES};
-use test_worlds::{Failing, Running, disk_of, world_of};
+use test_worlds::{Failing, disk_of, world_of};
 
 // The header before the guest, and what stands behind it: one epoch of one slice, thread 1 for 3 steps, and the closed
 // gate.
@@ -60,8 +61,9 @@ fn look_at(world: &MemWorld, status: Status, out: &[u8], note: &[u8]) -> Came {
 }
 
 // A run on an empty disk that fetches each file.
-fn came_to(
-    rt: &impl Running,
+fn came_to<R: Threads + Sync>(
+    rt: &R,
+    alloc: Global,
     words: &[&str],
     guest: &[u8],
     disk: Failing,
@@ -69,37 +71,57 @@ fn came_to(
     out: &[u8],
     note: &[u8],
 ) -> Result<Came, Fail> {
-    let empty = world_of(rt.alloc(), disk, sink, 4096)?;
-    let (after, status) = ran(rt, words, guest, Failing::Never, &[], empty)?;
+    let empty = world_of(alloc, disk, sink, 4096)?;
+    let (after, status) = ran(rt, alloc, words, guest, Failing::Never, &[], empty)?;
     Ok(look_at(&after, status, out, note))
 }
 
 // A recording of a guest on a disk that has these bytes.
-fn recorded_on(rt: &impl Running, guest: &[u8], disk: &[u8]) -> Result<(MemWorld, Status), Fail> {
-    let used = disk_of(rt.alloc(), disk, Failing::Never)?;
-    ran(rt, &RECORD, guest, Failing::Never, &[], used)
+fn recorded_on<R: Threads + Sync>(
+    rt: &R,
+    alloc: Global,
+    guest: &[u8],
+    disk: &[u8],
+) -> Result<(MemWorld, Status), Fail> {
+    let used = disk_of(alloc, disk, Failing::Never)?;
+    ran(rt, alloc, &RECORD, guest, Failing::Never, &[], used)
 }
 
 // Whether a recording leaves these bytes on a disk that had these first.
-fn leaves(rt: &impl Running, guest: &[u8], first: &[u8], wanted: &[u8]) -> Result<bool, Fail> {
-    let (after, _) = recorded_on(rt, guest, first)?;
+fn leaves<R: Threads + Sync>(
+    rt: &R,
+    alloc: Global,
+    guest: &[u8],
+    first: &[u8],
+    wanted: &[u8],
+) -> Result<bool, Fail> {
+    let (after, _) = recorded_on(rt, alloc, guest, first)?;
     Ok(after.bytes() == wanted)
 }
 
 // Whether the recording of `EXITS` leaves the journal of 126 bytes.
-fn leaves_its_journal(rt: &impl Running) -> Result<bool, Fail> {
-    let journal = journal_of_exits(rt.alloc())?;
-    leaves(rt, &EXITS, b"", &journal)
+fn leaves_its_journal<R: Threads + Sync>(rt: &R, alloc: Global) -> Result<bool, Fail> {
+    let journal = journal_of_exits(alloc)?;
+    leaves(rt, alloc, &EXITS, b"", &journal)
 }
 
 // The journal byte by byte, and the note with the digest of the state, which was had from the format's tables.
 #[test]
 fn a_journal_and_its_note(rt: HostRuntime) -> Result<(), Fail> {
     let never = Failing::Never;
-    let came = came_to(&rt, &RECORD, &EXITS, never, never, b"", NOTE_OF_EXITS)?;
+    let came = came_to(
+        &rt,
+        rt.alloc(),
+        &RECORD,
+        &EXITS,
+        never,
+        never,
+        b"",
+        NOTE_OF_EXITS,
+    )?;
     assert_eq!(rt; came.status, (Status::Ok, 0));
     assert_eq!(rt; (came.len, came.is_out, came.is_note), (126, true, true));
-    assert!(rt; leaves_its_journal(&rt)?);
+    assert!(rt; leaves_its_journal(&rt, rt.alloc())?);
     Ok(())
 }
 
@@ -135,7 +157,7 @@ fn options_of_a_recording(rt: HostRuntime) -> Result<(), Fail> {
         ),
     ];
     for (words, answer, len, note) in cases {
-        let came = came_to(&rt, words, &WRITES, never, never, b"hi\n", note)?;
+        let came = came_to(&rt, rt.alloc(), words, &WRITES, never, never, b"hi\n", note)?;
         assert_eq!(rt; (came.status.0, came.len), (answer, len));
         assert_eq!(rt; (came.is_out, came.is_note), (true, true));
     }
@@ -144,15 +166,16 @@ fn options_of_a_recording(rt: HostRuntime) -> Result<(), Fail> {
 
 // A run of a guest of no byte, where fetches fail from this one on and each call on the disk would: its status, how many calls
 // there were on the disk, and whether this was sent on Note.
-fn refused_as(
-    rt: &impl Running,
+fn refused_as<R: Threads + Sync>(
+    rt: &R,
+    alloc: Global,
     words: &[&str],
     fetch: u64,
     sink: Failing,
     note: &[u8],
 ) -> Result<((Status, u8), u64, bool), Fail> {
-    let failing = world_of(rt.alloc(), Failing::From(1), sink, 4096)?;
-    let (after, status) = ran(rt, words, &[], Failing::From(fetch), &[], failing)?;
+    let failing = world_of(alloc, Failing::From(1), sink, 4096)?;
+    let (after, status) = ran(rt, alloc, words, &[], Failing::From(fetch), &[], failing)?;
     let came = look_at(&after, status, b"", note);
     Ok((came.status, came.disk_calls, came.is_note))
 }
@@ -188,30 +211,42 @@ fn refusals_before_the_disk(rt: HostRuntime) -> Result<(), Fail> {
         ),
     ];
     for (words, fetch, refused, line) in cases {
-        let came = refused_as(&rt, words, fetch, Failing::Never, line)?;
+        let came = refused_as(&rt, rt.alloc(), words, fetch, Failing::Never, line)?;
         assert_eq!(rt; came, (refused, 0, true));
-        let came = refused_as(&rt, words, fetch, Failing::From(1), b"")?;
+        let came = refused_as(&rt, rt.alloc(), words, fetch, Failing::From(1), b"")?;
         assert_eq!(rt; came, (refused, 0, true));
     }
     Ok(())
 }
 
 // A recording of `WRITES` on a disk that has these bytes.
-fn came_to_on(rt: &impl Running, disk: &[u8], out: &[u8], note: &[u8]) -> Result<Came, Fail> {
-    let (after, status) = recorded_on(rt, &WRITES, disk)?;
+fn came_to_on<R: Threads + Sync>(
+    rt: &R,
+    alloc: Global,
+    disk: &[u8],
+    out: &[u8],
+    note: &[u8],
+) -> Result<Came, Fail> {
+    let (after, status) = recorded_on(rt, alloc, &WRITES, disk)?;
     Ok(look_at(&after, status, out, note))
 }
 
 // On a disk that isn't empty nothing is written.
 #[test]
 fn journal_in_use(rt: HostRuntime) -> Result<(), Fail> {
-    let came = came_to_on(&rt, &[7], b"", b"dpcli: journal is not empty: 1 bytes\n")?;
+    let came = came_to_on(
+        &rt,
+        rt.alloc(),
+        &[7],
+        b"",
+        b"dpcli: journal is not empty: 1 bytes\n",
+    )?;
     assert_eq!(rt; came.status, (Status::JournalInUse(1), 8));
     assert_eq!(rt;
         (came.is_out, came.is_note, came.disk_calls),
         (true, true, 2)
     );
-    assert!(rt; leaves(&rt, &WRITES, &[7], &[7])?);
+    assert!(rt; leaves(&rt, rt.alloc(), &WRITES, &[7], &[7])?);
     Ok(())
 }
 
@@ -246,13 +281,14 @@ fn calls_that_fail() -> [(Failing, Failing, Status, (u64, u64), &'static [u8]); 
 
 // What a recording of `WRITES` comes to where these calls fail: its status, whether it sent this line on Note, and how many calls on
 // the disk and emits failed.
-fn faults_of(
-    rt: &impl Running,
+fn faults_of<R: Threads + Sync>(
+    rt: &R,
+    alloc: Global,
     disk: Failing,
     sink: Failing,
     line: &[u8],
 ) -> Result<(Status, bool, (u64, u64)), Fail> {
-    let came = came_to(rt, &RECORD, &WRITES, disk, sink, b"", line)?;
+    let came = came_to(rt, alloc, &RECORD, &WRITES, disk, sink, b"", line)?;
     let faults = (came.disk_faults, came.sink_faults);
     Ok((came.status.0, came.is_note, faults))
 }
@@ -260,7 +296,7 @@ fn faults_of(
 #[test]
 fn faults_of_the_world(rt: HostRuntime) -> Result<(), Fail> {
     for (disk, sink, answer, faults, line) in calls_that_fail() {
-        let came = faults_of(&rt, disk, sink, line)?;
+        let came = faults_of(&rt, rt.alloc(), disk, sink, line)?;
         assert_eq!(rt; came, (answer, true, faults));
     }
     Ok(())
@@ -269,7 +305,13 @@ fn faults_of_the_world(rt: HostRuntime) -> Result<(), Fail> {
 // Behind the last call of each nothing fails.
 #[test]
 fn calls_behind_the_last(rt: HostRuntime) -> Result<(), Fail> {
-    let (status, _, (disk_faults, _)) = faults_of(&rt, Failing::At(13), Failing::At(3), b"")?;
+    let (status, _, (disk_faults, _)) = faults_of(
+        &rt,
+        rt.alloc(),
+        Failing::At(13),
+        Failing::At(3),
+        b"",
+    )?;
     assert_eq!(rt; (status, disk_faults), (Status::Ok, 0));
     Ok(())
 }

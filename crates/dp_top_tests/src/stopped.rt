@@ -8,8 +8,9 @@ use disk_model::Stream;
 use dp_report::Status;
 use std::alloc::Global;
 use std::test::Fail;
+use std::thread::Threads;
 use test_files::file_of;
-use test_worlds::{Failing, Running, disk_of, world_of};
+use test_worlds::{Failing, disk_of, world_of};
 
 // Which calls of a recording fail, and how many bytes one emit takes at most.
 #[derive(Drop)]
@@ -41,17 +42,17 @@ fn images_of(alloc: Global, world: &MemWorld, status: Status) -> Result<Stopped,
 }
 
 // A recording on an empty disk.
-pub(crate) fn recording(
-    rt: &impl Running,
+pub(crate) fn recording<R: Threads + Sync>(
+    rt: &R,
+    alloc: Global,
     asked: &[&str],
     words: &[u32],
     pieces: &[&[u8]],
     faults: Faults,
 ) -> Result<Stopped, Fail> {
-    let alloc = rt.alloc();
     let file = file_of(alloc, words)?;
     let world = world_of(alloc, faults.disk, faults.sink, faults.piece.max(1))?;
-    let (after, status) = ran(rt, asked, &file, Failing::Never, pieces, world)?;
+    let (after, status) = ran(rt, alloc, asked, &file, Failing::Never, pieces, world)?;
     images_of(alloc, &after, status)
 }
 
@@ -72,10 +73,13 @@ fn look_at(alloc: Global, world: &MemWorld, status: Status) -> Result<Played, Fa
 }
 
 // A replay of an image that meets no fault.
-pub(crate) fn replay(rt: &impl Running, image: &[u8]) -> Result<Played, Fail> {
-    let alloc = rt.alloc();
+pub(crate) fn replay<R: Threads + Sync>(
+    rt: &R,
+    alloc: Global,
+    image: &[u8],
+) -> Result<Played, Fail> {
     let world = disk_of(alloc, image, Failing::Never)?;
-    let (after, status) = ran(rt, REPLAY, &[], Failing::Never, &[], world)?;
+    let (after, status) = ran(rt, alloc, REPLAY, &[], Failing::Never, &[], world)?;
     look_at(alloc, &after, status)
 }
 
@@ -97,13 +101,14 @@ pub(crate) type Plays = (Status, u8, usize);
 pub(crate) const NO_JOURNAL: Plays = (Status::NoJournal, 0, 0);
 
 // What an image plays to, where the output begins with what a recording has sent, and the guest's whole output begins with it.
-pub(crate) fn plays(
-    rt: &impl Running,
+pub(crate) fn plays<R: Threads + Sync>(
+    rt: &R,
+    alloc: Global,
     image: &[u8],
     said: &[u8],
     whole: &[u8],
 ) -> Result<Plays, Fail> {
-    let seen = replay(rt, image)?;
+    let seen = replay(rt, alloc, image)?;
     if !seen.sent.starts_with(said) || !whole.starts_with(&seen.sent) {
         return Err("what was sent, the replay's output, and the whole output".into());
     }
@@ -125,23 +130,24 @@ pub(crate) struct Left {
 }
 
 // The same of a recording some of whose calls fail, of a guest whose whole output this is.
-pub(crate) fn what_is_left(
-    rt: &impl Running,
+pub(crate) fn what_is_left<R: Threads + Sync>(
+    rt: &R,
+    alloc: Global,
     asked: &[&str],
     words: &[u32],
     pieces: &[&[u8]],
     whole: &[u8],
     faults: Faults,
 ) -> Result<Left, Fail> {
-    let seen = recording(rt, asked, words, pieces, faults)?;
+    let seen = recording(rt, alloc, asked, words, pieces, faults)?;
     let said = seen.sent.as_slice();
     Ok(Left {
         status: seen.status,
         sent: said.len(),
         plays: [
-            plays(rt, &seen.kept, said, whole)?,
-            plays(rt, &seen.read, said, whole)?,
-            plays(rt, &seen.marked, said, whole)?,
+            plays(rt, alloc, &seen.kept, said, whole)?,
+            plays(rt, alloc, &seen.read, said, whole)?,
+            plays(rt, alloc, &seen.marked, said, whole)?,
         ],
     })
 }

@@ -87,7 +87,7 @@ fn record<'a>(alloc: Global) -> Result<Command<'a>, AllocError> {
             1,
             MAX_WORKERS as u64,
             "4",
-            "1 to 64; changes nothing yet",
+            "Threads for the epochs of a round, 1 to 64: a round has one epoch yet",
         ))?
         .arg(number(
             alloc,
@@ -95,7 +95,7 @@ fn record<'a>(alloc: Global) -> Result<Command<'a>, AllocError> {
             1,
             MAX_JOBS as u64,
             "16",
-            "1 to 64; changes nothing yet",
+            "Epochs of a round at most, 1 to 64: a round has one epoch yet",
         ))
 }
 

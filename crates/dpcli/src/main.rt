@@ -5,10 +5,12 @@
 mod explain;
 mod help;
 
+use disk_model::OpenGate;
 use dp_real::{RealFiles, RealInlet, RealWorld};
 use dp_report::emit_fault;
 use dp_top::{Status, run};
 use explain::{explain_bytes, explain_fault, explain_words};
+use racing_runner::IdleRacer;
 use std::env;
 use std::io::{self, ErrorKind};
 use std::process::ExitCode;
@@ -28,7 +30,16 @@ fn main(rt: HostRuntime) -> ExitCode {
     };
     let mut files = RealFiles::new(rt);
     let mut inlet = RealInlet::new(rt);
-    let (mut world, status) = run(&rt, alloc, &words, &mut files, &mut inlet, world);
+    let (mut world, status) = run(
+        &rt,
+        alloc,
+        &words,
+        &mut files,
+        &mut inlet,
+        world,
+        &mut IdleRacer,
+        &OpenGate,
+    );
     // The status stays if there is no memory for a line, or if it can't be sent.
     let _ = match status {
         Status::Usage if are_text => explain_words(alloc, &words, &mut world),

@@ -65,7 +65,7 @@ module _ (w : Supplied) (a b : Bounds) (alike : AreAlike a b) where
     end_is = is.end_is;
   }
 
-abbrev IsDetermined : Type 0
+abbrev pub IsDetermined : Type 0
 IsDetermined = (start : State) (hints : Hints) (w : Supplied) (bounds : Bounds) (e f : Epoch) (output other : List ℕ) (end otherwise : State)
     → IsScheduled start hints w bounds e output end → IsScheduled start hints w bounds f other otherwise → (e ≡ f) × (output ≡ other) × (end ≡ otherwise)
 

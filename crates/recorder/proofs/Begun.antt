@@ -6,7 +6,7 @@ use Rattle.disk_model.specs.Input.{Input}
 use Rattle.supply.specs.Supplied.{empty}
 use Rattle.supply.specs.declared.TheConstants.{MAX_ROOM}
 use Rattle.recorder.specs.Drawing.{IsHonestSince}
-use Rattle.recorder.proofs.Drawings.{IsDrawn, has_drawn, none_drawn}
+use Rattle.recorder.proofs.Drawings.{has_drawn, none_drawn}
 use Rattle.disk_model.specs.History.{History, IsSynced}
 use Rattle.disk_model.specs.Moments.{Always}
 use Rattle.disk_model.specs.Known.{IfKnown}
@@ -24,45 +24,52 @@ use Rattle.journal_text.specs.Reading.{journal_of}
 use Rattle.recorder.specs.Moments.{EachMoment, HoldsAt}
 use Rattle.recorder.proofs.Moments.{begin_left, begins_partly, each_moment, nothing_begun}
 use Rattle.recorder.proofs.RunLists.{no_epochs}
-use Rattle.recorder.proofs.SoFar.{CanGoOn, SoFar}
+use Rattle.racing_runner.specs.Offers.{Tells}
+use Rattle.recorder.specs.declared.tally.Tally.{Tally}
+use Rattle.recorder.specs.Keeping.{CanGoOn, IsDrawn, Setting, SoFar}
 
-module _ (guest : List ℕ) (guest_is : IsGuest guest) (options : Options) (start : State) (i : Option Input) (first : Option History) where
-  pub begun_so_far : (now : Option History) (j : Journal) → start.steps ≡ 0 → start.input ≡ 0 → CanGoOn start → HasBegun (length guest) options.room (Ok j) → length (journal_of guest []) ≡ 10 + length guest
-      → IfKnown (Begun guest (Ok j)) first now → (so_far : SoFar guest options start i i first now start (empty MAX_ROOM) j 0 0) × (so_far.done ≡ [])
-  unfolding chain
-  begun_so_far now j steps input goes_on begun_is size begun =
-      let end_is : j.end ≡ 10 + length guest = ap (λ (k : Journal). k.end) begun_is.0 in (
-        record {
-          done = [];
-          output = [];
-          chained = refl;
-          each = tt;
-          counted = omega (arith, steps);
-          goes_on = goes_on;
-          supply_is = refl;
-          is_supply = record { within = omega arith; some_room = omega arith; small = omega arith; early = omega arith; empty_end = λ never. absurd cc };
-          some_room = refl;
-          placed = omega arith;
-          inside = omega (arith, input);
-          little_input = omega (arith, input);
-          are_answers = tt;
-          drawn = known-same (IsDrawn (empty MAX_ROOM) start.input [] []) i i refl (λ s. subst (λ (n : ℕ). IsDrawn (empty MAX_ROOM) n [] [] s s) (sym input) (none_drawn s));
-          history = known-map _ _ _ _ (λ s t b. record { empty = b.0; stands = b.1; sent = b.2.sent ∙ sym (append-nil s.sent); noted = b.2.noted ∙ sym (append-nil s.noted) }) begun;
-          moments = known-map _ _ _ _ (λ s t b empty synced. begins_partly guest start (no_epochs start) s t (b.3 guest_is synced empty)) begun;
-          place_is = end_is ∙ sym size;
-          room_is = ap (λ (k : Journal). k.room) begun_is.0;
-          fits = omega (arith, begun_is.1, end_is, ap (λ (k : Journal). k.room) begun_is.0);
-          works = ap (λ (k : Journal). k.failed) begun_is.0;
-          count = refl;
-          few = omega (arith, end_is);
-          sent_is = refl;
-          little = omega arith;
-        },
-        refl,
-      )
+-- what a recording begins with, before its first round
+pub begun_so_far : (a : Setting) (now : Option History) (j : Journal) (tally : Tally) → IsGuest a.guest → a.start.steps ≡ 0 → a.start.input ≡ 0 → CanGoOn a.start → HasBegun (length a.guest) a.options.room (Ok j) → length (journal_of a.guest []) ≡ 10 + length a.guest
+    → IfKnown (Begun a.guest (Ok j)) a.before now → tally.first ≡ 1 → tally.epochs ≡ 0 → tally.sent ≡ 0 → SoFar a a.given now a.tells a.start (empty MAX_ROOM) j tally 0
+unfolding chain
+begun_so_far a now j tally guest_is steps input goes_on begun_is size begun first_is epochs_are sent_is =
+    let end_is : j.end ≡ 10 + length a.guest = ap (λ (k : Journal). k.end) begun_is.0 in
+    record {
+      rounds = [];
+      output = [];
+      each = (refl, refl);
+      supply_is = refl;
+      squashes_is = refl;
+      kept = record {
+        is_guest = guest_is;
+        chained = refl;
+        counted = omega (arith, steps);
+        goes_on = goes_on;
+        is_supply = record { within = omega arith; some_room = omega arith; small = omega arith; early = omega arith; empty_end = λ never. absurd cc };
+        some_room = refl;
+        placed = omega arith;
+        inside = omega (arith, input);
+        little_input = omega (arith, input);
+        are_answers = tt;
+        are_records = tt;
+        drawn = known-same (IsDrawn (empty MAX_ROOM) a.start.input [] []) a.given a.given refl (λ s. subst (λ (n : ℕ). IsDrawn (empty MAX_ROOM) n [] [] s s) (sym input) (none_drawn s));
+        history = known-map _ _ _ _ (λ s t b. record { empty = b.0; stands = b.1; sent = b.2.sent ∙ sym (append-nil s.sent); noted = b.2.noted ∙ sym (append-nil s.noted) }) begun;
+        moments = known-map _ _ _ _ (λ s t b empty synced. begins_partly a.guest a.start (no_epochs a.start) s t (b.3 guest_is synced empty)) begun;
+        place_is = end_is ∙ sym size;
+        room_is = ap (λ (k : Journal). k.room) begun_is.0;
+        fits = omega (arith, begun_is.1, end_is, ap (λ (k : Journal). k.room) begun_is.0);
+        works = ap (λ (k : Journal). k.failed) begun_is.0;
+        first_is = first_is;
+        count = epochs_are;
+        few = omega (arith, end_is, epochs_are);
+        sent_is = sent_is;
+        little = omega (arith, sent_is);
+      };
+    }
 
+module _ (guest : List ℕ) (guest_is : IsGuest guest) (tells : Tells) (options : Options) (start : State) (i : Option Input) (first : Option History) where
   pub begin_failed : (now : Option History) (fault : BeginFault) → start.steps ≤ options.limit → HasBegun (length guest) options.room (Err fault) → IfKnown (Begun guest (Err fault)) first now
-      → Recorded guest start options i i first now (Err (of_begin fault))
+      → Recorded guest tells start options i i first now (Err (of_begin fault))
   begin_failed now (begins.InUse len) few numbers begun = (numbers, refl, begun)
   begin_failed now begins.DiskFault few numbers begun = inl (
     refl,

@@ -16,6 +16,7 @@ use Rattle.supply.specs.Supplied.{IsLastOf, Supplied, empty, refilled}
 use Rattle.supply.specs.Windows.{behind_takes, bytes_left, windows}
 use Rattle.supply.specs.declared.TheConstants.{MAX_ROOM}
 use Rattle.recorder.specs.Drawing.{AreFound, Draw, Drew, DrewAll, HasDrawn, TookIf, readings_since, supply_of}
+use Rattle.recorder.specs.Keeping.{IsDrawn}
 
 -- ---- readings
 
@@ -94,20 +95,6 @@ split-item (a ∷ xs) ys (b ∷ before) after x is =
     ]
 
 -- ---- what was drawn so far
-
--- a supply's window is the last of what was given since the input was i, and the answers read its first bytes
-pub record IsDrawn (w : Supplied) (place : ℕ) (draws : List Draw) (answers : List Answer) (i j : Input) : Type 0 where
-  pub drew : DrewAll draws i j
-  pub given : List ℕ
-  pub given_is : j.given ≡ i.given ++ given
-  pub left_is : given ++ bytes_left j.left ≡ bytes_left i.left
-  pub last : IsLastOf w given
-  pub within : place ≤ length given
-  pub read : bytes_read answers ≡ take place given
-  pub ended : w.ended ≡ true → (j.ended ≡ true) × (is_at_end j.left ≡ true)
-  pub empties : (before after : List Answer) → answers ≡ before ++ Read [] ∷ after → (bytes_read before ≡ given) × (w.ended ≡ true)
-  pub kept : length i.readings ≤ length j.readings
-  pub clocks : AreFound (clock_readings answers) (readings_since i j)
 
 pub none_drawn : (i : Input) → IsDrawn (empty MAX_ROOM) 0 [] [] i i
 none_drawn i = record {

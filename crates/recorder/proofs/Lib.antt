@@ -1,10 +1,14 @@
 mod Commits
 pub mod Drawings
 pub mod RunLists
-mod SoFar
+mod Takes
+pub mod JobRuns
+mod Keeps
+mod Stops
+mod RoundRuns
 mod Begun
-mod Rounds
 pub mod Alike
+mod Determined
 mod InputReads
 pub mod Moments
 mod MachineDisk

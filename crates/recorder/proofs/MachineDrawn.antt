@@ -18,7 +18,8 @@ use Rattle.epoch_runner.specs.declared.epoch_run.Ran.TheVariants.{Epoch, Idle}
 use Rattle.epoch_runner.specs.Supplying.{IsSuppliedBy}
 use Rattle.guest_kernel.specs.declared.state.State.{State}
 use Rattle.recorder.specs.Drawing.{Draw, HasDrawn, readings_since, supply_of}
-use Rattle.recorder.proofs.Drawings.{IsDrawn, TakeLaws, drawn_more, has_drawn, none_drawn, taken_more}
+use Rattle.recorder.proofs.Drawings.{TakeLaws, drawn_more, has_drawn, none_drawn, taken_more}
+use Rattle.recorder.specs.Keeping.{IsDrawn}
 use Rattle.supply.specs.Supplied.{Supplied, empty, end_of}
 use Rattle.supply.specs.declared.TheConstants.{MAX_ROOM}
 use Rattle.std.proofs.lemmas.Grind.{flat_map-append}

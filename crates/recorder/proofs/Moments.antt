@@ -1,6 +1,5 @@
 -- What a crash leaves at every moment of a recording so far, and how that goes on.
 use Rattle.std.proofs.Common.{◌≡◌, ◌⊎◌, inl, inr, ℕ, List, [], ◌∷◌, ◌++◌, take, drop, Option, None, Ok, refl, sym, ap, subst, ◌∙◌, append_assoc, arith}
-use Rattle.std.specs.List.{AllByRecursion}
 use Rattle.std.proofs.lemmas.List.{append-nil, take-append-drop}
 use Rattle.dp_base.specs.declared.answer.Answer.{Answer}
 use Rattle.dp_base.specs.declared.answer.Answer.TheVariants.{Read}
@@ -19,25 +18,16 @@ use Rattle.guest_kernel.specs.declared.state.State.{State}
 use Rattle.guest_kernel.specs.Answers.{bytes_read, clock_readings}
 use Rattle.guest_kernel.specs.Slices.{chain}
 use Rattle.journal_text.specs.Reading.{reads}
-use Rattle.journal_text.specs.Records.{IsRecord, Record, epoch}
-use Rattle.recorder.specs.declared.options.Options.{Options}
-use Rattle.supply.specs.Supplied.{Supplied}
+use Rattle.journal_text.specs.Records.{Record, epoch}
 use Rattle.recorder.specs.Committing.{IsCommitting}
-use Rattle.recorder.specs.Drawing.{AreFound, IsHonestSince, Round, answers_of, epochs_of, readings_since, supply_of}
-use Rattle.recorder.specs.Moments.{EachMoment, HoldsAt, IsRecording, answers_in}
-use Rattle.recorder.specs.Recording.{EachIsNext, first_behind, records_of}
+use Rattle.recorder.specs.Drawing.{AreFound, IsHonestSince, answers_in, readings_since}
+use Rattle.recorder.specs.Keeping.{AlwaysPartly, IsFront, IsPartly}
+use Rattle.recorder.specs.Moments.{EachMoment, HoldsAt, IsRecording}
+use Rattle.recorder.specs.Recording.{records_of}
 use Rattle.epoch_runner.proofs.AnswerLists.{clocks_append, read_append}
+use Rattle.recorder.proofs.RunLists.{answers_in-append}
 
 -- ---- answers
-
-answers_in-append : (xs ys : List Epoch) → answers_in (xs ++ ys) ≡ answers_in xs ++ answers_in ys
-answers_in-append [] ys = refl
-answers_in-append (x ∷ xs) ys = ap (λ (l : List Answer). x.answers ++ l) (answers_in-append xs ys) ∙ sym (append_assoc x.answers (answers_in xs) (answers_in ys))
-
--- those of rounds are those of their epochs
-pub answers_are : (rounds : List Round) → answers_of rounds ≡ answers_in (epochs_of rounds)
-answers_are [] = refl
-answers_are (r ∷ rounds) = ap (λ (l : List Answer). r.epoch.answers ++ l) (answers_are rounds)
 
 found-left : (values more readings : List ℕ) → AreFound (values ++ more) readings → AreFound values readings
 found-left [] more readings found = tt
@@ -57,33 +47,7 @@ honest-left xs ys i j honest =
       },
     )
 
--- ---- records
-
--- the epochs of rounds are records
-pub are_records : (options : Options) (first : ℕ) (s : State) (w : Supplied) (rounds : List Round) → EachIsNext options first s w rounds → AllByRecursion IsRecord (records_of (epochs_of rounds))
-are_records options first s w [] each = tt
-are_records options first s w (r ∷ rounds) each =
-    ((each.3.is_epoch, each.3.fits.1), are_records options (first_behind first r.epoch.slices) each.0 (supply_of w r.draw) rounds each.4)
-
 -- ---- at a moment of a recording so far
-
--- The journal has the first of these epochs, and of their output a prefix was sent.
-pub record IsFront (guest : List ℕ) (start : State) (epochs : List Epoch) (image said : List ℕ) : Type 0 where
-  pub front : List Epoch
-  pub rest : List Epoch
-  pub all : epochs ≡ front ++ rest
-  pub journal : Reads guest (records_of front) image
-  pub end : State
-  pub output : List ℕ
-  pub chained : chain start front ≡ Ok (end, output)
-  pub sent : IsPrefixOf said output
-
-abbrev pub IsPartly : (guest : List ℕ) → (start : State) → List Epoch → History → (image sent : List ℕ) → Type 0
-IsPartly guest start epochs before image sent =
-    (said : List ℕ) × (sent ≡ before.sent ++ said) × (((reads image ≡ None) × (said ≡ [])) ⊎ IsFront guest start epochs image said)
-
-abbrev pub AlwaysPartly : (guest : List ℕ) → (start : State) → List Epoch → History → History → Type 0
-AlwaysPartly guest start epochs s t = s.disk ≡ [] → IsSynced s → Always (IsPartly guest start epochs s) s t
 
 -- an empty disk has no journal
 reads_nothing : reads [] ≡ None

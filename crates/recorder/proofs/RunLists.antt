@@ -1,24 +1,22 @@
 -- Runs as lists of rounds and epochs: what one more round or epoch at the end adds to each.
-use Rattle.std.proofs.Common.{◌≡◌, ℕ, ◌+◌, ◌<◌, ◌≤◌, List, [], ◌∷◌, ◌++◌, length, Result, Ok, Err, refl, sym, ap, subst, ◌∙◌, append_assoc, arith}
-use Rattle.std.proofs.lemmas.List.{append-nil, map_push}
+use Rattle.std.proofs.Common.{◌≡◌, ℕ, ◌+◌, ◌<◌, ◌≤◌, Bool, true, false, if◌then◌else◌, List, [], ◌∷◌, ◌++◌, length, Ok, refl, sym, ap, subst, ◌∙◌, append_assoc, arith}
+use Rattle.std.proofs.lemmas.List.{append-nil, length-append, length-map, map_push}
 use Rattle.std.specs.List.{AllByRecursion}
 use Rattle.std.proofs.lemmas.List.Sums.{sum_by-cons}
-use Rattle.std.proofs.lemmas.Result.{IfOk-at_ok}
 use Rattle.dp_base.specs.declared.answer.Answer.{Answer}
 use Rattle.dp_base.specs.declared.slice.Slice.{Slice}
 use Rattle.dp_base.specs.Journal.{Epoch, IsAnswer, IsSlice, steps_of}
+use Rattle.epoch_record.specs.Epoch.{epoch_of}
 use Rattle.epoch_runner.specs.Answering.{input_due}
-use Rattle.epoch_runner.specs.declared.bounds.Bounds.{Bounds}
-use Rattle.epoch_runner.specs.Schedule.{IsScheduled}
+use Rattle.epoch_runner.specs.declared.epoch_run.EpochRun.{EpochRun}
 use Rattle.supply.specs.Supplied.{Supplied}
-use Rattle.sync_hints.specs.NoHints.{no_hints}
-use Rattle.sync_hints.specs.declared.hints.Hints.{Hints}
-use Rattle.recorder.specs.Drawing.{Draw, Round, answers_of, draws_of, epochs_of, supply_behind, supply_of}
+use Rattle.racing_runner.specs.Offers.{Tells}
+use Rattle.recorder.specs.Drawing.{Draw, Round, answers_in, draws_of, epochs_of, squashes_of, supply_behind, supply_of}
+use Rattle.recorder.specs.Keeping.{AreAnswers}
 use Rattle.guest_kernel.specs.declared.state.State.{State}
-use Rattle.guest_kernel.specs.Call.{After}
-use Rattle.guest_kernel.specs.Slices.{Stop, at, chain, either, onto, run}
+use Rattle.guest_kernel.specs.Slices.{chain}
 use Rattle.recorder.specs.declared.options.Options.{Options}
-use Rattle.recorder.specs.Recording.{IsNext, EachIsNext, first_after, first_behind, records_of}
+use Rattle.recorder.specs.Recording.{EachIsRound, GoesOn, IsRound, first_after, first_behind, records_of}
 use Rattle.journal_text.specs.Records.{epoch}
 use Rattle.dp_base.proofs.Lists.{all_append}
 
@@ -26,55 +24,66 @@ pub no_epochs : (start : State) → chain start [] ≡ Ok (start, [])
 unfolding chain
 no_epochs start = refl
 
--- a chain behind an epoch ends where the whole one does
-chain_end : (r : Result (State × List ℕ) ℕ) (written : List ℕ) (mid : State) (before : List ℕ) → either r (λ count. Err (count + 1)) (onto written) ≡ Ok (mid, before) → (output : List ℕ) × (r ≡ Ok (mid, output))
-chain_end (Err count) written mid before is = absurd cc
-chain_end (Ok end) written mid before is = (end.1, ap (λ (s : State). Ok (s, end.1)) (IfOk-at_ok (λ (there : State × List ℕ). end.0 ≡ there.0) is refl))
+-- ---- one more round
 
--- what is run by the schedule is the run of its slices
-abbrev pub RunsAsScheduled : Type 0
-RunsAsScheduled = (start : State) (hints : Hints) (w : Supplied) (bounds : Bounds) (e : Epoch) (output : List ℕ) (end : State) → IsScheduled start hints w bounds e output end
-    → run e.slices (at start [] e.answers) ≡ Ok (at end output [])
+pub epochs-push : (rounds : List Round) (r : Round) → epochs_of (rounds ++ r ∷ []) ≡ epochs_of rounds ++ r.epochs
+epochs-push [] r = append-nil r.epochs
+epochs-push (x ∷ rounds) r = ap (λ (l : List Epoch). x.epochs ++ l) (epochs-push rounds r) ∙ sym (append_assoc x.epochs (epochs_of rounds) r.epochs)
 
--- a round behind a run is next
-pub each-push : RunsAsScheduled → (options : Options) (first : ℕ) (start : State) (w : Supplied) (rounds : List Round) (mid : State) (before : List ℕ) (r : Round) (end : State) (output : List ℕ)
-    → EachIsNext options first start w rounds → chain start (epochs_of rounds) ≡ Ok (mid, before)
-    → r.draw.due ≡ input_due mid (supply_behind w (draws_of rounds))
-    → IsNext options (first_after first (epochs_of rounds)) mid (supply_of (supply_behind w (draws_of rounds)) r.draw) r.epoch end output
-    → EachIsNext options first start w (rounds ++ r ∷ [])
-unfolding chain
-each-push runs options first start w [] mid before r end output each chained due next_ =
-    let same : start ≡ mid = IfOk-at_ok (λ (there : State × List ℕ). start ≡ there.0) chained refl in (
-      end,
-      output,
-      subst (λ (s : State). r.draw.due ≡ input_due s w) (sym same) due,
-      subst (λ (s : State). IsNext options first s (supply_of w r.draw) r.epoch end output) (sym same) next_,
-      tt,
-    )
-each-push runs options first start w (x ∷ xs) mid before r end output each chained due next_ =
-    let there : State = each.0 in
-    let written : List ℕ = each.1 in
-    let behind : either (chain there (epochs_of xs)) (λ count. Err (count + 1)) (onto written) ≡ Ok (mid, before) =
-    sym (ap (λ (a : Result After (Stop × After)). either a (λ stop. Err 0) (λ here. either (chain here.state (epochs_of xs)) (λ count. Err (count + 1)) (onto here.output))) (runs start no_hints (supply_of w x.draw) each.3.bounds x.epoch written there each.3.scheduled)) ∙ chained in
-    let last = chain_end (chain there (epochs_of xs)) written mid before behind in
-    (there, written, each.2, each.3, each-push runs options (first_behind first x.epoch.slices) there (supply_of w x.draw) xs mid last.0 r end output each.4 last.1 due next_)
-
-pub epochs-push : (rounds : List Round) (r : Round) → epochs_of (rounds ++ r ∷ []) ≡ epochs_of rounds ++ r.epoch ∷ []
-epochs-push rounds r = map_push (λ (x : Round). x.epoch) rounds r
+pub epochs-append : (xs ys : List Round) → epochs_of (xs ++ ys) ≡ epochs_of xs ++ epochs_of ys
+epochs-append [] ys = refl
+epochs-append (x ∷ xs) ys = ap (λ (l : List Epoch). x.epochs ++ l) (epochs-append xs ys) ∙ sym (append_assoc x.epochs (epochs_of xs) (epochs_of ys))
 
 pub draws-push : (rounds : List Round) (r : Round) → draws_of (rounds ++ r ∷ []) ≡ draws_of rounds ++ r.draw ∷ []
 draws-push rounds r = map_push (λ (x : Round). x.draw) rounds r
 
-pub answers-push : (rounds : List Round) (r : Round) → answers_of (rounds ++ r ∷ []) ≡ answers_of rounds ++ r.epoch.answers
-answers-push [] r = append-nil r.epoch.answers
-answers-push (x ∷ xs) r = ap (λ (l : List Answer). x.epoch.answers ++ l) (answers-push xs r) ∙ sym (append_assoc x.epoch.answers (answers_of xs) r.epoch.answers)
+pub squashes-push : (rounds : List Round) (r : Round) → squashes_of (rounds ++ r ∷ []) ≡ squashes_of rounds + (if r.squashed then 1 else 0)
+squashes-push [] r = omega arith
+squashes-push (x ∷ rounds) r = let more = squashes-push rounds r in omega (arith, more)
+
+pub answers_in-append : (xs ys : List Epoch) → answers_in (xs ++ ys) ≡ answers_in xs ++ answers_in ys
+answers_in-append [] ys = refl
+answers_in-append (x ∷ xs) ys = ap (λ (l : List Answer). x.answers ++ l) (answers_in-append xs ys) ∙ sym (append_assoc x.answers (answers_in xs) (answers_in ys))
+
+pub answers_in-push : (es : List Epoch) (e : Epoch) → answers_in (es ++ e ∷ []) ≡ answers_in es ++ e.answers
+answers_in-push es e = answers_in-append es (e ∷ []) ∙ ap (λ (l : List Answer). answers_in es ++ l) (append-nil e.answers)
+
+pub first-append : (first : ℕ) (xs ys : List Epoch) → first_after first (xs ++ ys) ≡ first_after (first_after first xs) ys
+first-append first [] ys = refl
+first-append first (x ∷ xs) ys = first-append (first_behind first x.slices) xs ys
+
+module _ (options : Options) where
+  pub each-push : (tells mid after : Tells) (first : ℕ) (s t u : State) (w : Supplied) (rounds : List Round) (r : Round) → EachIsRound tells options first s w rounds t mid → GoesOn options t
+      → r.draw.due ≡ input_due t (supply_behind w (draws_of rounds))
+      → IsRound mid options (first_after first (epochs_of rounds)) t (supply_of (supply_behind w (draws_of rounds)) r.draw) r u after → EachIsRound tells options first s w (rounds ++ r ∷ []) u after
+  each-push tells mid after first s t u w [] r each goes_on due is =
+      subst (λ (x : State). EachIsRound tells options first x w (r ∷ []) u after) each.0
+      (subst (λ (x : Tells). EachIsRound x options first t w (r ∷ []) u after) each.1 (goes_on, due, u, after, is, (refl, refl)))
+  each-push tells mid after first s t u w (x ∷ rounds) r each goes_on due is = (
+    each.0,
+    each.1,
+    each.2,
+    each.3,
+    each.4,
+    each-push each.3 mid after (first_after first x.epochs) each.2 t u (supply_of w x.draw) rounds r each.5 goes_on due
+        (subst (λ (n : ℕ). IsRound mid options n t (supply_of (supply_behind (supply_of w x.draw) (draws_of rounds)) r.draw) r u after) (first-append first x.epochs (epochs_of rounds)) is),
+  )
+
+  squash_is_one : (b : Bool) → (if b then 1 else 0) ≤ 1
+  squash_is_one true = omega arith
+  squash_is_one false = omega arith
+
+  -- each round has an epoch, so no more results were squashed than epochs committed
+  pub few_squashes : (tells after : Tells) (first : ℕ) (s t : State) (w : Supplied) (rounds : List Round) → EachIsRound tells options first s w rounds t after → squashes_of rounds ≤ length (epochs_of rounds)
+  few_squashes tells after first s t w [] each = omega arith
+  few_squashes tells after first s t w (r ∷ rounds) each =
+      let rest = few_squashes each.3 after (first_after first r.epochs) each.2 t (supply_of w r.draw) rounds each.5 in
+      let some : length r.epochs ≡ length each.4.runs = ap (λ (l : List Epoch). length l) each.4.epochs_are ∙ length-map each.4.runs (λ (x : EpochRun). epoch_of x.epoch) in
+      omega (arith, rest, some, each.4.some, squash_is_one r.squashed, length-append r.epochs (epochs_of rounds))
 
 pub supply-push : (w : Supplied) (draws : List Draw) (d : Draw) → supply_behind w (draws ++ d ∷ []) ≡ supply_of (supply_behind w draws) d
 supply-push w [] d = refl
 supply-push w (x ∷ xs) d = supply-push (supply_of w x) xs d
-
-abbrev pub AreAnswers : List Epoch → Type 0
-AreAnswers epochs = AllByRecursion (λ (e : Epoch). AllByRecursion IsAnswer e.answers) epochs
 
 pub answers_are-push : (epochs : List Epoch) (e : Epoch) → AreAnswers epochs → AllByRecursion IsAnswer e.answers → AreAnswers (epochs ++ e ∷ [])
 answers_are-push epochs e are more = all_append (λ (x : Epoch). AllByRecursion IsAnswer x.answers) epochs (e ∷ []) are (more, tt)

@@ -1,5 +1,6 @@
 -- What the rounds of a recording draw from its input, and which answers are honest of one. This project's own.
-use Rattle.std.specs.Prelude.{◌≡◌, ℕ, ◌-◌, ◌^◌, min, Bool, true, false, List, [], ◌∷◌, ◌++◌, length, map, slice_get, drop, Some, ⊤, if◌then◌else◌}
+use Rattle.std.specs.Prelude.{◌≡◌, ℕ, ◌+◌, ◌-◌, ◌^◌, min, Bool, true, false, List, [], ◌∷◌, ◌++◌, length, map, slice_get, drop, Some, ⊤, if◌then◌else◌}
+use Rattle.std.specs.List.{flat_map}
 use Rattle.dp_base.specs.Encoding.{IsPrefixOf}
 use Rattle.dp_base.specs.declared.answer.Answer.{Answer}
 use Rattle.dp_base.specs.declared.answer.Answer.TheVariants.{Read}
@@ -17,21 +18,26 @@ pub record Draw : Type 0 where
   pub taken : List ℕ
   pub reading : ℕ
 
--- a round that was committed
+-- a round: what it drew, the epochs of it that were committed, in order, and whether the result after them was squashed
 pub record Round : Type 0 where
   pub draw : Draw
-  pub epoch : Epoch
+  pub epochs : List Epoch
+  pub squashed : Bool
 
 abbrev pub draws_of : List Round → List Draw
 draws_of rounds = map (λ r. r.draw) rounds
 
 abbrev pub epochs_of : List Round → List Epoch
-epochs_of rounds = map (λ r. r.epoch) rounds
+epochs_of rounds = flat_map (λ r. r.epochs) rounds
 
--- all answers that their epochs took
-abbrev pub answers_of : List Round → List Answer
-answers_of [] = []
-answers_of (r ∷ rounds) = r.epoch.answers ++ answers_of rounds
+-- how many results were squashed
+abbrev pub squashes_of : List Round → ℕ
+squashes_of [] = 0
+squashes_of (r ∷ rounds) = (if r.squashed then 1 else 0) + squashes_of rounds
+
+-- all answers of epochs, in order
+abbrev pub answers_in : List Epoch → List Answer
+answers_in epochs = flat_map (λ e. e.answers) epochs
 
 -- ---- the supply
 

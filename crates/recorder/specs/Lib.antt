@@ -1,9 +1,12 @@
 pub mod Committing
 pub mod Faults
 pub mod Drawing
+pub mod Racing
 pub mod Recording
 pub mod Telling
 pub mod Moments
+pub mod Keeping
+pub mod EpochLaws
 pub mod Machine
 pub mod MachineKept
 pub mod CallEvents

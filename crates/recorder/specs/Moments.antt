@@ -1,7 +1,5 @@
 -- What a crash leaves at every moment of a recording. This project's own.
 use Rattle.std.specs.Prelude.{◌≡◌, ◌⊎◌, ℕ, List, [], ◌++◌, Option, None, Ok}
-use Rattle.std.specs.List.{flat_map}
-use Rattle.dp_base.specs.declared.answer.Answer.{Answer}
 use Rattle.dp_base.specs.Encoding.{IsPrefixOf}
 use Rattle.dp_base.specs.Journal.{Epoch}
 use Rattle.disk_model.specs.History.{History, IsSynced}
@@ -12,12 +10,8 @@ use Rattle.epoch_journal.specs.Images.{Reads}
 use Rattle.guest_kernel.specs.declared.state.State.{State}
 use Rattle.guest_kernel.specs.Slices.{chain}
 use Rattle.journal_text.specs.Reading.{reads}
-use Rattle.recorder.specs.Drawing.{IsHonestSince}
+use Rattle.recorder.specs.Drawing.{IsHonestSince, answers_in}
 use Rattle.recorder.specs.Recording.{records_of}
-
--- all answers of epochs, in order
-abbrev pub answers_in : List Epoch → List Answer
-answers_in epochs = flat_map (λ e. e.answers) epochs
 
 -- The image reads as this guest's journal. Its epochs, all of them whole and in order, are one run of the guest from its start, their
 -- answers are honest of what the input has given by the end of the call, and what was said is a prefix of the run's output.

@@ -1,6 +1,6 @@
--- What a recording results in: a run of the guest in rounds, each of which reads from the input and runs one epoch; what of the
--- run is in the journal; and what was sent. This project's own.
-use Rattle.std.specs.Prelude.{◌≡◌, ◌⊎◌, ◌<◌, ◌≤◌, ◌+◌, ◌-◌, min, ℕ, true, false, List, [], ◌∷◌, ◌++◌, length, map, take, Option, None, Result, Ok, Err, ⊤}
+-- What a recording results in: a run of the guest in rounds, each of which reads from the input and runs epochs of which the first ones are
+-- committed; what of the run is in the journal; and what was sent. This project's own.
+use Rattle.std.specs.Prelude.{◌≡◌, ◌⊎◌, ◌<◌, ◌≤◌, ◌+◌, ℕ, Bool, true, false, List, [], ◌∷◌, ◌++◌, length, map, take, Option, Some, None, Result, Ok, Err, ⊤}
 use Rattle.dp_base.specs.Encoding.{IsPrefixOf}
 use Rattle.dp_base.specs.declared.answer.Answer.{Answer}
 use Rattle.dp_base.specs.declared.slice.Slice.{Slice}
@@ -23,18 +23,24 @@ use Rattle.epoch_runner.specs.Schedule.{IsScheduled}
 use Rattle.supply.specs.Supplied.{Supplied, empty}
 use Rattle.sync_hints.specs.NoHints.{no_hints}
 use Rattle.supply.specs.declared.TheConstants.{MAX_ROOM}
-use Rattle.recorder.specs.Drawing.{Draw, HasDrawn, Round, answers_of, draws_of, epochs_of, supply_behind, supply_of}
+use Rattle.recorder.specs.Drawing.{Draw, HasDrawn, Round, answers_in, draws_of, epochs_of, squashes_of, supply_behind, supply_of}
+use Rattle.recorder.specs.Machine.{epochs_of_runs}
+use Rattle.recorder.specs.Racing.{IsRaced, epoch_steps}
+use Rattle.racing_runner.specs.declared.offer.Offer.{Offer}
+use Rattle.racing_runner.specs.declared.plan.Plan.{Plan}
+use Rattle.racing_runner.specs.Offers.{Tells}
+use Rattle.commit_core.specs.JudgedRound.{AreLinked, IsJudged, RoundEnd, over, squashed, used_up}
+use Rattle.epoch_record.specs.Epoch.{epoch_of}
+use Rattle.epoch_runner.specs.declared.epoch_run.EpochRun.{EpochRun}
+use Rattle.epoch_runner.specs.declared.epoch_run.Ran.{Ran}
+use Rattle.epoch_runner.specs.declared.epoch_run.Ran.TheVariants as rans
 use Rattle.checkpoint.specs.State.{digest_of}
 use Rattle.epoch_journal.specs.Images.{Reads}
 use Rattle.epoch_journal.specs.Standing.{Stands}
 use Rattle.journal_text.specs.Reading.{journal_of, reads}
 use Rattle.journal_text.specs.Records.{Record, epoch}
 
--- ---- a run in epochs
-
--- the most steps of an epoch that starts here
-abbrev pub epoch_steps : Options → State → ℕ
-epoch_steps options s = min options.epoch (options.limit - s.steps)
+-- ---- a run in rounds
 
 -- The number of the thread that is tried first after these slices: one more than that of the last slice.
 abbrev pub first_behind : ℕ → List Slice → ℕ
@@ -45,6 +51,109 @@ first_behind first (x ∷ xs) = first_behind (x.tid.0 + 1) xs
 abbrev pub first_after : ℕ → List Epoch → ℕ
 first_after first [] = first
 first_after first (e ∷ epochs) = first_after (first_behind first e.slices) epochs
+
+-- the guest hasn't ended, and may have more steps
+abbrev pub GoesOn : (options : Options) → State → Type 0
+GoesOn options s = (has_ended s.end ≡ false) × (s.steps < options.limit)
+
+abbrev pub is_squash : RoundEnd → Bool
+is_squash used_up = false
+is_squash squashed = true
+is_squash over = false
+
+-- A round from a state to another, by a racer that tells this: its jobs were run, and their results judged in order. At least one epoch
+-- was committed.
+pub record IsRound (tells : Tells) (options : Options) (first : ℕ) (s : State) (w : Supplied) (r : Round) (end : State) (after : Tells) : Type 0 where
+  pub results : List Ran
+  pub raced : IsRaced tells options first s w results after
+  pub runs : List EpochRun
+  pub stop : RoundEnd
+  pub judged : IsJudged s results runs end stop
+  pub some : 0 < length runs
+  pub epochs_are : r.epochs ≡ epochs_of_runs runs
+  pub squashed_is : r.squashed ≡ is_squash stop
+
+-- Each round starts in the state in which the one before ends, while the guest goes on. It takes input exactly if some is due.
+abbrev pub EachIsRound : Tells → Options → ℕ → State → Supplied → List Round → State → Tells → Type 0
+EachIsRound tells options first s w [] t after = (t ≡ s) × (after ≡ tells)
+EachIsRound tells options first s w (r ∷ rounds) t after = GoesOn options s × (r.draw.due ≡ input_due s w) × (end : State) × (mid : Tells)
+    × IsRound tells options first s (supply_of w r.draw) r end mid × EachIsRound mid options (first_after first r.epochs) end (supply_of w r.draw) rounds t after
+
+-- a run of a guest from a state, in whole rounds, by a racer that tells this
+pub record Run (tells : Tells) (options : Options) (start : State) : Type 0 where
+  pub rounds : List Round
+  pub end : State
+  pub racer : Tells
+  pub output : List ℕ
+  pub chained : chain start (epochs_of rounds) ≡ Ok (end, output)
+  pub each : EachIsRound tells options 1 start (empty MAX_ROOM) rounds end racer
+  pub counted : end.steps ≤ options.limit
+
+-- its epochs, how many results were squashed, what its rounds read from the input, the answers that its epochs took, and the supply after its
+-- last round
+abbrev pub epochs : {tells : Tells} {options : Options} {start : State} → Run tells options start → List Epoch
+epochs r = epochs_of r.rounds
+
+abbrev pub squashes : {tells : Tells} {options : Options} {start : State} → Run tells options start → ℕ
+squashes r = squashes_of r.rounds
+
+abbrev pub draws : {tells : Tells} {options : Options} {start : State} → Run tells options start → List Draw
+draws r = draws_of r.rounds
+
+abbrev pub answers : {tells : Tells} {options : Options} {start : State} → Run tells options start → List Answer
+answers r = answers_in (epochs r)
+
+abbrev pub supply : {tells : Tells} {options : Options} {start : State} → Run tells options start → Supplied
+supply r = supply_behind (empty MAX_ROOM) (draws r)
+
+-- the thread that is tried first after it
+abbrev pub first_next : {tells : Tells} {options : Options} {start : State} → Run tells options start → ℕ
+first_next r = first_after 1 (epochs r)
+
+-- A run that goes on, and a round after it of whose results the first ones are committed. It isn't known of the rest whether they will be.
+pub record RunOn (tells : Tells) (options : Options) (start : State) : Type 0 where
+  pub run : Run tells options start
+  pub goes_on : GoesOn options run.end
+  pub draw : Draw
+  pub due : draw.due ≡ input_due run.end (supply run)
+  pub results : List Ran
+  pub after : Tells
+  pub raced : IsRaced run.racer options (first_next run) run.end (supply_of (supply run) draw) results after
+  pub runs : List EpochRun
+  pub rest : List Ran
+  pub all : results ≡ map rans.Epoch runs ++ rest
+  pub end : State
+  pub linked : AreLinked run.end runs end
+  pub output : List ℕ
+  pub chained : chain start (epochs_of run.rounds ++ epochs_of_runs runs) ≡ Ok (end, output)
+
+-- its epochs, and what its rounds read
+abbrev pub epochs_on : {tells : Tells} {options : Options} {start : State} → RunOn tells options start → List Epoch
+epochs_on on = epochs on.run ++ epochs_of_runs on.runs
+
+abbrev pub draws_on : {tells : Tells} {options : Options} {start : State} → RunOn tells options start → List Draw
+draws_on on = draws on.run ++ on.draw ∷ []
+
+-- The next result of the round is an epoch that starts where the last one ended.
+pub record NextEpoch {tells : Tells} {options : Options} {start : State} (on : RunOn tells options start) : Type 0 where
+  pub goes_on : GoesOn options on.end
+  pub run : EpochRun
+  pub more : List Ran
+  pub next : on.rest ≡ rans.Epoch run ∷ more
+  pub starts : run.start ≡ on.end
+
+abbrev pub next_epoch : {tells : Tells} {options : Options} {start : State} {on : RunOn tells options start} → NextEpoch on → Epoch
+next_epoch n = epoch_of n.run.epoch
+
+-- this list is the first part of that one
+abbrev pub BeginsWith : {A : Type 0} → (list front : List A) → Type 0
+BeginsWith {A} list front = (more : List A) × (list ≡ front ++ more)
+
+-- a racer tells all that it offers, whatever the round
+abbrev pub TellsAll : Tells → Type 0
+TellsAll tells = (s : State) (w : Supplied) (p : Plan) → (list : List Offer) × (tells s w p ≡ Some list)
+
+-- ---- a run in rounds of one job
 
 -- An epoch from one state to another, as the schedule runs it without hints and with a supply, within the options' bounds. This thread is tried
 -- first.
@@ -57,66 +166,30 @@ pub record IsNext (options : Options) (first : ℕ) (s : State) (w : Supplied) (
   pub is_epoch : IsEpoch e
   pub fits : IsBody (epoch_body e)
 
--- Each round starts in the state in which the one before ends. It takes input exactly if some is due, and its epoch is the one
--- that is next with what it has read.
+-- Each round starts in the state in which the one before ends. It takes input exactly if some is due, and commits one epoch, the one
+-- that is next with what it has read. No result is squashed.
 abbrev pub EachIsNext : Options → ℕ → State → Supplied → List Round → Type 0
 EachIsNext options first s w [] = ⊤
-EachIsNext options first s w (r ∷ rounds) = (end : State) × (output : List ℕ) × (r.draw.due ≡ input_due s w)
-    × IsNext options first s (supply_of w r.draw) r.epoch end output × EachIsNext options (first_behind first r.epoch.slices) end (supply_of w r.draw) rounds
-
--- a run of a guest from a state
-pub record Run (options : Options) (start : State) : Type 0 where
-  pub rounds : List Round
-  pub end : State
-  pub output : List ℕ
-  pub chained : chain start (epochs_of rounds) ≡ Ok (end, output)
-  pub each : EachIsNext options 1 start (empty MAX_ROOM) rounds
-  pub counted : end.steps ≤ options.limit
-
--- its epochs, what its rounds read from the input, the answers that its epochs took, and the supply after its last round
-abbrev pub epochs : {options : Options} {start : State} → Run options start → List Epoch
-epochs r = epochs_of r.rounds
-
-abbrev pub draws : {options : Options} {start : State} → Run options start → List Draw
-draws r = draws_of r.rounds
-
-abbrev pub answers : {options : Options} {start : State} → Run options start → List Answer
-answers r = answers_of r.rounds
-
-abbrev pub supply : {options : Options} {start : State} → Run options start → Supplied
-supply r = supply_behind (empty MAX_ROOM) (draws r)
-
--- the thread that is tried first after it
-abbrev pub first_next : {options : Options} {start : State} → Run options start → ℕ
-first_next r = first_after 1 (epochs r)
-
--- the guest hasn't ended, and may have more steps
-abbrev pub GoesOn : (options : Options) → State → Type 0
-GoesOn options s = (has_ended s.end ≡ false) × (s.steps < options.limit)
-
--- One round more, after a run that goes on: what it reads from the input, and the epoch that is next with that.
-pub record NextRound {options : Options} {start : State} (r : Run options start) : Type 0 where
-  pub goes_on : GoesOn options r.end
-  pub draw : Draw
-  pub due : draw.due ≡ input_due r.end (supply r)
-  pub epoch : Epoch
-  pub end : State
-  pub output : List ℕ
-  pub next : IsNext options (first_next r) r.end (supply_of (supply r) draw) epoch end output
+EachIsNext options first s w (r ∷ rounds) = (e : Epoch) × (end : State) × (output : List ℕ) × (r.epochs ≡ e ∷ []) × (r.squashed ≡ false) × (r.draw.due ≡ input_due s w)
+    × IsNext options first s (supply_of w r.draw) e end output × EachIsNext options (first_behind first e.slices) end (supply_of w r.draw) rounds
 
 -- ---- what was read from the input
 
 -- what the rounds of a run read, and the answers that their epochs took
-abbrev pub RunDrawn : {options : Options} {start : State} → Run options start → (i j : Option Input) → Type 0
+abbrev pub RunDrawn : {tells : Tells} {options : Options} {start : State} → Run tells options start → (i j : Option Input) → Type 0
 RunDrawn r i j = IfInput (HasDrawn (draws r) (answers r)) i j
 
 -- the same, and then one round read this
-abbrev pub DrawnOn : {options : Options} {start : State} → Run options start → Draw → (i j : Option Input) → Type 0
+abbrev pub DrawnOn : {tells : Tells} {options : Options} {start : State} → Run tells options start → Draw → (i j : Option Input) → Type 0
 DrawnOn r d i j = IfInput (HasDrawn (draws r ++ d ∷ []) (answers r)) i j
 
 -- The same, and maybe one round read more: it took from the input exactly if some was due.
-abbrev pub HasDrawnOn : {options : Options} {start : State} → Run options start → (i j : Option Input) → Type 0
+abbrev pub HasDrawnOn : {tells : Tells} {options : Options} {start : State} → Run tells options start → (i j : Option Input) → Type 0
 HasDrawnOn r i j = RunDrawn r i j ⊎ ((d : Draw) × (d.due ≡ input_due r.end (supply r)) × DrawnOn r d i j)
+
+-- What the rounds read by then, and the answers that these epochs took, all of a round's that were committed by then among them.
+abbrev pub DrawnWithin : {tells : Tells} {options : Options} {start : State} → RunOn tells options start → List Epoch → (i j : Option Input) → Type 0
+DrawnWithin on epochs i j = IfInput (HasDrawn (draws_on on) (answers_in epochs)) i j
 
 -- ---- what is on the disk, and what was sent
 
@@ -162,54 +235,64 @@ IsInUse len before after = (len ≡ length before.disk) × (after ≡ before)
 
 -- ---- by the answer
 
+-- the report of epochs of which none was squashed
 abbrev pub report_of : List Epoch → State → List ℕ → Report
 report_of epochs end output =
     record { epochs = length epochs; squashes = 0; steps = end.steps; sent = length output; end = end.end; state = digest_of end }
 
 -- the report of a run
-abbrev pub reported : {options : Options} {start : State} → Run options start → Report
-reported r = report_of (epochs r) r.end r.output
+abbrev pub reported : {tells : Tells} {options : Options} {start : State} → Run tells options start → Report
+reported r = record (report_of (epochs r) r.end r.output) { squashes = squashes r }
 
 -- The header doesn't fit, or the record of the epoch that is next.
-abbrev pub HasNoRoom : (guest : List ℕ) → (start : State) → Options → (end need : ℕ) → (i j : Option Input) → (before after : Option History) → Type 0
-HasNoRoom guest start options end need i j before after =
+abbrev pub HasNoRoom : (guest : List ℕ) → (tells : Tells) → (start : State) → Options → (end need : ℕ) → (i j : Option Input) → (before after : Option History) → Type 0
+HasNoRoom guest tells start options end need i j before after =
     ((end ≡ 0) × (need ≡ 10 + length guest) × (options.room < need) × (j ≡ i) × IfKnown IsUntouched before after)
-    ⊎ ((r : Run options start) × (n : NextRound r) × HasRoom guest options (epochs r)
-    × (end ≡ length (journal_of guest (records_of (epochs r)))) × (need ≡ length (frame (epoch_body n.epoch))) × (options.room < end + need)
-    × DrawnOn r n.draw i j × IfKnown (IsRecorded guest (epochs r) r.output []) before after)
+    ⊎ ((on : RunOn tells options start) × (n : NextEpoch on) × HasRoom guest options (epochs_on on)
+    × (end ≡ length (journal_of guest (records_of (epochs_on on)))) × (need ≡ length (frame (epoch_body (next_epoch n)))) × (options.room < end + need)
+    × DrawnWithin on (epochs_on on) i j × IfKnown (IsRecorded guest (epochs_on on) on.output []) before after)
 
 -- The disk failed before the first epoch, or while the epoch that is next was appended.
-abbrev pub HasLostDisk : (guest : List ℕ) → (start : State) → Options → (i j : Option Input) → (before after : Option History) → Type 0
-HasLostDisk guest start options i j before after =
+abbrev pub HasLostDisk : (guest : List ℕ) → (tells : Tells) → (start : State) → Options → (i j : Option Input) → (before after : Option History) → Type 0
+HasLostDisk guest tells start options i j before after =
     ((j ≡ i) × IfKnown (IsUnbegun guest) before after)
-    ⊎ ((r : Run options start) × (n : NextRound r) × HasRoom guest options (epochs r ++ n.epoch ∷ [])
-    × DrawnOn r n.draw i j × IfKnown (IsInterrupted guest (epochs r) r.output n.epoch) before after)
+    ⊎ ((on : RunOn tells options start) × (n : NextEpoch on) × HasRoom guest options (epochs_on on ++ next_epoch n ∷ [])
+    × DrawnWithin on (epochs_on on) i j × IfKnown (IsInterrupted guest (epochs_on on) on.output (next_epoch n)) before after)
 
 -- The epoch that is next was committed, and a part of its output was sent; or the guest has ended, and a part of the report's line was
 -- sent.
-abbrev pub HasLostSink : (guest : List ℕ) → (start : State) → Options → (i j : Option Input) → (before after : Option History) → Type 0
-HasLostSink guest start options i j before after =
-    ((r : Run options start) × (n : NextRound r) × HasRoom guest options (epochs r ++ n.epoch ∷ [])
-    × IfInput (HasDrawn (draws r ++ n.draw ∷ []) (answers r ++ n.epoch.answers)) i j
-    × IfKnown (λ s t. (count : ℕ) × IsRecorded guest (epochs r ++ n.epoch ∷ []) (r.output ++ take count n.output) [] s t) before after)
-    ⊎ ((r : Run options start) × (has_ended r.end.end ≡ true) × HasRoom guest options (epochs r) × RunDrawn r i j
+abbrev pub HasLostSink : (guest : List ℕ) → (tells : Tells) → (start : State) → Options → (i j : Option Input) → (before after : Option History) → Type 0
+HasLostSink guest tells start options i j before after =
+    ((on : RunOn tells options start) × (n : NextEpoch on) × HasRoom guest options (epochs_on on ++ next_epoch n ∷ [])
+    × DrawnWithin on (epochs_on on ++ next_epoch n ∷ []) i j
+    × IfKnown (λ s t. (count : ℕ) × IsRecorded guest (epochs_on on ++ next_epoch n ∷ []) (on.output ++ take count n.run.out) [] s t) before after)
+    ⊎ ((r : Run tells options start) × (has_ended r.end.end ≡ true) × HasRoom guest options (epochs r) × RunDrawn r i j
     × IfKnown (λ s t. (count : ℕ) × IsRecorded guest (epochs r) r.output (take count (report_line (reported r))) s t) before after)
 
--- By the answer: the run that was recorded, what the journal holds and what was sent of it, and what was read from the input.
-abbrev pub Recorded : (guest : List ℕ) → (start : State) → Options → (i j : Option Input) → (before after : Option History) → Result Report RecordFault → Type 0
-Recorded guest start options i j before after (Ok report) =
-    (r : Run options start) × (has_ended r.end.end ≡ true) × (report ≡ reported r) × HasRoom guest options (epochs r)
-    × RunDrawn r i j × IfKnown (IsRecorded guest (epochs r) r.output (report_line report)) before after
-Recorded guest start options i j before after (Err (faults.StepLimit n)) =
-    (r : Run options start) × (has_ended r.end.end ≡ false) × (n ≡ r.end.steps) × (n ≡ options.limit) × HasRoom guest options (epochs r)
-    × RunDrawn r i j × IfKnown (IsRecorded guest (epochs r) r.output []) before after
-Recorded guest start options i j before after (Err faults.InputFault) =
-    (r : Run options start) × GoesOn options r.end × (input_due r.end (supply r) ≡ true) × HasRoom guest options (epochs r)
-    × RunDrawn r i j × IfKnown (IsRecorded guest (epochs r) r.output []) before after
-Recorded guest start options i j before after (Err faults.OutOfMemory) =
-    ((j ≡ i) × IfKnown IsUntouched before after) ⊎ ((r : Run options start) × ((has_ended r.end.end ≡ true) ⊎ GoesOn options r.end)
+-- Memory ran out before the first epoch, between two rounds or while a round's jobs were made and run, or before the epoch that is next was
+-- appended.
+abbrev pub HasLostMemory : (guest : List ℕ) → (tells : Tells) → (start : State) → Options → (i j : Option Input) → (before after : Option History) → Type 0
+HasLostMemory guest tells start options i j before after =
+    ((j ≡ i) × IfKnown IsUntouched before after)
+    ⊎ ((r : Run tells options start) × ((has_ended r.end.end ≡ true) ⊎ GoesOn options r.end)
     × HasRoom guest options (epochs r) × HasDrawnOn r i j × IfKnown (IsRecorded guest (epochs r) r.output []) before after)
-Recorded guest start options i j before after (Err (faults.JournalInUse len)) = (0 < len) × (j ≡ i) × IfKnown (IsInUse len) before after
-Recorded guest start options i j before after (Err (faults.JournalFull end need)) = HasNoRoom guest start options end need i j before after
-Recorded guest start options i j before after (Err faults.DiskFault) = HasLostDisk guest start options i j before after
-Recorded guest start options i j before after (Err faults.OutputFault) = HasLostSink guest start options i j before after
+    ⊎ ((on : RunOn tells options start) × NextEpoch on × HasRoom guest options (epochs_on on)
+    × DrawnWithin on (epochs_on on) i j × IfKnown (IsRecorded guest (epochs_on on) on.output []) before after)
+
+-- By the answer: the run that was recorded, by a racer that told this at first, what the journal holds and what was sent of it, and what was
+-- read from the input.
+abbrev pub Recorded : (guest : List ℕ) → (tells : Tells) → (start : State) → Options → (i j : Option Input) → (before after : Option History) → Result Report RecordFault → Type 0
+Recorded guest tells start options i j before after (Ok report) =
+    (r : Run tells options start) × (has_ended r.end.end ≡ true) × (report ≡ reported r) × HasRoom guest options (epochs r)
+    × RunDrawn r i j × IfKnown (IsRecorded guest (epochs r) r.output (report_line report)) before after
+Recorded guest tells start options i j before after (Err (faults.StepLimit n)) =
+    (r : Run tells options start) × (has_ended r.end.end ≡ false) × (n ≡ r.end.steps) × (n ≡ options.limit) × HasRoom guest options (epochs r)
+    × RunDrawn r i j × IfKnown (IsRecorded guest (epochs r) r.output []) before after
+Recorded guest tells start options i j before after (Err faults.InputFault) =
+    (r : Run tells options start) × GoesOn options r.end × (input_due r.end (supply r) ≡ true) × HasRoom guest options (epochs r)
+    × RunDrawn r i j × IfKnown (IsRecorded guest (epochs r) r.output []) before after
+Recorded guest tells start options i j before after (Err faults.OutOfMemory) = HasLostMemory guest tells start options i j before after
+Recorded guest tells start options i j before after (Err (faults.JournalInUse len)) = (0 < len) × (j ≡ i) × IfKnown (IsInUse len) before after
+Recorded guest tells start options i j before after (Err (faults.JournalFull end need)) = HasNoRoom guest tells start options end need i j before after
+Recorded guest tells start options i j before after (Err faults.DiskFault) = HasLostDisk guest tells start options i j before after
+Recorded guest tells start options i j before after (Err faults.OutputFault) = HasLostSink guest tells start options i j before after

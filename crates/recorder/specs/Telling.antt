@@ -10,9 +10,9 @@ use Rattle.guest_kernel.specs.declared.state.State.{State}
 use Rattle.recorder.specs.declared.record_fault.RecordFault.{RecordFault}
 use Rattle.recorder.specs.declared.record_fault.RecordFault.TheVariants as faults
 
--- the report of a guest in this state, behind so many epochs and so many bytes sent
-abbrev pub report_at : (epochs sent : ℕ) → State → Report
-report_at epochs sent s = record { epochs = epochs; squashes = 0; steps = s.steps; sent = sent; end = s.end; state = digest_of s }
+-- the report of a guest in this state, after this many epochs, squashed results and bytes sent
+abbrev pub report_at : (epochs squashes sent : ℕ) → State → Report
+report_at epochs squashes sent s = record { epochs = epochs; squashes = squashes; steps = s.steps; sent = sent; end = s.end; state = digest_of s }
 
 -- it answers the report, a fault of the output or want of memory
 abbrev pub IsTold : Report → Result Report RecordFault → Type 0

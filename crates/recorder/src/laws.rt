@@ -1,7 +1,7 @@
 //! What follows from the definitions of a recording alone. A call of such a function costs nothing, and hands the law to the
 //! caller's proof.
 
-ghost use Rattle.std.specs.Prelude.{◌≡◌, ◌≤◌, ◌++◌, ◌∷◌, ℕ, Bool, List, [], Result, length, true};
+ghost use Rattle.std.specs.Prelude.{◌≡◌, ◌≤◌, ◌++◌, ◌∷◌, ℕ, Bool, List, [], Result, Some, length, true};
 ghost use Rattle.commit_core.specs.declared.event.Event as rounds;
 ghost use Rattle.commit_core.specs.declared.verdict.Verdict.{Verdict};
 ghost use Rattle.commit_core.specs.Judging.{Core};
@@ -27,8 +27,11 @@ ghost use Rattle.journal_text.specs.Reading.{journal_of};
 ghost use Rattle.recorder.specs.CallEvents.{AppendIsEvents, AppliedIsEvent, BegunIsFirst, CommitIsEvents, CommitIsInHand, DrawIsRound, SendIsEvents};
 ghost use Rattle.recorder.specs.Machine.{Event, IsTakeable, Machine, Reaches, first_machine, judged_runs};
 ghost use Rattle.recorder.specs.MachineKept.{IsKept, answers_of_runs, draws_in};
-ghost use Rattle.recorder.specs.Recording.{IsNext};
-ghost use Rattle.supply.specs.Supplied.{Supplied};
+ghost use Rattle.racing_runner.specs.declared.plan.Plan.{Plan};
+ghost use Rattle.racing_runner.specs.Offers.{Tells};
+ghost use Rattle.recorder.specs.Recording.{BeginsWith, EachIsNext, IsNext, NextEpoch, Run, RunOn, TellsAll, draws, draws_on, epochs, epochs_on, next_epoch, squashes};
+ghost use Rattle.supply.specs.declared.TheConstants.{MAX_ROOM};
+ghost use Rattle.supply.specs.Supplied.{Supplied, empty};
 ghost use Rattle.sync_hints.specs.declared.hints.Hints.{Hints};
 ghost use Rattle.supply.specs.Windows.{bytes_left};
 
@@ -41,6 +44,39 @@ pub fn an_epoch_is_determined()
 {
     epoch_runner::laws::a_schedule_is_determined();
 }
+
+/// If a racer tells its offers, two recordings whose rounds read the same from the input are the same, round by round: whatever the number
+/// of workers and whichever of them ends first, the same epochs are committed, the same results squashed, and the end is the same.
+pub fn a_told_racer_leaves_no_choice()
+    ensures { (tells : Tells) → TellsAll tells → (options : Options) (start : State) (r q : Run tells options start) → draws r ≡ draws q →
+        (r.rounds ≡ q.rounds) × (r.end ≡ q.end) × (squashes r ≡ squashes q) }
+{
+    epoch_runner::laws::a_schedule_is_determined();
+}
+
+/// A recording that stopped early has the first epochs of any that reads the same and goes further, if the racer tells its offers: between two
+/// rounds (`rounds`), within a round (`within`), and with the epoch that is next (`next`).
+pub fn a_told_racer_gives_the_first_epochs()
+    ensures rounds { (tells : Tells) → TellsAll tells → (options : Options) (start : State) (r q : Run tells options start) →
+        BeginsWith (draws q) (draws r) → BeginsWith q.rounds r.rounds }
+    ensures within { (tells : Tells) → TellsAll tells → (options : Options) (start : State) (on : RunOn tells options start) (q : Run tells options start) →
+        BeginsWith (draws q) (draws_on on) → BeginsWith (epochs q) (epochs_on on) }
+    ensures next { (tells : Tells) → TellsAll tells → (options : Options) (start : State) (on : RunOn tells options start) (n : NextEpoch on) (q : Run tells options start) →
+        BeginsWith (draws q) (draws_on on) → BeginsWith (epochs q) (epochs_on on ++ next_epoch n ∷ []) }
+{
+    epoch_runner::laws::a_schedule_is_determined();
+}
+
+/// If a racer offers nothing, each round of a recording commits one epoch, the one that is next, and no result is squashed.
+pub fn an_idle_racer_runs_one_job()
+    ensures { (tells : Tells) → ((s : State) (w : Supplied) (p : Plan) → tells s w p ≡ Some []) → (options : Options) (start : State) (r : Run tells options start) →
+        EachIsNext options 1 start (empty MAX_ROOM) r.rounds }
+{}
+
+/// Each round commits an epoch, so no more results are squashed than epochs are committed.
+pub fn a_round_commits_an_epoch()
+    ensures { (tells : Tells) (options : Options) (start : State) (r : Run tells options start) → squashes r ≤ length (epochs r) }
+{}
 
 /// However the input is cut into pieces, the answers to a recording's reads, joined, are the first of the bytes that were left, and
 /// a read that took none came where all of them had been read.

@@ -1,5 +1,6 @@
-//! The recorder. It runs a guest in rounds: each round reads from the input and runs one epoch, writes the epoch's record into the
-//! journal on the disk, and sends the epoch's output once the record is on the disk.
+//! The recorder. It runs a guest in rounds: each round reads from the input, and runs epochs side by side, the first from the committed
+//! state and each other one from a state that a racer offers. Those that join on to the committed state are committed in order: an
+//! epoch's record is written into the journal on the disk, and its output is sent once the record is there.
 //!
 //! Promises (the contract of `record_`):
 //!
@@ -11,19 +12,23 @@
 //! - All memory for an epoch is taken before its first write to the disk. From there on only `Ok` or a device's fault is answered.
 //! - If the input is known, each round takes from it exactly if a thread waits for input, and reads the clock once. The answers in the
 //!   journal are faithful to the input: reads get its bytes in order, and clock calls get its readings in order.
+//! - All of this holds for any racer, whatever it offers, and for any number of workers. If the racer tells its offers, the number of
+//!   workers changes nothing of a run (`laws`).
 //! - At `Ok` the report's line was sent on Note. Otherwise nothing was, or a prefix of that line.
 //!
 //! `laws` says more of rounds of several jobs: a recording is a machine (`specs/Machine.antt`), whose every event keeps the journal, the
 //! output and the input in step (`specs/MachineKept.antt`), and the calls of the program are its events (`specs/CallEvents.antt`).
 //!
-//! Stands on `guest_kernel`, `epoch_runner`, `supply`, `checkpoint`, `commit_core`, `epoch_record`, `epoch_journal`, `device` and
-//! `dp_report`.
+//! Stands on `guest_kernel`, `racing_runner`, `epoch_pool`, `commit_core`, `supply`, `checkpoint`, `epoch_record`, `epoch_journal`,
+//! `device` and `dp_report`.
 //!
 //! ```text
 //! let image = load(alloc, file)?;
 //! let state = start(alloc, &image)?;
 //! world.attach("journal", true)?;
-//! let (world, answer) = record_(&rt, alloc, world, &mut inlet, file, state, options);
+//! let (world, answer) = record_(
+//!     &rt, alloc, world, &mut inlet, file, state, options, &mut IdleRacer, &OpenGate,
+//! );
 //! match answer {
 //!     Ok(report) => ..,
 //!     Err(RecordFault::StepLimit(steps)) => ..,
@@ -34,12 +39,14 @@
 
 mod commit;
 mod draw;
+mod jobs;
 pub mod laws;
-mod next_epoch;
 mod options;
 mod ready;
 mod record_fault;
 mod recording;
+mod results;
+mod tally;
 mod telling;
 
 pub use commit::{CommitFault, commit_epoch};

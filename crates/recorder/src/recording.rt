@@ -1,27 +1,27 @@
 // A whole recording: begin, one round after another, and the report.
-ghost use Rattle.std.specs.Prelude.{◌≡◌, ◌<◌, ◌≤◌, ◌-◌, min, Err, IsErrOf};
-ghost use Rattle.std.specs.List.{AllByRecursion};
+ghost use Rattle.std.specs.Prelude.{◌≡◌, ◌<◌, ◌≤◌, ◌+◌, if◌then◌else◌, Err, IsErrOf};
 ghost use Rattle.disk_model.specs.Counts.{Rose};
+ghost use Rattle.dp_base.specs.declared.limits.TheConstants.{MAX_JOURNAL_BYTES};
 ghost use Rattle.guest_kernel.specs.Start.{IsGuestFile, start_state};
 ghost use Rattle.recorder.specs.Faults.{MetNoOther};
 ghost use Rattle.recorder.specs.Moments.{EachMoment};
-ghost use Rattle.recorder.specs.Recording.{Recorded, first_behind};
+ghost use Rattle.recorder.specs.Recording.{Recorded};
 ghost use Rattle.recorder.specs.declared.record_fault.RecordFault.TheVariants as faults;
 
-use crate::commit::commit_epoch;
 use crate::draw::draw;
-use crate::next_epoch::next_epoch;
+use crate::jobs::run_round;
 use crate::options::Options;
-use crate::ready::Ready;
 use crate::record_fault::RecordFault;
+use crate::results::{commit_results, core_of};
+use crate::tally::Tally;
 use crate::telling::tell;
-use disk_model::{Inlet, World};
-use dp_base::Slice;
+use disk_model::{Gate, Inlet, World};
 use dp_report::Report;
 use epoch_journal::Journal;
-use epoch_runner::Bounds;
 use guest_kernel::{State, laws};
+use racing_runner::Racer;
 use std::alloc::Global;
+use std::thread::Threads;
 use supply::{MAX_ROOM, Supply};
 
 /// Records a guest from its start state into a journal on the attached disk, and sends its output on Out, each epoch's once
@@ -34,18 +34,20 @@ use supply::{MAX_ROOM, Supply};
 /// # Errors
 ///
 /// See [`RecordFault`]. The disk's length is looked at first; after `JournalInUse` nothing was written, sent or taken.
-pub fn record_<R, W: World, I: Inlet>(
-    _rt: &R,
+pub fn record_<R: Threads + Sync, W: World, I: Inlet, Q: Racer, G: Gate + Sync>(
+    rt: &R,
     alloc: Global,
     mut world: W,
     inlet: &mut I,
     guest: &[u8],
     start: State,
     options: Options,
+    racer: &mut Q,
+    gate: &G,
 ) -> (W, Result<Report, RecordFault>)
     requires guest { IsGuestFile guest.now }
     requires starts { start ≡ start_state guest.now }
-    ensures recorded { Recorded guest.now start options (I.input inlet.old) (I.input inlet.new)
+    ensures recorded { Recorded guest.now (Q.tells racer.old) start options (I.input inlet.old) (I.input inlet.new)
         (W.history world) (W.history result.0) result.1 }
     ensures moments { EachMoment guest.now start (I.input inlet.old) (I.input inlet.new)
         (W.history world) (W.history result.0) }
@@ -58,21 +60,26 @@ pub fn record_<R, W: World, I: Inlet>(
     ensures disk_count { W.disk_faults world ≤ W.disk_faults result.0 }
     ensures sink_count { W.sink_faults world ≤ W.sink_faults result.0 }
 {
-    let answer = record_rounds(alloc, &mut world, inlet, guest, start, options);
+    let answer = record_rounds(
+        rt, alloc, &mut world, inlet, guest, start, options, racer, gate,
+    );
     (world, answer)
 }
 
-fn record_rounds<W: World, I: Inlet>(
+fn record_rounds<R: Threads + Sync, W: World, I: Inlet, Q: Racer, G: Gate + Sync>(
+    rt: &R,
     alloc: Global,
     world: &mut W,
     inlet: &mut I,
     guest: &[u8],
     start: State,
     options: Options,
+    racer: &mut Q,
+    gate: &G,
 ) -> Result<Report, RecordFault>
     requires guest { IsGuestFile guest.now }
     requires starts { start ≡ start_state guest.now }
-    ensures recorded { Recorded guest.now start options (I.input inlet.old) (I.input inlet.new)
+    ensures recorded { Recorded guest.now (Q.tells racer.old) start options (I.input inlet.old) (I.input inlet.new)
         (W.history world.old) (W.history world.new) result }
     ensures moments { EachMoment guest.now start (I.input inlet.old) (I.input inlet.new)
         (W.history world.old) (W.history world.new) }
@@ -89,13 +96,9 @@ fn record_rounds<W: World, I: Inlet>(
     ensures sink_count { W.sink_faults world.old ≤ W.sink_faults world.new }
 {
     elf_image::laws::a_file_without_fault_has_segments();
+    commit_core::laws::a_round_commits_what_joins_on();
     laws::a_guest_goes_on_while_a_thread_runs();
-    laws::a_run_is_as_long_as_its_slices();
-    laws::an_epoch_more();
     laws::threads_are_few();
-    epoch_runner::laws::an_epoch_ends_by_a_rule();
-    epoch_runner::laws::a_scheduled_run_is_a_run();
-    epoch_runner::laws::an_epoch_is_supplied();
     epoch_runner::laws::a_supply_lets_a_guest_step();
     supply::an_answer_is_of_the_input();
     supply::the_windows_are_the_input();
@@ -105,52 +108,39 @@ fn record_rounds<W: World, I: Inlet>(
     let mut journal = Journal::begin(alloc, world, guest, options.room)?;
     let mut supply = Supply::new(alloc, MAX_ROOM)?;
     let mut state = start;
-    let mut first = 1;
-    let mut epochs = 0;
-    let mut sent = 0;
+    let mut tally = Tally {
+        first: 1,
+        epochs: 0,
+        sent: 0,
+    };
+    let mut squashes = 0;
     'rounds: while !state.ended() {
         if state.steps >= options.limit {
             return Err(RecordFault::StepLimit(state.steps));
         }
         draw(inlet, &mut supply, &state)?;
-        let bounds = bounds_from(&options, state.steps, first);
-        let (frame, run) = next_epoch(alloc, state, &supply, bounds)?;
-        let ready = Ready {
-            frame,
-            out: run.out,
-        };
-        commit_epoch(&mut journal, world, &ready)?;
-        first = next_first(first, run.epoch.slices.as_slice());
-        state = run.end;
-        epochs += 1;
-        sent += ready.out.len() as u64;
+        let results = run_round(
+            rt,
+            alloc,
+            &options,
+            tally.first,
+            &state,
+            &supply,
+            racer,
+            gate,
+        )?;
+        let mut core = core_of(alloc, state, results)?;
+        let squashed = commit_results(alloc, &mut core, &mut journal, world, &mut tally)?;
+        squashes = squashes_with(squashes, squashed);
+        state = core.into_committed();
     }
-    tell(alloc, world, &state, epochs, sent)
+    tell(alloc, world, &state, tally.epochs, squashes, tally.sent)
 }
 
-// How far an epoch may go behind so many steps, and which thread is first.
-fn bounds_from(options: &Options, steps: u64, first: u16) -> Bounds
-    requires { steps < options.now.limit }
-    ensures steps { result.steps ≡ min options.now.epoch (options.now.limit - steps) }
-    ensures slice { result.slice ≡ options.now.slice }
-    ensures first { result.first ≡ first }
+// The squashed results, with one more if a round's last one was squashed.
+fn squashes_with(squashes: u32, squashed: bool) -> u32
+    requires { squashes < MAX_JOURNAL_BYTES }
+    ensures { result ≡ squashes + (if squashed then 1 else 0) }
 {
-    let left = options.limit - steps;
-    Bounds {
-        steps: left.min(u64::from(options.epoch)) as u32,
-        slice: options.slice,
-        first,
-    }
-}
-
-// The thread that is first behind these slices: one more than that of the last of them.
-fn next_first(first: u16, slices: &[Slice]) -> u16
-    requires { AllByRecursion (λ x. x.tid.0 < 65535) slices.now }
-    ensures { result ≡ first_behind first slices.now }
-{
-    let mut next = first;
-    for slice in slices {
-        next = slice.tid.0 + 1;
-    }
-    next
+    if squashed { squashes + 1 } else { squashes }
 }

@@ -14,17 +14,19 @@ use dp_report::{Report, line};
 use guest_kernel::State;
 use std::alloc::Global;
 
-// Sends the line of the report of a guest that has ended in this state, behind so many epochs and so many bytes sent.
+// Sends the line of the report of a guest that has ended in this state, after this many epochs, squashed results and
+// bytes sent.
 pub(crate) fn tell<W: World>(
     alloc: Global,
     world: &mut W,
     state: &State,
     epochs: u32,
+    squashes: u32,
     sent: u64,
 ) -> Result<Report, RecordFault>
     requires { IsEncodable state.now }
-    ensures told { IsTold (report_at epochs sent state.now) result }
-    ensures history { IfKnown (HasTold (report_at epochs sent state.now) result) (W.history world.old) (W.history world.new) }
+    ensures told { IsTold (report_at epochs squashes sent state.now) result }
+    ensures history { IfKnown (HasTold (report_at epochs squashes sent state.now) result) (W.history world.old) (W.history world.new) }
     ensures others { (input : ℕ) → MetNoOther result (W.disk_faults world.old) (W.disk_faults world.new)
         (W.sink_faults world.old) (W.sink_faults world.new) input input }
     ensures cause { IsErrOf result RecordFault.OutputFault →
@@ -34,7 +36,7 @@ pub(crate) fn tell<W: World>(
 {
     let report = Report {
         epochs,
-        squashes: 0,
+        squashes,
         steps: state.steps,
         sent,
         end: state.end,

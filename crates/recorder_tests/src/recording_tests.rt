@@ -3,11 +3,14 @@ ghost use Rattle.std.specs.Prelude.{◌<◌, ◌≤◌};
 
 use super::{EXITS_ENDED, WRITES_ENDED};
 use disk_mem::{Fails, MemInlet, MemWorld};
-use disk_model::Stream;
+use disk_model::{OpenGate, Stream};
 use dp_report::Report;
 use guest_kernel::{End, start_from_file};
+use racing_runner::IdleRacer;
 use recorder::{Options, RecordFault, record_};
+use std::alloc::Global;
 use std::test::Fail;
+use std::thread::Threads;
 use test_files::{EXITS, WRITES};
 use test_worlds::{Failing, letters_of, world_of};
 
@@ -61,21 +64,32 @@ fn look_at(world: &MemWorld, answer: Result<Report, RecordFault>, out: &[u8], no
 }
 
 // A recording of a guest in this world.
-fn recorded(
-    rt: &HostRuntime,
+fn recorded<R: Threads + Sync>(
+    rt: &R,
+    alloc: Global,
     guest: &[u8],
     options: Options,
     world: MemWorld,
 ) -> Result<(MemWorld, Result<Report, RecordFault>), Fail> {
-    let alloc = rt.alloc();
     let state = start_from_file(alloc, guest)?;
     let mut inlet = MemInlet::new(Vec::new(alloc), Vec::new(alloc), Fails::Never);
-    Ok(record_(rt, alloc, world, &mut inlet, guest, state, options))
+    Ok(record_(
+        rt,
+        alloc,
+        world,
+        &mut inlet,
+        guest,
+        state,
+        options,
+        &mut IdleRacer,
+        &OpenGate,
+    ))
 }
 
 // A recording where no call fails.
-fn came_to(
-    rt: &HostRuntime,
+fn came_to<R: Threads + Sync>(
+    rt: &R,
+    alloc: Global,
     guest: &[u8],
     options: Options,
     piece: u32,
@@ -83,16 +97,16 @@ fn came_to(
 ) -> Result<Came, Fail>
     requires { 0 < piece }
 {
-    let empty = world_of(rt.alloc(), Failing::Never, Failing::Never, piece)?;
-    let (after, answer) = recorded(rt, guest, options, empty)?;
+    let empty = world_of(alloc, Failing::Never, Failing::Never, piece)?;
+    let (after, answer) = recorded(rt, alloc, guest, options, empty)?;
     Ok(look_at(&after, answer, out, b""))
 }
 
 // Whether a recording of `WRITES` in epochs of one step makes these calls.
-fn makes_calls(rt: &HostRuntime, letters: &[u8]) -> Result<bool, Fail> {
-    let empty = world_of(rt.alloc(), Failing::Never, Failing::Never, 4096)?;
-    let (after, _) = recorded(rt, &WRITES, options(1, LIMIT, ROOM), empty)?;
-    let seen = letters_of(rt.alloc(), after.calls())?;
+fn makes_calls<R: Threads + Sync>(rt: &R, alloc: Global, letters: &[u8]) -> Result<bool, Fail> {
+    let empty = world_of(alloc, Failing::Never, Failing::Never, 4096)?;
+    let (after, _) = recorded(rt, alloc, &WRITES, options(1, LIMIT, ROOM), empty)?;
+    let seen = letters_of(alloc, after.calls())?;
     Ok(seen.as_slice() == letters)
 }
 
@@ -106,13 +120,20 @@ fn nine_epochs(rt: HostRuntime) -> Result<(), Fail> {
         end: End::Exit(0),
         state: WRITES_ENDED,
     };
-    let came = came_to(&rt, &WRITES, options(1, LIMIT, ROOM), 4096, b"hi\n")?;
+    let came = came_to(
+        &rt,
+        rt.alloc(),
+        &WRITES,
+        options(1, LIMIT, ROOM),
+        4096,
+        b"hi\n",
+    )?;
     assert_eq!(rt; came.answer, Ok(all));
     assert_eq!(rt; (came.journal, came.is_sent), (314, true));
     // The length, the header's three writes, and four calls an epoch. The sixth sends its output behind them, and the
     // last call sends the note.
     let letters = b"LWSWSWSWSWSWSWSWSWSWSWSWSWSWSWSEWSWSWSWSWSWSE";
-    assert!(rt; makes_calls(&rt, letters)?);
+    assert!(rt; makes_calls(&rt, rt.alloc(), letters)?);
     Ok(())
 }
 
@@ -127,7 +148,14 @@ fn one_epoch(rt: HostRuntime) -> Result<(), Fail> {
         state: WRITES_ENDED,
     };
     // In pieces of two bytes.
-    let came = came_to(&rt, &WRITES, options(20_000, LIMIT, ROOM), 2, b"hi\n")?;
+    let came = came_to(
+        &rt,
+        rt.alloc(),
+        &WRITES,
+        options(20_000, LIMIT, ROOM),
+        2,
+        b"hi\n",
+    )?;
     assert_eq!(rt; came.answer, Ok(all));
     assert_eq!(rt; (came.journal, came.is_sent), (154, true));
     // Eleven calls on the disk, two emits of output, and 59 of the note of 117 bytes.
@@ -159,7 +187,7 @@ fn limits_and_rooms(rt: HostRuntime) -> Result<(), Fail> {
         (options(20_000, LIMIT, 105), full(0, 106), 0),
     ];
     for (options, answer, len) in cases {
-        let came = came_to(&rt, &EXITS, options, 4096, b"")?;
+        let came = came_to(&rt, rt.alloc(), &EXITS, options, 4096, b"")?;
         let noted = if answer.is_ok() { 117 } else { 0 };
         assert_eq!(rt;
             (came.answer, came.journal, came.noted),
@@ -170,28 +198,29 @@ fn limits_and_rooms(rt: HostRuntime) -> Result<(), Fail> {
 }
 
 // Whether a recording of `EXITS` with a limit of two steps has these bytes in its journal from 111 on.
-fn has_slices(rt: &HostRuntime, wanted: &[u8]) -> Result<bool, Fail> {
-    let empty = world_of(rt.alloc(), Failing::Never, Failing::Never, 4096)?;
-    let (after, _) = recorded(rt, &EXITS, options(20_000, 2, ROOM), empty)?;
+fn has_slices<R: Threads + Sync>(rt: &R, alloc: Global, wanted: &[u8]) -> Result<bool, Fail> {
+    let empty = world_of(alloc, Failing::Never, Failing::Never, 4096)?;
+    let (after, _) = recorded(rt, alloc, &EXITS, options(20_000, 2, ROOM), empty)?;
     Ok(after.bytes().get(111..121) == Some(wanted))
 }
 
 // At a limit of two steps the epoch has one slice, of thread 1 and 2 steps.
 #[test]
 fn a_slice_at_the_limit(rt: HostRuntime) -> Result<(), Fail> {
-    assert!(rt; has_slices(&rt, &[1, 0, 0, 0, 1, 0, 2, 0, 0, 0])?);
+    assert!(rt; has_slices(&rt, rt.alloc(), &[1, 0, 0, 0, 1, 0, 2, 0, 0, 0])?);
     Ok(())
 }
 
 // What a recording in epochs of one step comes to, where some emits of one byte fail.
-fn emits_fail(
-    rt: &HostRuntime,
+fn emits_fail<R: Threads + Sync>(
+    rt: &R,
+    alloc: Global,
     sink: Failing,
     out: &[u8],
     note: &[u8],
 ) -> Result<(Result<Report, RecordFault>, (bool, bool), usize), Fail> {
-    let empty = world_of(rt.alloc(), Failing::Never, sink, 1)?;
-    let (after, answer) = recorded(rt, &WRITES, options(1, LIMIT, ROOM), empty)?;
+    let empty = world_of(alloc, Failing::Never, sink, 1)?;
+    let (after, answer) = recorded(rt, alloc, &WRITES, options(1, LIMIT, ROOM), empty)?;
     let came = look_at(&after, answer, out, note);
     Ok((came.answer, (came.is_sent, came.is_noted), came.journal))
 }
@@ -215,9 +244,9 @@ fn each_emit_fails(rt: HostRuntime) -> Result<(), Fail> {
         ),
     ];
     for (number, sent, noted, len) in cases {
-        let came = emits_fail(&rt, Failing::At(number), sent, noted)?;
+        let came = emits_fail(&rt, rt.alloc(), Failing::At(number), sent, noted)?;
         assert_eq!(rt; came, (fault, (true, true), len), "emit {number}");
-        let came = emits_fail(&rt, Failing::From(number), sent, noted)?;
+        let came = emits_fail(&rt, rt.alloc(), Failing::From(number), sent, noted)?;
         assert_eq!(rt; came, (fault, (true, true), len), "emits from {number}");
     }
     Ok(())
@@ -229,12 +258,13 @@ fn is_open(journal: &[u8], gate: usize) -> bool {
 
 // What a recording in epochs of one step comes to, where some calls on the disk fail: how many bytes were sent on Out and on Note,
 // and whether the sixth epoch's gate is open.
-fn calls_fail(
-    rt: &HostRuntime,
+fn calls_fail<R: Threads + Sync>(
+    rt: &R,
+    alloc: Global,
     disk: Failing,
 ) -> Result<(Result<Report, RecordFault>, (usize, usize), bool), Fail> {
-    let empty = world_of(rt.alloc(), disk, Failing::Never, 4096)?;
-    let (after, answer) = recorded(rt, &WRITES, options(1, LIMIT, ROOM), empty)?;
+    let empty = world_of(alloc, disk, Failing::Never, 4096)?;
+    let (after, answer) = recorded(rt, alloc, &WRITES, options(1, LIMIT, ROOM), empty)?;
     let came = look_at(&after, answer, b"", b"");
     let opened = is_open(after.bytes(), 133 + 20 * 5);
     Ok((came.answer, (came.sent, came.noted), opened))
@@ -248,9 +278,9 @@ fn each_disk_call_fails(rt: HostRuntime) -> Result<(), Fail> {
     for number in 1..=43 {
         // What fails is not done: a record's gate is open once the call that opens it is behind.
         let sent = (if number > 31 { 3 } else { 0 }, 0);
-        let came = calls_fail(&rt, Failing::At(number))?;
+        let came = calls_fail(&rt, rt.alloc(), Failing::At(number))?;
         assert_eq!(rt; came, (fault, sent, number > 30), "call {number}");
-        let came = calls_fail(&rt, Failing::From(number))?;
+        let came = calls_fail(&rt, rt.alloc(), Failing::From(number))?;
         assert_eq!(rt; came, (fault, sent, number > 30), "calls from {number}");
     }
     Ok(())

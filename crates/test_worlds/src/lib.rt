@@ -4,12 +4,10 @@
 mod failing;
 mod givens;
 mod letters;
-mod running;
 
 pub use failing::{Failing, disk_of, fails_of, world_of};
 pub use givens::{file_named, inlet_of, texts_of};
 pub use letters::letters_of;
-pub use running::Running;
 
 #[cfg(test)]
 mod tests;

@@ -8,7 +8,7 @@ use Rattle.dp_top.proofs.top.run.Goals as goal
 pub returns-clause-complete : goal.returns-clause-complete
 returns-clause-complete g c = λ asked names empty file input disk sink.
     let did = c.do_command-world.ensures in
-    complete c.args.words.now _ _ _ _ _ c.do_command-world.result.1 did.did asked names empty
+    complete (g.Q.Racer.tells c.args.racer.now) c.args.words.now _ _ _ _ _ c.do_command-world.result.1 did.did asked names empty
     (λ is. file (did.guest_fault is))
     (λ is. input (did.input_fault is))
     (λ is. disk (rose_same _ _ _ c.emit_fault.ensures.disk (did.disk_fault is)))
@@ -28,7 +28,7 @@ returns-clause-ran g c =
     )
 
 pub returns-clause-every_moment : goal.returns-clause-every_moment
-returns-clause-every_moment g c = λ asked. command_moments c.args.words.now _ _ _ _ _ _ c.do_command-world.result.1 _ c.do_command-world.ensures.did c.emit_fault.ensures.history asked
+returns-clause-every_moment g c = λ asked. command_moments (g.Q.Racer.tells c.args.racer.now) c.args.words.now _ _ _ _ _ _ c.do_command-world.result.1 _ c.do_command-world.ensures.did c.emit_fault.ensures.history asked
 
 pub returns-clause-still : goal.returns-clause-still
 returns-clause-still g c = λ why. still_throughout _ _ _ c.do_command-world.result.1 _ (ap g.W.World.history (c.do_command-world.ensures.no_call why)) c.emit_fault.ensures.history

@@ -4,7 +4,7 @@ use Rattle.dp_base.specs.Journal.{epoch_body}
 use Rattle.epoch_record.specs.Epoch.{epoch_of}
 use Rattle.journal_text.specs.Records.{epoch, record_in}
 use Rattle.journal_text.specs.View.{IsRecordBody}
-use Rattle.recorder.proofs.next_epoch.frame_of.Goals as goal
+use Rattle.recorder.proofs.results.frame_of.Goals as goal
 
 pub of-requires : goal.of-requires
 of-requires c =

@@ -1,0 +1,243 @@
+-- A racer that tells its offers leaves no choice, and one that offers nothing runs rounds of one job.
+use Rattle.std.proofs.Common.{◌≡◌, ◌≢◌, ◌⊎◌, inl, inr, ℕ, ◌-◌, ◌<◌, Bool, true, false, List, [], ◌∷◌, ◌++◌, length, map, take, Option, Some, refl, sym, ◌∙◌, ap, subst, append_assoc, arith}
+use Rattle.std.proofs.Math.Seq.{take-nil}
+use Rattle.std.proofs.lemmas.List.{append-nil}
+use Rattle.commit_core.specs.JudgedRound.{AreLinked, IsJudged, RoundEnd, over, squashed}
+use Rattle.dp_base.specs.Journal as journals
+use Rattle.epoch_record.specs.Epoch.{epoch_of}
+use Rattle.epoch_runner.specs.Answering.{can_step}
+use Rattle.epoch_runner.specs.declared.bounds.Bounds.{Bounds}
+use Rattle.epoch_runner.specs.declared.epoch_run.EpochRun.{EpochRun}
+use Rattle.epoch_runner.specs.declared.epoch_run.Ran.{Ran}
+use Rattle.epoch_runner.specs.declared.epoch_run.Ran.TheVariants.{Epoch, Idle}
+use Rattle.epoch_runner.specs.Running.{HasRun, HasRunEpoch}
+use Rattle.guest_kernel.specs.declared.state.State.{State}
+use Rattle.racing_runner.specs.declared.offer.Offer.{Offer}
+use Rattle.racing_runner.specs.declared.plan.Plan.{Plan}
+use Rattle.racing_runner.specs.Offers.{IfTold, Tells}
+use Rattle.recorder.specs.declared.options.Options.{Options}
+use Rattle.recorder.specs.Drawing.{Draw, Round, draws_of, epochs_of, supply_behind, supply_of}
+use Rattle.recorder.specs.Machine.{epochs_of_runs}
+use Rattle.recorder.specs.Racing.{AreResults, IsRaced, bounds_for, plan_of}
+use Rattle.recorder.specs.Recording.{BeginsWith, EachIsNext, EachIsRound, IsNext, IsRound, Run, RunOn, TellsAll, draws, draws_on, epochs, first_after, first_behind, first_next, is_squash, supply}
+use Rattle.recorder.proofs.Alike.{IsDetermined}
+use Rattle.recorder.proofs.RunLists.{epochs-append, first-append}
+use Rattle.supply.specs.Supplied.{Supplied, empty}
+use Rattle.supply.specs.declared.TheConstants.{MAX_ROOM}
+use Rattle.sync_hints.specs.declared.hints.Hints.{Hints}
+use Rattle.sync_hints.specs.NoHints.{no_hints}
+
+abbrev IsSame : Ran → Ran → Type 0
+IsSame (Epoch r) (Epoch q) = (r.start ≡ q.start) × (epoch_of r.epoch ≡ epoch_of q.epoch) × (r.end ≡ q.end)
+IsSame (Idle s) (Idle t) = s ≡ t
+IsSame (Epoch r) (Idle t) = ⊥
+IsSame (Idle s) (Epoch q) = ⊥
+
+abbrev AreSame : List Ran → List Ran → Type 0
+AreSame [] [] = Unit {0}
+AreSame (x ∷ xs) (y ∷ ys) = IsSame x y × AreSame xs ys
+AreSame [] (y ∷ ys) = ⊥
+AreSame (x ∷ xs) [] = ⊥
+
+module _ (law : IsDetermined) (options : Options) (w : Supplied) where
+  -- an epoch is run or it isn't
+  never : (s : State) (b : Bounds) → 0 < b.steps → can_step s w ≡ true → (b.steps ≡ 0) ⊎ (can_step s w ≡ false) → ⊥
+  never s b some can (inl none) = omega (arith, some, none)
+  never s b some can (inr not) = let bad : true ≡ false = sym can ∙ not in cc
+
+  one_result : (s : State) (hints : Hints) (b : Bounds) (x y : Ran) → HasRun s hints w b x → HasRun s hints w b y → IsSame x y
+  one_result s hints b (Epoch r) (Epoch q) is there =
+      let same = law s hints w b (epoch_of r.epoch) (epoch_of q.epoch) r.out q.out r.end q.end is.scheduled there.scheduled in
+      (is.from ∙ sym there.from, same.0, same.2)
+  one_result s hints b (Idle t) (Idle u) is there = is.same ∙ sym there.same
+  one_result s hints b (Epoch r) (Idle u) is there = absurd (never s b is.some_steps is.could_step there.why)
+  one_result s hints b (Idle t) (Epoch q) is there = absurd (never s b there.some_steps there.could_step is.why)
+
+  all_results : (first : ℕ) (s : State) (offers : List Offer) (xs ys : List Ran) → AreResults options first s offers w xs → AreResults options first s offers w ys → AreSame xs ys
+  all_results first s [] [] ys is there = absurd is
+  all_results first s [] (x ∷ z ∷ xs) ys is there = absurd is
+  all_results first s [] (x ∷ []) [] is there = absurd there
+  all_results first s [] (x ∷ []) (y ∷ z ∷ ys) is there = absurd there
+  all_results first s [] (x ∷ []) (y ∷ []) is there = (one_result s no_hints (bounds_for options first s) x y is there, tt)
+  all_results first s (o ∷ offers) [] ys is there = absurd is
+  all_results first s (o ∷ offers) (x ∷ xs) [] is there = absurd there
+  all_results first s (o ∷ offers) (x ∷ xs) (y ∷ ys) is there = (one_result s o.hints (bounds_for options first s) x y is.0 there.0, all_results 1 o.next offers xs ys is.1 there.1)
+
+-- ---- judged
+
+abbrev AreEqual : List EpochRun → State → RoundEnd → List EpochRun → State → RoundEnd → Type 0
+AreEqual runs t stop others u other = (epochs_of_runs runs ≡ epochs_of_runs others) × (t ≡ u) × (stop ≡ other)
+
+same_judged : (s : State) (xs ys : List Ran) (runs others : List EpochRun) (t u : State) (stop other : RoundEnd) → AreSame xs ys → IsJudged s xs runs t stop → IsJudged s ys others u other → AreEqual runs t stop others u other
+same_judged s [] [] [] [] t u stop other same is there = (refl, is.0 ∙ sym there.0, is.1 ∙ sym there.1)
+same_judged s (Epoch r ∷ xs) (Epoch q ∷ ys) (x ∷ runs) (y ∷ others) t u stop other same is there =
+    let rest = same_judged r.end xs ys runs others t u stop other same.1 is.1.1
+    (subst (λ (z : State). IsJudged z ys others u other) (sym same.0.2) there.1.1) in
+    let first : epoch_of x.epoch ≡ epoch_of y.epoch = ap (λ (z : EpochRun). epoch_of z.epoch) is.1.0 ∙ same.0.1 ∙ ap (λ (z : EpochRun). epoch_of z.epoch) (sym there.1.0) in
+    (ap (λ (e : journals.Epoch). e ∷ epochs_of_runs runs) first ∙ ap (λ (l : List journals.Epoch). epoch_of y.epoch ∷ l) rest.0, rest.1, rest.2)
+same_judged s (Epoch r ∷ xs) (Epoch q ∷ ys) [] [] t u stop other same is there = (refl, is.1.0 ∙ sym there.1.0, is.1.1 ∙ sym there.1.1)
+same_judged s (Epoch r ∷ xs) (Epoch q ∷ ys) (x ∷ runs) [] t u stop other same is there = absurd (there.0 (sym same.0.0 ∙ is.0))
+same_judged s (Epoch r ∷ xs) (Epoch q ∷ ys) [] (y ∷ others) t u stop other same is there = absurd (is.0 (same.0.0 ∙ there.0))
+same_judged s (Idle x ∷ xs) (Idle y ∷ ys) [] [] t u stop other same is there = (refl, is.0 ∙ sym there.0, by_start is.1 there.1)
+  where
+    by_start : ((x ≡ s) × (stop ≡ over)) ⊎ ((x ≢ s) × (stop ≡ squashed)) → ((y ≡ s) × (other ≡ over)) ⊎ ((y ≢ s) × (other ≡ squashed)) → stop ≡ other
+    by_start (inl p) (inl o) = p.1 ∙ sym o.1
+    by_start (inr p) (inr o) = p.1 ∙ sym o.1
+    by_start (inl p) (inr o) = absurd (o.0 (sym same.0 ∙ p.0))
+    by_start (inr p) (inl o) = absurd (p.0 (same.0 ∙ o.0))
+same_judged s (Idle x ∷ xs) (Idle y ∷ ys) (z ∷ runs) others t u stop other same is there = absurd is
+same_judged s (Idle x ∷ xs) (Idle y ∷ ys) [] (z ∷ others) t u stop other same is there = absurd there
+same_judged s [] [] (z ∷ runs) others t u stop other same is there = absurd is
+same_judged s [] [] [] (z ∷ others) t u stop other same is there = absurd there
+same_judged s [] (y ∷ ys) runs others t u stop other same is there = absurd same
+same_judged s (x ∷ xs) [] runs others t u stop other same is there = absurd same
+same_judged s (Epoch r ∷ xs) (Idle y ∷ ys) runs others t u stop other same is there = absurd same.0
+same_judged s (Idle x ∷ xs) (Epoch q ∷ ys) runs others t u stop other same is there = absurd same.0
+
+-- ---- rounds
+
+told_by : (o : Option (List Offer)) (list : List Offer) (P : List Offer → Type 0) → o ≡ Some list → IfTold o P → P list
+told_by o list P is h = subst (λ (x : Option (List Offer)). IfTold x P) is h
+
+module _ (law : IsDetermined) (options : Options) where
+  one_round : (tells : Tells) → TellsAll tells → (first : ℕ) (s : State) (w : Supplied) (r q : Round) (t u : State) (after other : Tells) → IsRound tells options first s w r t after → IsRound tells options first s w q u other
+      → (r.epochs ≡ q.epochs) × (t ≡ u) × (r.squashed ≡ q.squashed) × (after ≡ tells) × (other ≡ tells)
+  one_round tells all_told first s w r q t u after other a b =
+      let list : List Offer = (all_told s w (plan_of options first s)).0 in
+      let told = (all_told s w (plan_of options first s)).1 in
+      let offers : a.raced.offers ≡ b.raced.offers = told_by (tells s w (plan_of options first s)) list (λ l. a.raced.offers ≡ take (options.ahead - 1) l) told a.raced.told
+      ∙ sym (told_by (tells s w (plan_of options first s)) list (λ l. b.raced.offers ≡ take (options.ahead - 1) l) told b.raced.told) in
+      let same = all_results law options w first s a.raced.offers a.results b.results a.raced.are_results
+      (subst (λ (l : List Offer). AreResults options first s l w b.results) (sym offers) b.raced.are_results) in
+      let judged = same_judged s a.results b.results a.runs b.runs t u a.stop b.stop same a.judged b.judged in (
+        a.epochs_are ∙ judged.0 ∙ sym b.epochs_are,
+        judged.1,
+        a.squashed_is ∙ ap is_squash judged.2 ∙ sym b.squashed_is,
+        told_by (tells s w (plan_of options first s)) list (λ l. after ≡ tells) told a.raced.same,
+        told_by (tells s w (plan_of options first s)) list (λ l. other ≡ tells) told b.raced.same,
+      )
+
+  same_round : (r q : Round) → r.draw ≡ q.draw → r.epochs ≡ q.epochs → r.squashed ≡ q.squashed → r ≡ q
+  same_round r q a b c =
+      ap (λ (x : Draw). record { draw = x; epochs = r.epochs; squashed = r.squashed }) a ∙ ap (λ (x : List journals.Epoch). record { draw = q.draw; epochs = x; squashed = r.squashed }) b
+      ∙ ap (λ (x : Bool). record { draw = q.draw; epochs = q.epochs; squashed = x }) c
+
+  -- a longer run that drew the same at first has the same rounds at first
+  pub split_rounds : (tells : Tells) → TellsAll tells → (first : ℕ) (s : State) (w : Supplied) (xs ys : List Round) (t u : State) (after other : Tells) (more : List Draw) → draws_of ys ≡ draws_of xs ++ more
+      → EachIsRound tells options first s w xs t after → EachIsRound tells options first s w ys u other
+      → (zs : List Round) × (ys ≡ xs ++ zs) × (draws_of zs ≡ more) × (after ≡ tells) × EachIsRound tells options (first_after first (epochs_of xs)) t (supply_behind w (draws_of xs)) zs u other
+  split_rounds tells all_told first s w [] ys t u after other more draws a b =
+      (ys, refl, draws, a.1, subst (λ (z : State). EachIsRound tells options first z w ys u other) (sym a.0) b)
+  split_rounds tells all_told first s w (x ∷ xs) [] t u after other more draws a b = absurd cc
+  split_rounds tells all_told first s w (x ∷ xs) (y ∷ ys) t u after other more draws a b =
+      let draw : x.draw ≡ y.draw = cc in
+      let later : draws_of ys ≡ draws_of xs ++ more = cc in
+      let is : IsRound tells options first s (supply_of w x.draw) y b.2 b.3 = subst (λ (d : Draw). IsRound tells options first s (supply_of w d) y b.2 b.3) (sym draw) b.4 in
+      let same = one_round tells all_told first s (supply_of w x.draw) x y a.2 b.2 a.3 b.3 a.4 is in
+      let mine = subst (λ (k : Tells). EachIsRound k options (first_after first x.epochs) a.2 (supply_of w x.draw) xs t after) same.3 a.5 in
+      let theirs = subst (λ (k : Tells). EachIsRound k options (first_after first y.epochs) b.2 (supply_of w y.draw) ys u other) same.4 b.5 in
+      let moved = subst (λ (d : Draw). EachIsRound tells options (first_after first y.epochs) b.2 (supply_of w d) ys u other) (sym draw) theirs in
+      let from = subst (λ (z : State). EachIsRound tells options (first_after first y.epochs) z (supply_of w x.draw) ys u other) (sym same.1) moved in
+      let there = subst (λ (l : List journals.Epoch). EachIsRound tells options (first_after first l) a.2 (supply_of w x.draw) ys u other) (sym same.0) from in
+      let rest = split_rounds tells all_told (first_after first x.epochs) a.2 (supply_of w x.draw) xs ys t u after other more later mine there in (
+        rest.0,
+        ap (λ (r : Round). r ∷ ys) (sym (same_round x y draw same.0 same.2)) ∙ ap (λ (l : List Round). x ∷ l) rest.1,
+        rest.2,
+        rest.3,
+        subst (λ (n : ℕ). EachIsRound tells options n t (supply_behind (supply_of w x.draw) (draws_of xs)) rest.0 u other) (sym (first-append first x.epochs (epochs_of xs))) rest.4,
+      )
+
+  -- the same draws leave the same rounds
+  pub all_rounds : (tells : Tells) → TellsAll tells → (first : ℕ) (s : State) (w : Supplied) (xs ys : List Round) (t u : State) (after other : Tells) → draws_of xs ≡ draws_of ys
+      → EachIsRound tells options first s w xs t after → EachIsRound tells options first s w ys u other → (xs ≡ ys) × (t ≡ u)
+  all_rounds tells all_told first s w xs ys t u after other draws a b =
+      let split = split_rounds tells all_told first s w xs ys t u after other [] (sym draws ∙ sym (append-nil (draws_of xs))) a b in
+      none split.0 (first_after first (epochs_of xs)) (supply_behind w (draws_of xs)) split.1 split.2 split.4
+    where
+      none : (zs : List Round) (n : ℕ) (v : Supplied) → ys ≡ xs ++ zs → draws_of zs ≡ [] → EachIsRound tells options n t v zs u other → (xs ≡ ys) × (t ≡ u)
+      none [] n v is bare each = (sym (is ∙ append-nil xs), sym each.0)
+      none (z ∷ zs) n v is bare each = absurd cc
+
+  -- ---- a round that isn't over
+
+  front_of : (s : State) (runs : List EpochRun) (rest ys : List Ran) (others : List EpochRun) (t u : State) (stop : RoundEnd) → AreSame (map Epoch runs ++ rest) ys → AreLinked s runs t → IsJudged s ys others u stop
+      → BeginsWith (epochs_of_runs others) (epochs_of_runs runs)
+  front_of s [] rest ys others t u stop same linked judged = (epochs_of_runs others, refl)
+  front_of s (r ∷ runs) rest [] others t u stop same linked judged = absurd same
+  front_of s (r ∷ runs) rest (Idle y ∷ ys) others t u stop same linked judged = absurd same.0
+  front_of s (r ∷ runs) rest (Epoch q ∷ ys) [] t u stop same linked judged = absurd (judged.0 (sym same.0.0 ∙ linked.0))
+  front_of s (r ∷ runs) rest (Epoch q ∷ ys) (x ∷ others) t u stop same linked judged =
+      let more = front_of r.end runs rest ys others t u stop same.1 linked.1 (subst (λ (z : State). IsJudged z ys others u stop) (sym same.0.2) judged.1.1) in
+      let first : epoch_of x.epoch ≡ epoch_of r.epoch = ap (λ (z : EpochRun). epoch_of z.epoch) judged.1.0 ∙ sym same.0.1 in
+      (more.0, ap (λ (e : journals.Epoch). e ∷ epochs_of_runs others) first ∙ ap (λ (l : List journals.Epoch). epoch_of r.epoch ∷ l) more.1)
+
+  module _ (start : State) (tells : Tells) (all_told : TellsAll tells) (on : RunOn tells options start) (q : Run tells options start) (later : List Draw) (draws_are : draws q ≡ draws_on on ++ later) where
+    -- its committed epochs, these or one more, are the first ones of a run that drew the same
+    pub committed_first : (runs : List EpochRun) (rest : List Ran) (end : State) → on.results ≡ map Epoch runs ++ rest → AreLinked on.run.end runs end → BeginsWith (epochs q) (epochs on.run ++ epochs_of_runs runs)
+    committed_first runs rest end all linked = by_rounds split.0 split.1 split.2 split.4
+      where
+        split : (zs : List Round) × (q.rounds ≡ on.run.rounds ++ zs) × (draws_of zs ≡ on.draw ∷ later) × (on.run.racer ≡ tells) × EachIsRound tells options (first_next on.run) on.run.end (supply on.run) zs q.end q.racer
+        split = split_rounds tells all_told 1 start (empty MAX_ROOM) on.run.rounds q.rounds on.run.end q.end on.run.racer q.racer (on.draw ∷ later) (draws_are ∙ append_assoc (draws on.run) (on.draw ∷ []) later) on.run.each q.each
+
+        by_rounds : (zs : List Round) → q.rounds ≡ on.run.rounds ++ zs → draws_of zs ≡ on.draw ∷ later → EachIsRound tells options (first_next on.run) on.run.end (supply on.run) zs q.end q.racer
+            → BeginsWith (epochs q) (epochs on.run ++ epochs_of_runs runs)
+        by_rounds [] is drew each = absurd cc
+        by_rounds (z ∷ zs) is drew each =
+            let draw : z.draw ≡ on.draw = cc in
+            let w : Supplied = supply_of (supply on.run) on.draw in
+            let s : State = on.run.end in
+            let first : ℕ = first_next on.run in
+            let mine : IsRaced tells options first s w on.results on.after = subst (λ (k : Tells). IsRaced k options first s w on.results on.after) split.3 on.raced in
+            let theirs : IsRound tells options first s w z each.2 each.3 = subst (λ (d : Draw). IsRound tells options first s (supply_of (supply on.run) d) z each.2 each.3) draw each.4 in
+            let told = (all_told s w (plan_of options first s)) in
+            let offers : mine.offers ≡ theirs.raced.offers = told_by (tells s w (plan_of options first s)) told.0 (λ l. mine.offers ≡ take (options.ahead - 1) l) told.1 mine.told
+            ∙ sym (told_by (tells s w (plan_of options first s)) told.0 (λ l. theirs.raced.offers ≡ take (options.ahead - 1) l) told.1 theirs.raced.told) in
+            let same = all_results law options w first s mine.offers on.results theirs.results mine.are_results
+            (subst (λ (l : List Offer). AreResults options first s l w theirs.results) (sym offers) theirs.raced.are_results) in
+            let front = front_of s runs rest theirs.results theirs.runs end each.2 theirs.stop (subst (λ (l : List Ran). AreSame l theirs.results) all same) linked theirs.judged in (
+              front.0 ++ epochs_of zs,
+              ap (λ (l : List Round). epochs_of l) is ∙ epochs-append on.run.rounds (z ∷ zs)
+                  ∙ ap (λ (l : List journals.Epoch). epochs on.run ++ (l ++ epochs_of zs)) (theirs.epochs_are ∙ front.1)
+                  ∙ ap (λ (l : List journals.Epoch). epochs on.run ++ l) (append_assoc (epochs_of_runs runs) front.0 (epochs_of zs))
+                  ∙ sym (append_assoc (epochs on.run) (epochs_of_runs runs) (front.0 ++ epochs_of zs)),
+            )
+
+-- ---- a racer that offers nothing
+
+module _ (options : Options) (tells : Tells) (idle : (s : State) (w : Supplied) (p : Plan) → tells s w p ≡ Some []) where
+  no_offers : (o : List Offer) → o ≡ take (options.ahead - 1) [] → o ≡ []
+  no_offers o is = is ∙ take-nil (options.ahead - 1)
+
+  next_of : (first : ℕ) (s : State) (w : Supplied) (r : EpochRun) → HasRunEpoch s no_hints w (bounds_for options first s) r → IsNext options first s w (epoch_of r.epoch) r.end r.out
+  next_of first s w r is = record { bounds = bounds_for options first s; steps = refl; slice = refl; first_is = refl; scheduled = is.scheduled; is_epoch = is.runs.is_epoch; fits = is.runs.fits }
+
+  -- a round of one job
+  one_job : (first : ℕ) (s t : State) (w : Supplied) (r : Round) (results : List Ran) (runs : List EpochRun) (stop : RoundEnd) → AreResults options first s [] w results → IsJudged s results runs t stop → 0 < length runs
+      → r.epochs ≡ epochs_of_runs runs → r.squashed ≡ is_squash stop → (e : journals.Epoch) × (output : List ℕ) × (r.epochs ≡ e ∷ []) × (r.squashed ≡ false) × IsNext options first s w e t output
+  one_job first s t w r [] runs stop are judged some epochs_are squash = absurd are
+  one_job first s t w r (x ∷ y ∷ results) runs stop are judged some epochs_are squash = absurd are
+  one_job first s t w r (x ∷ []) [] stop are judged some epochs_are squash = absurd (omega (arith, some))
+  one_job first s t w r (Idle x ∷ []) (y ∷ runs) stop are judged some epochs_are squash = absurd judged
+  one_job first s t w r (Epoch q ∷ []) (x ∷ y ∷ runs) stop are judged some epochs_are squash = absurd judged.1.1
+  one_job first s t w r (Epoch q ∷ []) (x ∷ []) stop are judged some epochs_are squash = (
+    epoch_of q.epoch,
+    q.out,
+    epochs_are ∙ ap (λ (z : EpochRun). epoch_of z.epoch ∷ []) judged.1.0,
+    squash ∙ ap is_squash judged.1.1.1,
+    subst (λ (z : State). IsNext options first s w (epoch_of q.epoch) z q.out) (sym judged.1.1.0) (next_of first s w q are),
+  )
+
+  idle_again : (mid : Tells) → mid ≡ tells → (s : State) (w : Supplied) (p : Plan) → mid s w p ≡ Some []
+  idle_again mid same s w p = ap (λ (k : Tells). k s w p) same ∙ idle s w p
+
+  pub each_one : (first : ℕ) (s t : State) (w : Supplied) (rounds : List Round) (after : Tells) → EachIsRound tells options first s w rounds t after → EachIsNext options first s w rounds
+  each_one first s t w [] after each = tt
+  each_one first s t w (r ∷ rounds) after each =
+      let is = each.4 in
+      let none : is.raced.offers ≡ [] = no_offers is.raced.offers (told_by (tells s (supply_of w r.draw) (plan_of options first s)) [] (λ l. is.raced.offers ≡ take (options.ahead - 1) l) (idle s (supply_of w r.draw) (plan_of options first s)) is.raced.told) in
+      let same : each.3 ≡ tells = told_by (tells s (supply_of w r.draw) (plan_of options first s)) [] (λ l. each.3 ≡ tells) (idle s (supply_of w r.draw) (plan_of options first s)) is.raced.same in
+      let one = one_job first s each.2 (supply_of w r.draw) r is.results is.runs is.stop
+      (subst (λ (l : List Offer). AreResults options first s l (supply_of w r.draw) is.results) none is.raced.are_results) is.judged is.some is.epochs_are is.squashed_is in
+      let rest = subst (λ (k : Tells). EachIsRound k options (first_after first r.epochs) each.2 (supply_of w r.draw) rounds t after) same each.5 in
+      let there = subst (λ (l : List journals.Epoch). EachIsRound tells options (first_after first l) each.2 (supply_of w r.draw) rounds t after) one.2 rest in
+      (one.0, each.2, one.1, one.2, one.3, each.1, one.4, each_one (first_behind first one.0.slices) each.2 t (supply_of w r.draw) rounds after there)

@@ -1,0 +1,322 @@
+-- What was committed and drawn so far, when a round draws, and when an epoch more is committed.
+use Rattle.std.proofs.Common.{◌≡◌, ℕ, ◌+◌, ◌<◌, ◌≤◌, Bool, true, false, List, [], ◌∷◌, ◌++◌, length, take, Option, Ok, Err, refl, sym, ap, subst, ◌∙◌, append_assoc, arith}
+use Rattle.std.proofs.lemmas.List.{append-nil, length-append, length_push}
+use Rattle.std.specs.List.{AllByRecursion, list_any}
+use Rattle.std.specs.Prelude.{◌&&◌, not}
+use Rattle.dp_base.specs.declared.answer.Answer.{Answer}
+use Rattle.dp_base.specs.declared.slice.Slice.{Slice}
+use Rattle.dp_base.specs.Encoding.{IsPrefixOf}
+use Rattle.dp_base.specs.Journal.{Epoch, epoch_body, frame, steps_of}
+use Rattle.dp_base.proofs.Lists.{all_append}
+use Rattle.disk_model.specs.History.{History}
+use Rattle.disk_model.specs.Input.{IfInput, Input, IsLast}
+use Rattle.disk_model.specs.Known.{IfKnown}
+use Rattle.disk_model.specs.Moments.{Always}
+use Rattle.disk_model.proofs.Knowing.{known-both, known-map, known-then}
+use Rattle.epoch_journal.specs.Appending.{IsAppend, RecordWritten}
+use Rattle.epoch_journal.specs.Standing.{Journal, Stands}
+use Rattle.epoch_journal.proofs.AtRest.{shut-of}
+use Rattle.epoch_journal.proofs.OnDisk.{length-journal-push}
+use Rattle.epoch_record.specs.Epoch.{epoch_of}
+use Rattle.epoch_runner.specs.Answering.{can_step, input_due, is_ready}
+use Rattle.epoch_runner.specs.declared.bounds.Bounds.{Bounds}
+use Rattle.epoch_runner.specs.declared.epoch_run.EpochRun.{EpochRun}
+use Rattle.epoch_runner.specs.Running.{HasRunEpoch}
+use Rattle.epoch_runner.specs.Supplying.{IsSuppliedBy}
+use Rattle.guest_kernel.specs.declared.state.State.{State}
+use Rattle.guest_kernel.specs.Call.{After}
+use Rattle.guest_kernel.specs.Slices.{at, chain}
+use Rattle.guest_kernel.specs.State.{has_ended}
+use Rattle.journal_text.specs.Reading.{journal_of}
+use Rattle.journal_text.specs.Records.{IsRecord, Record, epoch}
+use Rattle.recorder.specs.Committing.{Committed, EachCommitted, HasCommitted}
+use Rattle.recorder.specs.declared.commit.CommitFault.{CommitFault}
+use Rattle.recorder.specs.declared.commit.CommitFault.TheVariants as commits
+use Rattle.recorder.specs.declared.tally.Tally.{Tally}
+use Rattle.recorder.specs.EpochLaws.{EpochLaws}
+use Rattle.recorder.specs.Drawing.{Draw, Drew, HasDrawn, IsHonestSince, answers_in, readings_since, supply_of}
+use Rattle.recorder.specs.Keeping.{AlwaysPartly, CanGoOn, IsDrawn, Kept, Setting}
+use Rattle.recorder.specs.Moments.{EachMoment, HoldsAt}
+use Rattle.recorder.specs.Racing.{bounds_for, epoch_steps}
+use Rattle.recorder.specs.Recording.{GoesOn, HasRoom, IsInterrupted, IsRecorded, first_behind, records_of}
+use Rattle.recorder.proofs.Drawings.{TakeLaws, drawn_more, has_drawn, taken_more}
+use Rattle.recorder.proofs.Moments.{append_left, appends_partly, commits_partly, each_moment}
+use Rattle.recorder.proofs.RunLists.{answers_are-push, answers_in-push, first_after-push, low_numbers, positive_steps, records-push}
+use Rattle.supply.specs.Supplied.{IsSupply, Supplied, end_of, refilled}
+use Rattle.sync_hints.specs.declared.hints.Hints.{Hints}
+
+-- ---- what a round draws
+
+-- what a round has drawn, and the supply with which it runs its epochs
+pub record HasDrawnRound (w : Supplied) (state : State) (there later : Option Input) (with_ : Supplied) : Type 0 where
+  pub draw : Draw
+  pub due : draw.due ≡ input_due state w
+  pub is : with_ ≡ supply_of w draw
+  pub drew : IfInput (Drew draw) there later
+  pub used : draw.due ≡ true → (state.input ≡ end_of w) × (w.ended ≡ false)
+  pub is_supply : IsSupply with_
+
+pub room_kept : (w : Supplied) (due : Bool) (bytes : List ℕ) (reading : ℕ) → (supply_of w (record { due = due; taken = bytes; reading = reading })).room ≡ w.room
+room_kept w true bytes reading = refl
+room_kept w false bytes reading = refl
+
+pub still_placed : (w : Supplied) (place : ℕ) (due : Bool) (bytes : List ℕ) (reading : ℕ) → w.place ≤ place → place ≤ end_of w → (due ≡ true → place ≡ end_of w)
+    → let with_ = supply_of w (record { due = due; taken = bytes; reading = reading }) in (with_.place ≤ place) × (place ≤ end_of with_)
+still_placed w place true bytes reading placed inside used = let at_end = used refl in (omega (arith, at_end), omega (arith, at_end))
+still_placed w place false bytes reading placed inside used = (placed, inside)
+
+pub round_of : (w : Supplied) (state : State) (there later : Option Input) (with_ : Supplied)
+    → (d : Draw) × (d.due ≡ input_due state w) × (with_ ≡ supply_of w d) × IfInput (Drew d) there later
+    → (input_due state w ≡ true → (state.input ≡ end_of w) × (w.ended ≡ false)) → IsSupply with_ → HasDrawnRound w state there later with_
+round_of w state there later with_ drew used is_supply =
+    record { draw = drew.0; due = drew.1; is = drew.2; drew = drew.3; used = λ e. used (sym drew.1 ∙ e); is_supply = is_supply }
+
+-- with what it has drawn a guest can step
+can_go : (s : State) (w : Supplied) (due : Bool) (bytes : List ℕ) (reading : ℕ) → due ≡ input_due s w
+    → (input_due s w ≡ false → can_step s w ≡ true)
+    → ((more : List ℕ) (stamp : ℕ) → input_due s w ≡ true → can_step s (record (refilled more w) { stamp = stamp }) ≡ true)
+    → ((stamp : ℕ) → can_step s (record w { stamp = stamp }) ≡ can_step s w)
+    → can_step s (supply_of w (record { due = due; taken = bytes; reading = reading })) ≡ true
+can_go s w true bytes reading is ready refills stamps = refills bytes reading (sym is)
+can_go s w false bytes reading is ready refills stamps = stamps reading ∙ ready (sym is)
+
+pub round_goes : (s : State) (w : Supplied) (there later : Option Input) (with_ : Supplied) → HasDrawnRound w s there later with_
+    → (input_due s w ≡ false → can_step s w ≡ true)
+    → ((more : List ℕ) (stamp : ℕ) → input_due s w ≡ true → can_step s (record (refilled more w) { stamp = stamp }) ≡ true)
+    → ((stamp : ℕ) → can_step s (record w { stamp = stamp }) ≡ can_step s w) → can_step s with_ ≡ true
+round_goes s w there later with_ round ready refills stamps =
+    ap (can_step s) round.is ∙ can_go s w round.draw.due round.draw.taken round.draw.reading round.due ready refills stamps
+
+module _ (a : Setting) (there : Option Input) (now : Option History) (E : List Epoch) (D : List Draw) (output : List ℕ) (state : State) (w : Supplied) (j : Journal) (tally : Tally) (kept : Kept a there now E D output state w j tally) where
+  pub fits_still : HasRoom a.guest a.options E
+  fits_still = omega (arith, kept.fits, kept.place_is, kept.room_is)
+
+  pub drawn_still : IfInput (HasDrawn D (answers_in E)) a.given there
+  drawn_still = known-map (IsDrawn w state.input D (answers_in E)) (HasDrawn D (answers_in E)) a.given there
+      (λ s t is. has_drawn w state.input D (answers_in E) s t is)
+      kept.drawn
+
+  honest_of : (later : Option Input) (draws : List Draw) → IfInput (HasDrawn draws (answers_in E)) a.given later → IfInput (IsHonestSince (answers_in E)) a.given later
+  honest_of later draws drawn = known-map (HasDrawn draws (answers_in E)) (IsHonestSince (answers_in E)) a.given later (λ s t h. h.1) drawn
+
+  -- every moment so far
+  pub moments_now : (later : Option Input) → later ≡ there → EachMoment a.guest a.start a.given later a.before now
+  moments_now later same =
+      let honest = honest_of there D drawn_still in
+      each_moment a.guest a.start E a.given later (subst (λ (o : Option Input). IfInput (IsHonestSince (answers_in E)) a.given o) (sym same) honest) a.before now kept.moments
+
+  -- ---- a round draws
+
+  module _ (laws : TakeLaws) (later : Option Input) (with_ : Supplied) (round : HasDrawnRound w state there later with_) where
+    placed_still : (with_.place ≤ state.input) × (state.input ≤ end_of with_)
+    placed_still = subst (λ (x : Supplied). (x.place ≤ state.input) × (state.input ≤ end_of x)) (sym round.is)
+        (still_placed w state.input round.draw.due round.draw.taken round.draw.reading kept.placed kept.inside (λ e. (round.used e).0))
+
+    abbrev DrawnSo : Input → Input → Type 0
+    DrawnSo s t = IsDrawn (supply_of w round.draw) state.input (D ++ round.draw ∷ []) (answers_in E) s t × IsLast round.draw.reading (readings_since s t)
+
+    with_round : IfInput DrawnSo a.given later
+    with_round = known-then (IsDrawn w state.input D (answers_in E)) (Drew round.draw) DrawnSo a.given there later
+        (λ s t u d b. drawn_more laws w state.input D (answers_in E) round.draw s t u d (λ e. (round.used e).1) b)
+        kept.drawn round.drew
+
+    pub kept_drawn : Kept a later now E (D ++ round.draw ∷ []) output state with_ j tally
+    kept_drawn = record {
+      is_guest = kept.is_guest;
+      chained = kept.chained;
+      counted = kept.counted;
+      goes_on = kept.goes_on;
+      is_supply = round.is_supply;
+      some_room = ap (λ (x : Supplied). x.room) round.is ∙ room_kept w round.draw.due round.draw.taken round.draw.reading ∙ kept.some_room;
+      placed = placed_still.0;
+      inside = placed_still.1;
+      little_input = kept.little_input;
+      are_answers = kept.are_answers;
+      are_records = kept.are_records;
+      drawn = known-map DrawnSo (IsDrawn with_ state.input (D ++ round.draw ∷ []) (answers_in E)) a.given later
+          (λ s t d. subst (λ (x : Supplied). IsDrawn x state.input (D ++ round.draw ∷ []) (answers_in E) s t) (sym round.is) d.0)
+          with_round;
+      history = kept.history;
+      moments = kept.moments;
+      place_is = kept.place_is;
+      room_is = kept.room_is;
+      fits = kept.fits;
+      works = kept.works;
+      first_is = kept.first_is;
+      count = kept.count;
+      few = kept.few;
+      sent_is = kept.sent_is;
+      little = kept.little;
+    }
+
+    pub last_drawn : IfInput (λ s t. IsLast with_.stamp (readings_since s t)) a.given later
+    last_drawn = known-map DrawnSo (λ s t. IsLast with_.stamp (readings_since s t)) a.given later
+        (λ s t d. subst (λ (n : ℕ). IsLast n (readings_since s t)) (sym (ap (λ (x : Supplied). x.stamp) round.is)) d.1)
+        with_round
+
+  -- ---- an epoch is run from here
+
+  module _ (laws : EpochLaws) (last : IfInput (λ s t. IsLast w.stamp (readings_since s t)) a.given there) (first : ℕ) (hints : Hints) (r : EpochRun) (is : HasRunEpoch state hints w (bounds_for a.options first state) r) where
+    abbrev e : Epoch
+    e = epoch_of r.epoch
+
+    abbrev bounds : Bounds
+    bounds = bounds_for a.options first state
+
+    abbrev end_at : After
+    end_at = at r.end r.out []
+
+    supplied : IsSuppliedBy w state.input r.end.input e.answers
+    supplied = laws.supplied state hints w bounds e r.out r.end is.scheduled kept.placed kept.inside
+
+    longer : chain a.start (E ++ e ∷ []) ≡ Ok (r.end, output ++ r.out)
+    longer = laws.more a.start E e state output end_at kept.chained is.runs.ran
+
+    some_steps : 0 < steps_of e.slices
+    some_steps = positive_steps e.slices is.runs.is_epoch.slices is.runs.is_epoch.some_slice
+
+    few_steps : steps_of e.slices ≤ epoch_steps a.options state
+    few_steps = laws.few state hints w bounds e r.out r.end is.scheduled
+
+    left : state.steps < a.options.limit
+    left = omega (arith, some_steps, few_steps)
+
+    pub steps_more : state.steps < r.end.steps
+    steps_more = omega (arith, is.runs.counted, some_steps)
+
+    goes_on_there : CanGoOn r.end
+    goes_on_there = laws.goes_on state e.slices e.answers end_at is.runs.ran kept.goes_on
+
+    pub low : AllByRecursion (λ (x : Slice). x.tid.0 < 65535) e.slices
+    low = low_numbers e.slices (length r.end.threads) is.runs.is_epoch.slices (laws.made state e.slices e.answers end_at is.runs.ran) goes_on_there.few.made
+
+    -- the guest may go on from here
+    not_ended : (ended other : Bool) → (not ended && other) ≡ true → ended ≡ false
+    not_ended true other h = absurd cc
+    not_ended false other h = refl
+
+    pub may_go_on : GoesOn a.options state
+    may_go_on = (not_ended (has_ended state.end) (list_any (is_ready state w) state.threads) is.could_step, left)
+
+    drawn_more_ : IfInput (IsDrawn w r.end.input D (answers_in (E ++ e ∷ []))) a.given there
+    drawn_more_ = known-map _ _ a.given there
+        (λ s t d. subst (λ (l : List Answer). IsDrawn w r.end.input D l s t) (sym (answers_in-push E e))
+        (taken_more w state.input r.end.input D (answers_in E) e.answers s t d.0 kept.placed supplied d.1))
+        (known-both (IsDrawn w state.input D (answers_in E)) (λ s t. IsLast w.stamp (readings_since s t)) a.given there kept.drawn last)
+
+    pub drawn_epoch : IfInput (HasDrawn D (answers_in (E ++ e ∷ []))) a.given there
+    drawn_epoch = known-map _ _ a.given there (λ s t d. has_drawn w r.end.input D (answers_in (E ++ e ∷ [])) s t d) drawn_more_
+
+    honest_there : IfInput (IsHonestSince (answers_in (E ++ e ∷ []))) a.given there
+    honest_there = known-map (HasDrawn D (answers_in (E ++ e ∷ []))) (IsHonestSince (answers_in (E ++ e ∷ []))) a.given there (λ s t h. h.1) drawn_epoch
+
+    records_there : AllByRecursion IsRecord (records_of E ++ epoch e ∷ [])
+    records_there = all_append IsRecord (records_of E) (epoch e ∷ []) kept.are_records ((is.runs.is_epoch, is.runs.fits.1), tt)
+
+    pub size_more : length (journal_of a.guest (records_of (E ++ e ∷ []))) ≡ length (journal_of a.guest (records_of E)) + length (frame (epoch_body e))
+    size_more = ap (λ (l : List Record). length (journal_of a.guest l)) (records-push E e) ∙ length-journal-push a.guest (records_of E) (epoch e)
+
+    stands_more : (u : History) → Stands a.guest (records_of E ++ epoch e ∷ []) u → Stands a.guest (records_of (E ++ e ∷ [])) u
+    stands_more u stands = subst (λ (l : List Record). Stands a.guest l u) (sym (records-push E e)) stands
+
+    -- ---- its commit
+
+    module _ (added : List ℕ) (framed : added ≡ frame (epoch_body e)) (j' : Journal) (behind : Option History) where
+      appends_there : (s t : History) → IsRecorded a.guest E output [] s t → IsAppend j.end added t a.guest (records_of E) (epoch e)
+      appends_there s t recorded = record { stands = shut-of a.guest (records_of E) t recorded.stands; at_end = kept.place_is ∙ ap (λ (l : List ℕ). length l) (sym recorded.stands.disk); framed = framed }
+
+      while_committed : IfKnown (EachCommitted j added r.out) now behind → IfKnown (AlwaysPartly a.guest a.start (E ++ e ∷ [])) a.before behind
+      while_committed known = known-then _ _ _ _ _ _
+          (λ s t u x k empty_ synced. commits_partly a.guest a.start E e state r.end output r.out kept.chained longer (records-push E e) s t x.0.sent u (x.1 empty_ synced)
+          ((k a.guest (records_of E) (epoch e) (appends_there s t x.0)).moments kept.is_guest records_there))
+          (known-both _ _ _ _ kept.history kept.moments) known
+
+      while_appended : IfKnown (RecordWritten j.end added false) now behind → IfKnown (AlwaysPartly a.guest a.start (E ++ e ∷ [])) a.before behind
+      while_appended known = known-then _ _ _ _ _ _
+          (λ s t u x k empty_ synced. appends_partly a.guest a.start E e state r.end output r.out kept.chained longer (records-push E e) s t x.0.sent u (x.1 empty_ synced)
+          ((k.1 a.guest (records_of E) (epoch e) (appends_there s t x.0)).moments kept.is_guest records_there))
+          (known-both _ _ _ _ kept.history kept.moments) known
+
+      pub commit_failed_moments : (fault : CommitFault) → HasCommitted j (length added) j' (Err fault) → IfKnown (Committed j added r.out (Err fault)) now behind
+          → EachMoment a.guest a.start a.given there a.before behind
+      commit_failed_moments commits.DiskFault numbers known =
+          each_moment a.guest a.start (E ++ e ∷ []) a.given there honest_there a.before behind (while_appended known)
+      commit_failed_moments (commits.Full end_ need) numbers known = known-then _ _ _ _ _ _
+          (λ s t u x k empty_ synced. subst (λ (h : History). Always (HoldsAt a.guest a.start a.given there s) s h) (sym k) (x empty_ synced)) (moments_now there refl) known
+      commit_failed_moments (commits.Failed last_) numbers known = absurd (let bad = sym numbers.0 ∙ kept.works in cc)
+      commit_failed_moments commits.OutputFault numbers known =
+          each_moment a.guest a.start (E ++ e ∷ []) a.given there honest_there a.before behind (while_committed (known-map _ _ _ _ (λ s t k. k.2) known))
+
+      pub interrupted : IfKnown (Committed j added r.out (Err commits.DiskFault)) now behind → IfKnown (IsInterrupted a.guest E output e) a.before behind
+      interrupted known = known-then _ _ _ _ _ _
+          (λ s t u x k. record {
+            empty = x.empty;
+            sent = k.0.sent ∙ x.sent;
+            noted = k.0.noted ∙ x.noted ∙ append-nil s.noted;
+            synced = subst (λ (l : List ℕ). IsPrefixOf l u.pending.synced) x.stands.disk ((k.1 a.guest (records_of E) (epoch e) (appends_there s t x)).kept refl);
+            left = append_left a.guest E e (records-push E e) t u ((k.1 a.guest (records_of E) (epoch e) (appends_there s t x)).moments kept.is_guest records_there);
+          })
+          kept.history known
+
+      pub cut_off : IfKnown (Committed j added r.out (Err commits.OutputFault)) now behind
+          → IfKnown (λ s t. (count : ℕ) × IsRecorded a.guest (E ++ e ∷ []) (output ++ take count r.out) [] s t) a.before behind
+      cut_off known = known-then _ _ _ _ _ _
+          (λ s t u x k.
+          let made = k.2 a.guest (records_of E) (epoch e) (appends_there s t x) in (
+            k.0.0,
+            record {
+              empty = x.empty;
+              stands = stands_more u made.stands;
+              sent = k.0.1 ∙ ap (λ (l : List ℕ). l ++ take k.0.0 r.out) x.sent ∙ append_assoc s.sent output (take k.0.0 r.out);
+              noted = k.1 ∙ x.noted;
+            },
+          ))
+          kept.history known
+
+      pub untouched : behind ≡ now → IfKnown (IsRecorded a.guest E output []) a.before behind
+      untouched same = subst (λ (h : Option History). IfKnown (IsRecorded a.guest E output []) a.before h) (sym same) kept.history
+
+      pub not_added : (end_ need : ℕ) → IfKnown (Committed j added r.out (Err (commits.Full end_ need))) now behind → IfKnown (IsRecorded a.guest E output []) a.before behind
+      not_added end_ need known = known-then _ _ _ _ _ _ (λ s t u x k. subst (λ (h : History). IsRecorded a.guest E output [] s h) (sym k) x) kept.history known
+
+      -- it was committed
+      pub kept_committed : 0 < length added → HasCommitted j (length added) j' (Ok tt) → IfKnown (Committed j added r.out (Ok tt)) now behind → (tally' : Tally)
+          → tally'.first ≡ first_behind tally.first e.slices → tally'.epochs ≡ tally.epochs + 1 → tally'.sent ≡ tally.sent + length r.out
+          → Kept a there behind (E ++ e ∷ []) D (output ++ r.out) r.end w j' tally'
+      kept_committed some numbers known tally' first_is epochs_are sent_is =
+          let end_is : j'.end ≡ j.end + length added = ap (λ (k : Journal). k.end) numbers.2 in
+          let little = laws.writes state hints w bounds e r.out r.end is.scheduled in
+          record {
+            is_guest = kept.is_guest;
+            chained = longer;
+            counted = omega (arith, is.runs.counted, few_steps, left);
+            goes_on = goes_on_there;
+            is_supply = kept.is_supply;
+            some_room = kept.some_room;
+            placed = omega (arith, kept.placed, supplied.moves);
+            inside = supplied.within;
+            little_input = omega (arith, laws.reads state e.slices e.answers end_at is.runs.ran, is.runs.counted, kept.little_input);
+            are_answers = answers_are-push E e kept.are_answers is.runs.is_epoch.answers;
+            are_records = subst (λ (l : List Record). AllByRecursion IsRecord l) (sym (records-push E e)) records_there;
+            drawn = drawn_more_;
+            history = known-then _ _ _ _ _ _
+                (λ s t u x k.
+                let made = k.2 a.guest (records_of E) (epoch e) (appends_there s t x) in
+                record {
+                  empty = x.empty;
+                  stands = stands_more u made.stands;
+                  sent = k.0 ∙ ap (λ (l : List ℕ). l ++ r.out) x.sent ∙ append_assoc s.sent output r.out;
+                  noted = k.1 ∙ x.noted;
+                })
+                kept.history known;
+            moments = while_committed (known-map _ _ _ _ (λ s t k. k.2) known);
+            place_is = omega (arith, end_is, size_more, kept.place_is, ap (λ (l : List ℕ). length l) framed);
+            room_is = ap (λ (k : Journal). k.room) numbers.2 ∙ kept.room_is;
+            fits = omega (arith, end_is, numbers.1, ap (λ (k : Journal). k.room) numbers.2);
+            works = ap (λ (k : Journal). k.failed) numbers.2 ∙ kept.works;
+            first_is = first_is ∙ ap (λ n. first_behind n e.slices) kept.first_is ∙ sym (first_after-push 1 E e);
+            count = omega (arith, kept.count, length_push E e, epochs_are);
+            few = omega (arith, end_is, kept.few, some, epochs_are);
+            sent_is = omega (arith, kept.sent_is, length-append output r.out, sent_is);
+            little = omega (arith, kept.little, little, sent_is, epochs_are);
+          }

@@ -1,0 +1,319 @@
+-- A round of a recording: it begins, an epoch of it is committed, it is over, or it stops.
+use Rattle.std.proofs.Common.{◌≡◌, inl, inr, ℕ, ◌+◌, ◌-◌, ◌<◌, ◌≤◌, Bool, true, false, if◌then◌else◌, List, [], ◌∷◌, ◌++◌, length, map, Option, Ok, Err, refl, sym, ap, subst, ◌∙◌, append_assoc, arith}
+use Rattle.std.proofs.lemmas.List.{append-nil, length-append, length-map, map_push}
+use Rattle.std.specs.List.{AllByRecursion, list_any}
+use Rattle.commit_core.specs.declared.stage.Stage.{Stage}
+use Rattle.commit_core.specs.declared.stage.Stage.TheVariants.{Judged, Taken}
+use Rattle.commit_core.specs.JudgedRound.{IsJudged, IsWithin, RoundEnd}
+use Rattle.commit_core.specs.Judging.{Core, fresh}
+use Rattle.disk_model.specs.History.{History}
+use Rattle.disk_model.specs.Input.{IfInput, Input}
+use Rattle.disk_model.specs.Known.{IfKnown}
+use Rattle.dp_base.specs.declared.slice.Slice.{Slice}
+use Rattle.dp_base.specs.Journal as journals
+use Rattle.dp_base.specs.Journal.{epoch_body, frame}
+use Rattle.epoch_journal.specs.Standing.{Journal}
+use Rattle.epoch_record.specs.Epoch.{epoch_of}
+use Rattle.epoch_runner.specs.Answering.{can_step, input_due}
+use Rattle.epoch_runner.specs.declared.epoch_run.EpochRun.{EpochRun}
+use Rattle.epoch_runner.specs.declared.epoch_run.Ran.{Ran}
+use Rattle.epoch_runner.specs.declared.epoch_run.Ran.TheVariants.{Epoch}
+use Rattle.epoch_runner.specs.Running.{HasRunEpoch}
+use Rattle.guest_kernel.specs.declared.state.State.{State}
+use Rattle.guest_kernel.specs.State.{has_ended}
+use Rattle.guest_kernel.specs.Threads.{is_running}
+use Rattle.dp_base.specs.declared.limits.TheConstants.{MAX_JOURNAL_BYTES}
+use Rattle.journal_text.specs.Reading.{journal_of}
+use Rattle.racing_runner.specs.Offers.{Tells}
+use Rattle.recorder.specs.Committing.{Committed, HasCommitted}
+use Rattle.recorder.specs.declared.commit.CommitFault.{CommitFault}
+use Rattle.recorder.specs.declared.commit.CommitFault.TheVariants as commits
+use Rattle.recorder.specs.declared.record_fault.RecordFault.{RecordFault}
+use Rattle.recorder.specs.declared.record_fault.RecordFault.TheVariants as faults
+use Rattle.recorder.specs.declared.tally.Tally.{Tally}
+use Rattle.recorder.specs.Drawing.{Draw, Drew, Round, draws_of, epochs_of, supply_behind, supply_of}
+use Rattle.recorder.specs.EpochLaws.{EpochLaws}
+use Rattle.recorder.specs.Faults.{MetNoOther, of_commit}
+use Rattle.recorder.specs.Keeping.{InRound, IsOver, IsStopped, Kept, RoundSays, Setting, SoFar, Within}
+use Rattle.recorder.specs.Machine.{epochs_of_runs}
+use Rattle.recorder.specs.Racing.{AreResults, IsRaced, bounds_for}
+use Rattle.recorder.specs.Recording.{HasRoom, IsRound, NextEpoch, Recorded, RunOn, draws, epochs, first_behind, first_next, is_squash, records_of, supply}
+use Rattle.recorder.proofs.Drawings.{TakeLaws}
+use Rattle.recorder.proofs.JobRuns.{cancel, commits_one, judged_links, next_run, same_end, starts_there}
+use Rattle.recorder.proofs.Keeps.{HasDrawnRound, commit_failed_moments, cut_off, drawn_epoch, drawn_still, fits_still, interrupted, kept_committed, kept_drawn, last_drawn, low, may_go_on, moments_now, not_added, round_goes, round_of, size_more, steps_more}
+use Rattle.recorder.proofs.RunLists.{draws-push, each-push, epochs-push, few_squashes, squashes-push, supply-push}
+use Rattle.recorder.proofs.Stops.{run_so_far}
+use Rattle.supply.specs.Supplied.{IsSupply, Supplied, empty, end_of, refilled}
+use Rattle.supply.specs.declared.TheConstants.{MAX_ROOM}
+use Rattle.sync_hints.specs.declared.hints.Hints.{Hints}
+
+-- ---- what the laws of the crates below say of a round's beginning
+
+pub record StepLaws : Type 0 where
+  pub ready : (s : State) (w : Supplied) → has_ended s.end ≡ false → list_any is_running s.threads ≡ true → input_due s w ≡ false → can_step s w ≡ true
+  pub used_up : (s : State) (w : Supplied) → IsSupply w → w.place ≤ s.input → s.input ≤ end_of w → input_due s w ≡ true → (s.input ≡ end_of w) × (w.ended ≡ false)
+  pub refilled_ : (s : State) (w : Supplied) (bytes : List ℕ) (stamp : ℕ) → w.place ≤ s.input → s.input ≤ end_of w → input_due s w ≡ true → can_step s (record (refilled bytes w) { stamp = stamp }) ≡ true
+  pub stamped : (s : State) (w : Supplied) (stamp : ℕ) → can_step s (record w { stamp = stamp }) ≡ can_step s w
+
+abbrev pub Starts : Type 0
+Starts = (s : State) (results : List Ran) (core : Core) → core.committed ≡ s → core.jobs ≡ map Taken results → core.judged ≡ 0 → core.closed ≡ false → IsWithin s results [] core
+
+-- ---- a round begins
+
+pub begins : (a : Setting) (there later : Option Input) (now : Option History) (racer after : Tells) (state : State) (w with_ : Supplied) (j : Journal) (tally : Tally) (count : ℕ) (so_far : SoFar a there now racer state w j tally count)
+    → TakeLaws → HasDrawnRound w state there later with_ → has_ended state.end ≡ false → state.steps < a.options.limit → can_step state with_ ≡ true → (results : List Ran)
+    → IsRaced racer a.options tally.first state with_ results after → (core : Core) → IsWithin state results [] core → core.committed ≡ state
+    → Within (record { setting = a; later = later; racer = after; supply = with_; from = state; squashes = count }) now core j tally
+begins a there later now racer after state w with_ j tally count so_far laws round going left can results raced core judged at_start =
+    let run_ = run_so_far a there now racer state w j tally count so_far in
+    let kept = kept_drawn a there now (epochs_of so_far.rounds) (draws_of so_far.rounds) so_far.output state w j tally so_far.kept laws later with_ round in
+    record {
+      run = run_;
+      from_is = refl;
+      squashes_is = so_far.squashes_is;
+      goes_on = (going, left);
+      draw = round.draw;
+      due = round.due ∙ ap (input_due state) so_far.supply_is;
+      supply_is = round.is ∙ ap (λ (x : Supplied). supply_of x round.draw) so_far.supply_is;
+      can = can;
+      results = results;
+      raced = subst (λ (n : ℕ). IsRaced racer a.options n state with_ results after) so_far.kept.first_is raced;
+      runs = [];
+      judged = judged;
+      output = so_far.output;
+      kept = subst (λ (l : List journals.Epoch). Kept a later now l (draws_of so_far.rounds ++ round.draw ∷ []) so_far.output core.committed with_ j tally) (sym (append-nil (epochs_of so_far.rounds)))
+          (subst (λ (s : State). Kept a later now (epochs_of so_far.rounds) (draws_of so_far.rounds ++ round.draw ∷ []) so_far.output s with_ j tally) (sym at_start) kept);
+      last = last_drawn a there now (epochs_of so_far.rounds) (draws_of so_far.rounds) so_far.output state w j tally so_far.kept laws later with_ round;
+      longer = omega (arith, ap (λ (s : State). s.steps) at_start);
+    }
+
+module _ (laws : StepLaws) (a : Setting) (there later : Option Input) (now : Option History) (racer : Tells) (state : State) (w with_ : Supplied) (j : Journal) (tally : Tally) (count : ℕ) (so_far : SoFar a there now racer state w j tally count)
+    (drew : (d : Draw) × (d.due ≡ input_due state w) × (with_ ≡ supply_of w d) × IfInput (Drew d) there later) (is_supply : IsSupply with_) where
+  abbrev pub drawn_by : HasDrawnRound w state there later with_
+  drawn_by = round_of w state there later with_ drew (laws.used_up state w so_far.kept.is_supply so_far.kept.placed so_far.kept.inside) is_supply
+
+  pub begins_by : TakeLaws → Starts → has_ended state.end ≡ false → state.steps < a.options.limit → (after : Tells) (results : List Ran) → IsRaced racer a.options tally.first state with_ results after
+      → (core : Core) → core ≡ record (fresh state (length results)) { jobs = map Taken results }
+      → Within (record { setting = a; later = later; racer = after; supply = with_; from = state; squashes = count }) now core j tally
+  begins_by takes starts going left after results raced core core_is =
+      let kept = so_far.kept in
+      let can = round_goes state w there later with_ drawn_by (laws.ready state w going (kept.goes_on.runs going))
+      (λ more stamp due. laws.refilled_ state w more stamp kept.placed kept.inside due) (λ stamp. laws.stamped state w stamp) in
+      let at_start : core.committed ≡ state = ap (λ (c : Core). c.committed) core_is in
+      let judged = starts state results core at_start (ap (λ (c : Core). c.jobs) core_is) (ap (λ (c : Core). c.judged) core_is) (ap (λ (c : Core). c.closed) core_is) in
+      begins a there later now racer after state w with_ j tally count so_far takes drawn_by going left can results raced core judged at_start
+
+pub over_by : (a : InRound) (now : Option History) (core : Core) (j : Journal) (tally : Tally) (b : Bool) → RoundSays a now core j tally (Ok b) → IsOver a (a.squashes + (if b then 1 else 0)) now core j tally
+over_by a now core j tally true says = says
+over_by a now core j tally false says = subst (λ (n : ℕ). IsOver a n now core j tally) (omega arith) says
+
+-- the faults of a round's commits are those of the recording
+pub met_same : (A B : Type 0) (e : RecordFault) (disk d disk_after sink s sink_after other input input_after : ℕ) → d ≡ disk → s ≡ sink → input_after ≡ input → MetNoOther {A = A} (Err e) d disk_after s sink_after other other
+    → MetNoOther {A = B} (Err e) disk disk_after sink sink_after input input_after
+met_same A B faults.DiskFault disk d disk_after sink s sink_after other input input_after same_disk same_sink same_input met = (met.0 ∙ same_sink, same_input)
+met_same A B faults.OutputFault disk d disk_after sink s sink_after other input input_after same_disk same_sink same_input met = (met.0 ∙ same_disk, same_input)
+met_same A B faults.InputFault disk d disk_after sink s sink_after other input input_after same_disk same_sink same_input met = (met.0 ∙ same_disk, met.1 ∙ same_sink)
+met_same A B (faults.JournalInUse len) disk d disk_after sink s sink_after other input input_after same_disk same_sink same_input met = (met.0 ∙ same_disk, met.1 ∙ same_sink, same_input)
+met_same A B (faults.StepLimit steps) disk d disk_after sink s sink_after other input input_after same_disk same_sink same_input met = (met.0 ∙ same_disk, met.1 ∙ same_sink, same_input)
+met_same A B (faults.JournalFull end need) disk d disk_after sink s sink_after other input input_after same_disk same_sink same_input met = (met.0 ∙ same_disk, met.1 ∙ same_sink, same_input)
+met_same A B faults.OutOfMemory disk d disk_after sink s sink_after other input input_after same_disk same_sink same_input met = (met.0 ∙ same_disk, met.1 ∙ same_sink, same_input)
+
+-- with what was squashed so far another may be counted
+pub squashes_fit : (a : Setting) (there : Option Input) (now : Option History) (racer : Tells) (state : State) (w : Supplied) (j : Journal) (tally : Tally) (count : ℕ) → SoFar a there now racer state w j tally count → count < MAX_JOURNAL_BYTES
+squashes_fit a there now racer state w j tally count so_far =
+    let few = few_squashes a.options a.tells racer 1 a.start state (empty MAX_ROOM) so_far.rounds so_far.each in
+    omega (arith, few, so_far.squashes_is, so_far.kept.count, so_far.kept.few, so_far.kept.fits, so_far.kept.room_is, a.options.room_range)
+
+module _ (a : InRound) (now : Option History) (core : Core) (j : Journal) (tally : Tally) (within : Within a now core j tally) where
+  abbrev E : List journals.Epoch
+  E = epochs within.run ++ epochs_of_runs within.runs
+
+  abbrev D : List Draw
+  D = draws within.run ++ within.draw ∷ []
+
+  -- ---- it is over
+
+  module _ (there : Core) (stop : RoundEnd) (judged : IsJudged within.run.end within.results within.runs there.committed stop) where
+    stays : core.committed ≡ there.committed
+    stays = same_end within.run.end core.committed there.committed within.runs within.judged.linked (judged_links within.run.end there.committed within.results within.runs stop judged)
+
+    one : 0 < length within.runs
+    one = commits_one a.setting.options within.run.end a.supply within.goes_on within.can (first_next within.run) within.raced.offers within.results within.runs there.committed stop within.raced.are_results judged
+
+    abbrev round_is : Round
+    round_is = record { draw = within.draw; epochs = epochs_of_runs within.runs; squashed = is_squash stop }
+
+    is_round : IsRound within.run.racer a.setting.options (first_next within.run) within.run.end (supply_of (supply within.run) within.draw) round_is there.committed a.racer
+    is_round = record {
+      results = within.results;
+      raced = subst (λ (x : Supplied). IsRaced within.run.racer a.setting.options (first_next within.run) within.run.end x within.results a.racer) within.supply_is within.raced;
+      runs = within.runs;
+      stop = stop;
+      judged = judged;
+      some = one;
+      epochs_are = refl;
+      squashed_is = refl;
+    }
+
+    rounds_are : epochs_of (within.run.rounds ++ round_is ∷ []) ≡ E
+    rounds_are = epochs-push within.run.rounds round_is
+
+    kept_there : Kept a.setting a.later now (epochs_of (within.run.rounds ++ round_is ∷ [])) (draws_of (within.run.rounds ++ round_is ∷ [])) within.output there.committed a.supply j tally
+    kept_there =
+        subst (λ (s : State). Kept a.setting a.later now (epochs_of (within.run.rounds ++ round_is ∷ [])) (draws_of (within.run.rounds ++ round_is ∷ [])) within.output s a.supply j tally) stays
+        (subst (λ (l : List Draw). Kept a.setting a.later now (epochs_of (within.run.rounds ++ round_is ∷ [])) l within.output core.committed a.supply j tally) (sym (draws-push within.run.rounds round_is))
+        (subst (λ (l : List journals.Epoch). Kept a.setting a.later now l D within.output core.committed a.supply j tally) (sym rounds_are) within.kept))
+
+    pub is_over : IsOver a (a.squashes + (if is_squash stop then 1 else 0)) now there j tally
+    is_over = (
+      record {
+        rounds = within.run.rounds ++ round_is ∷ [];
+        output = within.output;
+        each = each-push a.setting.options a.setting.tells within.run.racer a.racer 1 a.setting.start within.run.end there.committed (empty MAX_ROOM) within.run.rounds round_is within.run.each within.goes_on within.due is_round;
+        supply_is = within.supply_is ∙ sym (supply-push (empty MAX_ROOM) (draws_of within.run.rounds) within.draw) ∙ ap (supply_behind (empty MAX_ROOM)) (sym (draws-push within.run.rounds round_is));
+        squashes_is = omega (arith, within.squashes_is, squashes-push within.run.rounds round_is);
+        kept = kept_there;
+      },
+      omega (arith, one, within.longer, ap (λ (s : State). s.steps) within.from_is, ap (λ (s : State). s.steps) stays),
+    )
+
+  -- ---- the next result is an epoch from where the last one ended
+
+  module _ (laws : EpochLaws) (r : EpochRun) (there : Core) (next : IsWithin within.run.end within.results (within.runs ++ r ∷ []) there) (ends : there.committed ≡ r.end) where
+    rest_is : within.judged.rest ≡ Epoch r ∷ next.rest
+    rest_is = cancel within.runs r within.judged.rest next.rest (sym within.judged.all ∙ next.all)
+
+    starts : r.start ≡ core.committed
+    starts = starts_there within.run.end there.committed core.committed within.runs r next.linked within.judged.linked
+
+    abbrev job : (f : ℕ) × (hints : Hints) × HasRunEpoch core.committed hints a.supply (bounds_for a.setting.options f core.committed) r
+    job = next_run a.setting.options (first_next within.run) within.run.end within.raced.offers a.supply within.runs r next.rest core.committed
+        (subst (λ (l : List Ran). AreResults a.setting.options (first_next within.run) within.run.end within.raced.offers a.supply l) (within.judged.all ∙ ap (λ (l : List Ran). map Epoch within.runs ++ l) rest_is) within.raced.are_results) starts
+
+    abbrev e : journals.Epoch
+    e = epoch_of r.epoch
+
+    pub is_epoch : journals.IsEpoch e
+    is_epoch = job.2.runs.is_epoch
+
+    pub is_body : journals.IsBody (epoch_body e)
+    is_body = job.2.runs.fits
+
+    pub low_here : AllByRecursion (λ (x : Slice). x.tid.0 < 65535) e.slices
+    low_here = low a.setting a.later now E D within.output core.committed a.supply j tally within.kept laws within.last job.0 job.1 r job.2
+
+    abbrev on : RunOn a.setting.tells a.setting.options a.setting.start
+    on = record {
+      run = within.run;
+      goes_on = within.goes_on;
+      draw = within.draw;
+      due = within.due;
+      results = within.results;
+      after = a.racer;
+      raced = subst (λ (x : Supplied). IsRaced within.run.racer a.setting.options (first_next within.run) within.run.end x within.results a.racer) within.supply_is within.raced;
+      runs = within.runs;
+      rest = within.judged.rest;
+      all = within.judged.all;
+      end = core.committed;
+      linked = within.judged.linked;
+      output = within.output;
+      chained = within.kept.chained;
+    }
+
+    abbrev next_one : NextEpoch on
+    next_one = record {
+      goes_on = may_go_on a.setting a.later now E D within.output core.committed a.supply j tally within.kept laws within.last job.0 job.1 r job.2;
+      run = r;
+      more = next.rest;
+      next = rest_is;
+      starts = starts;
+    }
+
+    room_here : HasRoom a.setting.guest a.setting.options E
+    room_here = fits_still a.setting a.later now E D within.output core.committed a.supply j tally within.kept
+
+    -- memory ran out before it was appended
+    pub no_memory : IsStopped a now faults.OutOfMemory
+    no_memory = (
+      inr (inr (on, next_one, room_here, drawn_still a.setting a.later now E D within.output core.committed a.supply j tally within.kept, within.kept.history)),
+      moments_now a.setting a.later now E D within.output core.committed a.supply j tally within.kept a.later refl,
+    )
+
+    module _ (added : List ℕ) (framed : added ≡ frame (epoch_body e)) (j' : Journal) (behind : Option History) where
+      size_is : length (journal_of a.setting.guest (records_of (E ++ e ∷ []))) ≡ length (journal_of a.setting.guest (records_of E)) + length (frame (epoch_body e))
+      size_is = size_more a.setting a.later now E D within.output core.committed a.supply j tally within.kept laws within.last job.0 job.1 r job.2
+
+      -- it wasn't committed, or not sent whole
+      failed : (fault : CommitFault) → HasCommitted j (length added) j' (Err fault) → IfKnown (Committed j added r.out (Err fault)) now behind
+          → Recorded a.setting.guest a.setting.tells a.setting.start a.setting.options a.setting.given a.later a.setting.before behind (Err (of_commit fault))
+      failed commits.DiskFault numbers known = inr (
+        on,
+        next_one,
+        omega (arith, numbers.1, size_is, within.kept.place_is, within.kept.room_is, ap (λ (l : List ℕ). length l) framed),
+        drawn_still a.setting a.later now E D within.output core.committed a.supply j tally within.kept,
+        interrupted a.setting a.later now E D within.output core.committed a.supply j tally within.kept laws within.last job.0 job.1 r job.2 added framed j' behind known,
+      )
+      failed (commits.Full end_ need) numbers known = inr (
+        on,
+        next_one,
+        room_here,
+        numbers.1 ∙ within.kept.place_is,
+        numbers.2 ∙ ap (λ (l : List ℕ). length l) framed,
+        omega (arith, numbers.1, numbers.2, numbers.3, within.kept.room_is),
+        drawn_still a.setting a.later now E D within.output core.committed a.supply j tally within.kept,
+        not_added a.setting a.later now E D within.output core.committed a.supply j tally within.kept laws within.last job.0 job.1 r job.2 added framed j' behind end_ need known,
+      )
+      failed (commits.Failed last_) numbers known = absurd (let bad = sym numbers.0 ∙ within.kept.works in cc)
+      failed commits.OutputFault numbers known = inl (
+        on,
+        next_one,
+        omega (arith, numbers.1, size_is, within.kept.place_is, within.kept.room_is, ap (λ (l : List ℕ). length l) framed),
+        drawn_epoch a.setting a.later now E D within.output core.committed a.supply j tally within.kept laws within.last job.0 job.1 r job.2,
+        cut_off a.setting a.later now E D within.output core.committed a.supply j tally within.kept laws within.last job.0 job.1 r job.2 added framed j' behind known,
+      )
+
+      pub commit_failed : (fault : CommitFault) → HasCommitted j (length added) j' (Err fault) → IfKnown (Committed j added r.out (Err fault)) now behind → IsStopped a behind (of_commit fault)
+      commit_failed fault numbers known = (
+        failed fault numbers known,
+        commit_failed_moments a.setting a.later now E D within.output core.committed a.supply j tally within.kept laws within.last job.0 job.1 r job.2 added framed j' behind fault numbers known,
+      )
+
+      epochs_more : E ++ e ∷ [] ≡ epochs within.run ++ epochs_of_runs (within.runs ++ r ∷ [])
+      epochs_more = append_assoc (epochs within.run) (epochs_of_runs within.runs) (e ∷ []) ∙ ap (λ (l : List journals.Epoch). epochs within.run ++ l) (sym (map_push (λ (x : EpochRun). epoch_of x.epoch) within.runs r))
+
+      -- it was
+      pub committed : 0 < length added → HasCommitted j (length added) j' (Ok tt) → IfKnown (Committed j added r.out (Ok tt)) now behind → (tally' : Tally)
+          → tally'.first ≡ first_behind tally.first e.slices → tally'.epochs ≡ tally.epochs + 1 → tally'.sent ≡ tally.sent + length r.out → Within a behind there j' tally'
+      committed some numbers known tally' first_is epochs_are sent_is =
+          let kept = kept_committed a.setting a.later now E D within.output core.committed a.supply j tally within.kept laws within.last job.0 job.1 r job.2 added framed j' behind some numbers known tally' first_is epochs_are sent_is in
+          let more = steps_more a.setting a.later now E D within.output core.committed a.supply j tally within.kept laws within.last job.0 job.1 r job.2 in
+          record {
+            run = within.run;
+            from_is = within.from_is;
+            squashes_is = within.squashes_is;
+            goes_on = within.goes_on;
+            draw = within.draw;
+            due = within.due;
+            supply_is = within.supply_is;
+            can = within.can;
+            results = within.results;
+            raced = within.raced;
+            runs = within.runs ++ r ∷ [];
+            judged = next;
+            output = within.output ++ r.out;
+            kept = subst (λ (s : State). Kept a.setting a.later behind (epochs within.run ++ epochs_of_runs (within.runs ++ r ∷ [])) D (within.output ++ r.out) s a.supply j' tally') (sym ends)
+                (subst (λ (l : List journals.Epoch). Kept a.setting a.later behind l D (within.output ++ r.out) r.end a.supply j' tally') epochs_more kept);
+            last = within.last;
+            longer = omega (arith, within.longer, more, ap (λ (s : State). s.steps) ends, length-append within.runs (r ∷ []));
+          }
+
+    -- fewer results are left
+    pub fewer : length there.jobs - there.judged < length core.jobs - core.judged
+    fewer =
+        let jobs_are : length core.jobs ≡ length within.runs + length within.judged.rest =
+        ap (λ (l : List Stage). length l) within.judged.jobs ∙ length-append (map (λ (x : EpochRun). Judged) within.runs) (map Taken within.judged.rest)
+        ∙ omega (arith, length-map within.runs (λ (x : EpochRun). Judged), length-map within.judged.rest Taken) in
+        let jobs_there : length there.jobs ≡ length (within.runs ++ r ∷ []) + length next.rest =
+        ap (λ (l : List Stage). length l) next.jobs ∙ length-append (map (λ (x : EpochRun). Judged) (within.runs ++ r ∷ [])) (map Taken next.rest)
+        ∙ omega (arith, length-map (within.runs ++ r ∷ []) (λ (x : EpochRun). Judged), length-map next.rest Taken) in
+        omega (arith, jobs_are, jobs_there, within.judged.judged, next.judged, length-append within.runs (r ∷ []), ap (λ (l : List Ran). length l) rest_is)

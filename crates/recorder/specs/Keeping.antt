@@ -1,0 +1,201 @@
+-- What a recording is so far, between two rounds and within one. These serve the contracts of the crate's own steps. This project's own.
+use Rattle.std.specs.Prelude.{◌≡◌, ◌⊎◌, ◌<◌, ◌≤◌, ◌+◌, ◌-◌, ◌*◌, ℕ, Bool, true, false, List, [], ◌∷◌, ◌++◌, length, take, Option, Some, None, Result, Ok, Err, slice_get}
+use Rattle.std.specs.List.{AllByRecursion, list_any}
+use Rattle.commit_core.specs.JudgedRound.{IsWithin}
+use Rattle.commit_core.specs.Judging.{Core}
+use Rattle.commit_core.specs.declared.stage.Stage.TheVariants.{Taken}
+use Rattle.dp_base.specs.declared.answer.Answer.{Answer}
+use Rattle.dp_base.specs.declared.answer.Answer.TheVariants.{Read}
+use Rattle.dp_base.specs.declared.limits.TheConstants.{EPOCH_END_BYTES, MAX_CALL_BYTES}
+use Rattle.dp_base.specs.Encoding.{IsPrefixOf}
+use Rattle.dp_base.specs.Journal.{Epoch, IsAnswer, IsGuest}
+use Rattle.disk_model.specs.History.{History, IsSynced}
+use Rattle.disk_model.specs.Input.{IfInput, Input, IsLast, is_at_end}
+use Rattle.disk_model.specs.Known.{IfKnown}
+use Rattle.disk_model.specs.Moments.{Always}
+use Rattle.epoch_journal.specs.Images.{Reads}
+use Rattle.epoch_journal.specs.Standing.{Journal}
+use Rattle.epoch_runner.specs.Answering.{can_step, input_due}
+use Rattle.epoch_runner.specs.declared.epoch_run.EpochRun.{EpochRun}
+use Rattle.epoch_runner.specs.declared.epoch_run.Ran.{Ran}
+use Rattle.epoch_runner.specs.declared.epoch_run.Ran.TheVariants as rans
+use Rattle.guest_kernel.specs.Answers.{bytes_read, clock_readings}
+use Rattle.guest_kernel.specs.declared.state.State.{State}
+use Rattle.guest_kernel.specs.Slices.{chain}
+use Rattle.guest_kernel.specs.State.{has_ended}
+use Rattle.guest_kernel.specs.Threads.{AreFew, is_running}
+use Rattle.journal_text.specs.Reading.{journal_of, reads}
+use Rattle.journal_text.specs.Records.{IsRecord}
+use Rattle.racing_runner.specs.Offers.{Tells}
+use Rattle.recorder.specs.declared.options.Options.{Options}
+use Rattle.recorder.specs.declared.record_fault.RecordFault.{RecordFault}
+use Rattle.recorder.specs.declared.tally.Next.{Next}
+use Rattle.recorder.specs.declared.tally.Next.TheVariants.{Committed, Squashed, Over}
+use Rattle.recorder.specs.declared.tally.Tally.{Tally}
+use Rattle.recorder.specs.Drawing.{AreFound, Draw, DrewAll, Round, answers_in, draws_of, epochs_of, readings_since, squashes_of, supply_behind, supply_of}
+use Rattle.recorder.specs.Machine.{epochs_of_runs}
+use Rattle.recorder.specs.Moments.{EachMoment}
+use Rattle.recorder.specs.Racing.{IsRaced}
+use Rattle.recorder.specs.Recording.{EachIsRound, GoesOn, IsRecorded, Recorded, Run, draws, epochs, first_after, first_next, records_of, squashes, supply}
+use Rattle.supply.specs.Supplied.{IsLastOf, IsSupply, Supplied, empty, end_of}
+use Rattle.supply.specs.Windows.{bytes_left}
+use Rattle.supply.specs.declared.TheConstants.{MAX_ROOM}
+
+-- ---- what was drawn
+
+-- A supply's window is the last of what was given since the input was i. The answers read its first bytes.
+pub record IsDrawn (w : Supplied) (place : ℕ) (draws : List Draw) (answers : List Answer) (i j : Input) : Type 0 where
+  pub drew : DrewAll draws i j
+  pub given : List ℕ
+  pub given_is : j.given ≡ i.given ++ given
+  pub left_is : given ++ bytes_left j.left ≡ bytes_left i.left
+  pub last : IsLastOf w given
+  pub within : place ≤ length given
+  pub read : bytes_read answers ≡ take place given
+  pub ended : w.ended ≡ true → (j.ended ≡ true) × (is_at_end j.left ≡ true)
+  pub empties : (before after : List Answer) → answers ≡ before ++ Read [] ∷ after → (bytes_read before ≡ given) × (w.ended ≡ true)
+  pub kept : length i.readings ≤ length j.readings
+  pub clocks : AreFound (clock_readings answers) (readings_since i j)
+
+-- ---- every moment so far
+
+-- The journal has the first of these epochs, and of their output a prefix was sent.
+pub record IsFront (guest : List ℕ) (start : State) (epochs : List Epoch) (image said : List ℕ) : Type 0 where
+  pub front : List Epoch
+  pub rest : List Epoch
+  pub all : epochs ≡ front ++ rest
+  pub journal : Reads guest (records_of front) image
+  pub end : State
+  pub output : List ℕ
+  pub chained : chain start front ≡ Ok (end, output)
+  pub sent : IsPrefixOf said output
+
+abbrev pub IsPartly : (guest : List ℕ) → (start : State) → List Epoch → History → (image sent : List ℕ) → Type 0
+IsPartly guest start epochs before image sent =
+    (said : List ℕ) × (sent ≡ before.sent ++ said) × (((reads image ≡ None) × (said ≡ [])) ⊎ IsFront guest start epochs image said)
+
+abbrev pub AlwaysPartly : (guest : List ℕ) → (start : State) → List Epoch → History → History → Type 0
+AlwaysPartly guest start epochs s t = s.disk ≡ [] → IsSynced s → Always (IsPartly guest start epochs s) s t
+
+-- ---- the epochs so far
+
+-- a guest that hasn't ended has a thread that runs, and few were made
+pub record CanGoOn (s : State) : Type 0 where
+  pub runs : has_ended s.end ≡ false → list_any is_running s.threads ≡ true
+  pub few : AreFew s.threads
+
+abbrev pub AreAnswers : List Epoch → Type 0
+AreAnswers epochs = AllByRecursion (λ (e : Epoch). AllByRecursion IsAnswer e.answers) epochs
+
+-- what a recording has begun with
+pub record Setting : Type 0 where
+  pub guest : List ℕ
+  pub tells : Tells
+  pub options : Options
+  pub start : State
+  pub given : Option Input
+  pub before : Option History
+
+-- These epochs were committed and sent, and that was drawn.
+pub record Kept (a : Setting) (there : Option Input) (now : Option History) (epochs : List Epoch) (draws : List Draw) (output : List ℕ) (state : State) (w : Supplied) (j : Journal) (tally : Tally) : Type 0 where
+  pub is_guest : IsGuest a.guest
+  pub chained : chain a.start epochs ≡ Ok (state, output)
+  pub counted : state.steps ≤ a.options.limit
+  pub goes_on : CanGoOn state
+  pub is_supply : IsSupply w
+  pub some_room : w.room ≡ MAX_ROOM
+  pub placed : w.place ≤ state.input
+  pub inside : state.input ≤ end_of w
+  pub little_input : state.input ≤ MAX_CALL_BYTES * state.steps
+  pub are_answers : AreAnswers epochs
+  pub are_records : AllByRecursion IsRecord (records_of epochs)
+  pub drawn : IfInput (IsDrawn w state.input draws (answers_in epochs)) a.given there
+  pub history : IfKnown (IsRecorded a.guest epochs output []) a.before now
+  pub moments : IfKnown (AlwaysPartly a.guest a.start epochs) a.before now
+  pub place_is : j.end ≡ length (journal_of a.guest (records_of epochs))
+  pub room_is : j.room ≡ a.options.room
+  pub fits : j.end ≤ j.room
+  pub works : j.failed ≡ false
+  pub first_is : tally.first ≡ first_after 1 epochs
+  pub count : tally.epochs ≡ length epochs
+  pub few : tally.epochs < j.end
+  pub sent_is : tally.sent ≡ length output
+  pub little : tally.sent ≤ (EPOCH_END_BYTES + MAX_CALL_BYTES) * tally.epochs
+
+-- ---- between two rounds
+
+pub record SoFar (a : Setting) (there : Option Input) (now : Option History) (racer : Tells) (state : State) (w : Supplied) (j : Journal) (tally : Tally) (squashes : ℕ) : Type 0 where
+  pub rounds : List Round
+  pub output : List ℕ
+  pub each : EachIsRound a.tells a.options 1 a.start (empty MAX_ROOM) rounds state racer
+  pub supply_is : w ≡ supply_behind (empty MAX_ROOM) (draws_of rounds)
+  pub squashes_is : squashes ≡ squashes_of rounds
+  pub kept : Kept a there now (epochs_of rounds) (draws_of rounds) output state w j tally
+
+-- ---- within a round
+
+-- what stays while the results of a round are judged: the input after its draw, what the racer tells after its race, the round's supply and start,
+-- and how many results were squashed before
+pub record InRound : Type 0 where
+  pub setting : Setting
+  pub later : Option Input
+  pub racer : Tells
+  pub supply : Supplied
+  pub from : State
+  pub squashes : ℕ
+
+pub record Within (a : InRound) (now : Option History) (core : Core) (j : Journal) (tally : Tally) : Type 0 where
+  pub run : Run a.setting.tells a.setting.options a.setting.start
+  pub from_is : run.end ≡ a.from
+  pub squashes_is : a.squashes ≡ squashes run
+  pub goes_on : GoesOn a.setting.options run.end
+  pub draw : Draw
+  pub due : draw.due ≡ input_due run.end (supply run)
+  pub supply_is : a.supply ≡ supply_of (supply run) draw
+  pub can : can_step run.end a.supply ≡ true
+  pub results : List Ran
+  pub raced : IsRaced run.racer a.setting.options (first_next run) run.end a.supply results a.racer
+  pub runs : List EpochRun
+  pub judged : IsWithin run.end results runs core
+  pub output : List ℕ
+  pub kept : Kept a.setting a.later now (epochs run ++ epochs_of_runs runs) (draws run ++ draw ∷ []) output core.committed a.supply j tally
+  pub last : IfInput (λ s t. IsLast a.supply.stamp (readings_since s t)) a.setting.given a.later
+  pub longer : run.end.steps + length runs ≤ core.committed.steps
+
+abbrev pub IsInRound : (now : Option History) → Core → Journal → Tally → Type 0
+IsInRound now core j tally = (a : InRound) × Within a now core j tally
+
+-- the round is over, and some steps were committed
+abbrev pub IsOver : InRound → (squashes : ℕ) → (now : Option History) → Core → Journal → Tally → Type 0
+IsOver a squashes now core j tally = SoFar a.setting a.later now a.racer core.committed a.supply j tally squashes × (a.from.steps < core.committed.steps)
+
+-- the next result, if it is an epoch, starts in the committed state
+abbrev pub StartsHere : Core → Type 0
+StartsHere core = (run : EpochRun) → slice_get core.jobs core.judged ≡ Some (Taken (rans.Epoch run)) → run.start ≡ core.committed
+
+-- the recording stopped
+abbrev pub IsStopped : InRound → (now : Option History) → RecordFault → Type 0
+IsStopped a now fault = Recorded a.setting.guest a.setting.tells a.setting.start a.setting.options a.setting.given a.later a.setting.before now (Err fault)
+    × EachMoment a.setting.guest a.setting.start a.setting.given a.later a.setting.before now
+
+-- what became of the next result
+abbrev pub StepSays : InRound → (now : Option History) → Core → Journal → Tally → Result Next RecordFault → Type 0
+StepSays a now core j tally (Ok Committed) = Within a now core j tally
+StepSays a now core j tally (Ok Squashed) = IsOver a (a.squashes + 1) now core j tally
+StepSays a now core j tally (Ok Over) = IsOver a a.squashes now core j tally
+StepSays a now core j tally (Err fault) = IsStopped a now fault
+
+-- the results that aren't judged yet
+abbrev pub results_left : Core → ℕ
+results_left core = length core.jobs - core.judged
+
+abbrev pub GoesFewer : Core → Core → Next → Type 0
+GoesFewer core there Committed = results_left there < results_left core
+GoesFewer core there Squashed = Unit {0}
+GoesFewer core there Over = Unit {0}
+
+-- what became of all results of a round
+abbrev pub RoundSays : InRound → (now : Option History) → Core → Journal → Tally → Result Bool RecordFault → Type 0
+RoundSays a now core j tally (Ok true) = IsOver a (a.squashes + 1) now core j tally
+RoundSays a now core j tally (Ok false) = IsOver a a.squashes now core j tally
+RoundSays a now core j tally (Err fault) = IsStopped a now fault

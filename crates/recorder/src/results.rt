@@ -1,0 +1,178 @@
+// The results of a round: they are judged in order, and each epoch that is to be committed is.
+ghost use Rattle.std.specs.Prelude.{◌≡◌, ◌<◌, ◌≤◌, ◌+◌, ◌-◌, ◌++◌, ◌∷◌, [], ℕ, IfOk, IsErrOf, false, true, length, map};
+ghost use Rattle.commit_core.specs.Judging.{HasApplied, fresh};
+ghost use Rattle.commit_core.specs.declared.stage.Stage.TheVariants.{Taken};
+ghost use Rattle.disk_model.specs.Counts.{Rose};
+ghost use Rattle.dp_base.specs.declared.limits.TheConstants.{MAX_JOBS};
+ghost use Rattle.dp_base.specs.Journal.{IsBody, IsEpoch, epoch_body, frame};
+ghost use Rattle.epoch_record.specs.Epoch.{epoch_of};
+ghost use Rattle.recorder.specs.EpochLaws.{EpochLaws};
+ghost use Rattle.recorder.specs.Faults.{MetNoOther};
+ghost use Rattle.recorder.specs.Keeping.{GoesFewer, InRound, IsInRound, RoundSays, StartsHere, StepSays, Within};
+
+use crate::commit::commit_epoch;
+use crate::ready::Ready;
+use crate::record_fault::RecordFault;
+use crate::tally::{Next, Tally, next_first};
+use commit_core::{Core, Event, Verdict};
+use disk_model::World;
+use dp_base::OutOfMemory;
+use epoch_journal::Journal;
+use epoch_record::{Epoch, encode};
+use epoch_runner::Ran;
+use guest_kernel::{State, laws};
+use journal_text::Frame;
+use std::alloc::Global;
+
+// A core over the committed state that was told the results of all jobs, in order.
+pub(crate) fn core_of(
+    alloc: Global,
+    committed: State,
+    results: Vec<Ran>,
+) -> Result<Core, OutOfMemory>
+    requires some { 0 < length results.items }
+    requires few { length results.items ≤ MAX_JOBS }
+    ensures { IfOk result (λ core. core ≡ record (fresh committed (length results.items)) { jobs = map Taken results.items }) }
+{
+    let mut core = Core::round(alloc, committed, results.len() as u32)?;
+    take_all(&mut core, results);
+    Ok(core)
+}
+
+// Tells a new core the results of all jobs, in order.
+fn take_all(core: &mut Core, results: Vec<Ran>)
+    requires fresh { core.old ≡ fresh core.old.committed core.old.max_jobs }
+    requires jobs { length results.items ≤ MAX_JOBS }
+    requires few { length results.items ≤ core.old.max_jobs }
+    ensures { core.new ≡ record core.old { jobs = map Taken results.items } }
+{
+    let mut number = 0;
+    'results: for ran in results {
+        number += 1;
+        take_one(core, number, ran);
+    }
+}
+
+fn take_one(core: &mut Core, number: u32, ran: Ran)
+    requires number { number ≡ length core.old.jobs + 1 }
+    requires room { number ≤ core.old.max_jobs }
+    ensures { core.new ≡ record core.old { jobs = core.old.jobs ++ Taken ran ∷ [] } }
+{
+    core.apply(Event::Offer(number));
+    core.apply(Event::Claim(number));
+    core.apply(Event::Done(number));
+    core.apply(Event::Take(number, ran));
+}
+
+// Judges the results of a round, and commits each epoch that starts in the committed state, up to the first one that doesn't. Returns whether
+// that one was squashed.
+pub(crate) fn commit_results<W: World>(
+    alloc: Global,
+    core: &mut Core,
+    journal: &mut Journal,
+    world: &mut W,
+    tally: &mut Tally,
+) -> Result<bool, RecordFault>
+    requires round { IsInRound (W.history world.old) core.old journal.old tally.old }
+    requires fresh { core.old.judged ≡ 0 }
+    ensures says { (a : InRound) → Within a (W.history world.old) core.old journal.old tally.old →
+        RoundSays a (W.history world.new) core.new journal.new tally.new result }
+    ensures others { (input : ℕ) → MetNoOther result (W.disk_faults world.old) (W.disk_faults world.new)
+        (W.sink_faults world.old) (W.sink_faults world.new) input input }
+    ensures no_input { IsErrOf result RecordFault.InputFault → ⊥ }
+    ensures disk_cause { IsErrOf result RecordFault.DiskFault →
+        Rose (W.disk_faults world.old) (W.disk_faults world.new) }
+    ensures sink_cause { IsErrOf result RecordFault.OutputFault →
+        Rose (W.sink_faults world.old) (W.sink_faults world.new) }
+    ensures disk_count { W.disk_faults world.old ≤ W.disk_faults world.new }
+    ensures sink_count { W.sink_faults world.old ≤ W.sink_faults world.new }
+{
+    let mut is_first = true;
+    'results: loop {
+        match commit_next(alloc, core, journal, world, tally, is_first)? {
+            Next::Committed => is_first = false,
+            Next::Squashed => return Ok(true),
+            Next::Over => return Ok(false),
+        }
+    }
+}
+
+// Judges the next result. Where it is to be committed its record is appended, and then its output is sent. All memory is taken before.
+fn commit_next<W: World>(
+    alloc: Global,
+    core: &mut Core,
+    journal: &mut Journal,
+    world: &mut W,
+    tally: &mut Tally,
+    is_first: bool,
+) -> Result<Next, RecordFault>
+    requires round { IsInRound (W.history world.old) core.old journal.old tally.old }
+    requires first { is_first ≡ true → core.old.judged ≡ 0 }
+    ensures says { (a : InRound) → Within a (W.history world.old) core.old journal.old tally.old →
+        StepSays a (W.history world.new) core.new journal.new tally.new result }
+    ensures goes { IfOk result (λ next. GoesFewer core.old core.new next) }
+    ensures others { (input : ℕ) → MetNoOther result (W.disk_faults world.old) (W.disk_faults world.new)
+        (W.sink_faults world.old) (W.sink_faults world.new) input input }
+    ensures no_input { IsErrOf result RecordFault.InputFault → ⊥ }
+    ensures disk_cause { IsErrOf result RecordFault.DiskFault →
+        Rose (W.disk_faults world.old) (W.disk_faults world.new) }
+    ensures sink_cause { IsErrOf result RecordFault.OutputFault →
+        Rose (W.sink_faults world.old) (W.sink_faults world.new) }
+    ensures disk_count { W.disk_faults world.old ≤ W.disk_faults world.new }
+    ensures sink_count { W.sink_faults world.old ≤ W.sink_faults world.new }
+{
+    commit_core::laws::a_round_commits_what_joins_on();
+    epoch_laws();
+    match judge_next(core, is_first) {
+        Verdict::Commit { epoch, out } => {
+            let frame = frame_of(alloc, &epoch)?;
+            let ready = Ready { frame, out };
+            commit_epoch(journal, world, &ready)?;
+            tally.first = next_first(tally.first, epoch.slices.as_slice());
+            tally.epochs += 1;
+            tally.sent += ready.out.len() as u64;
+            Ok(Next::Committed)
+        }
+        Verdict::Squash { .. } => Ok(Next::Squashed),
+        Verdict::Over { .. } => Ok(Next::Over),
+        Verdict::NotYet { .. } => Ok(Next::Over),
+        // A round whose results were all taken, and whose end wasn't seen, has no other verdict.
+        _ => unreachable!(),
+    }
+}
+
+// Judges the next result. The first one starts in the committed state, so nothing is compared.
+fn judge_next(core: &mut Core, is_first: bool) -> Verdict
+    requires { is_first ≡ true → StartsHere core.old }
+    ensures { HasApplied core.old Event.Judge result core.new }
+{
+    if is_first {
+        core.judge_known()
+    } else {
+        core.apply(Event::Judge)
+    }
+}
+
+// What the laws of the crates below say of one epoch.
+fn epoch_laws()
+    ensures { EpochLaws }
+{
+    laws::a_guest_goes_on_while_a_thread_runs();
+    laws::a_run_is_as_long_as_its_slices();
+    laws::an_epoch_more();
+    laws::threads_are_few();
+    epoch_runner::laws::an_epoch_ends_by_a_rule();
+    epoch_runner::laws::an_epoch_is_supplied();
+}
+
+// The frame of an epoch's record.
+fn frame_of(alloc: Global, epoch: &Epoch) -> Result<Frame, OutOfMemory>
+    requires epoch { IsEpoch (epoch_of epoch.now) }
+    requires fits { IsBody (epoch_body (epoch_of epoch.now)) }
+    ensures frame { IfOk result (λ f. f ≡ frame (epoch_body (epoch_of epoch.now))) }
+    ensures some { IfOk result (λ f. 0 < length f) }
+{
+    journal_text::laws::a_record_is_its_body();
+    let body = encode(alloc, epoch)?;
+    Frame::of(alloc, &body)
+}

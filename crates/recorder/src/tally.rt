@@ -1,0 +1,38 @@
+// What was committed so far.
+ghost use Rattle.std.specs.Prelude.{◌≡◌, ◌<◌};
+ghost use Rattle.std.specs.List.{AllByRecursion};
+ghost use Rattle.recorder.specs.Recording.{first_behind};
+
+use dp_base::Slice;
+
+/// What was committed so far: the number of epochs, the bytes of output that were sent, and the thread that is tried first in the next
+/// epoch.
+#[derive(Clone, Copy)]
+pub struct Tally {
+    pub first: u16,
+    pub epochs: u32,
+    pub sent: u64,
+}
+
+/// What became of the next result of a round.
+#[derive(Clone, Copy)]
+pub enum Next {
+    /// It was committed. More may follow.
+    Committed,
+    /// It was squashed, and the round is over.
+    Squashed,
+    /// There was nothing to commit, and the round is over.
+    Over,
+}
+
+// The thread that is first after these slices: one more than that of the last of them.
+pub(crate) fn next_first(first: u16, slices: &[Slice]) -> u16
+    requires { AllByRecursion (λ x. x.tid.0 < 65535) slices.now }
+    ensures { result ≡ first_behind first slices.now }
+{
+    let mut next = first;
+    for slice in slices {
+        next = slice.tid.0 + 1;
+    }
+    next
+}
