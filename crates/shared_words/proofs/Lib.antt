@@ -1,0 +1,7 @@
+pub mod Bytes
+pub mod Closed
+pub mod MappedPages
+pub mod PageIndexes
+pub mod PagesMade
+pub mod Ruled
+pub mod Views

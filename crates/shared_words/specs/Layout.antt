@@ -1,0 +1,58 @@
+-- Where the words of a guest's pages are in the table, and the bytes of words. This project's own; a word's bytes are little-endian.
+use Rattle.std.specs.Prelude.{◌≡◌, ◌+◌, ◌*◌, ◌/◌, ◌%◌, ◌^◌, ◌<◌, ◌≤◌, ◌==◌, ℕ, Bool, false, List, All, length, map, slice_index, slice_index_or, Option, Some, None, is_some}
+use Rattle.std.specs.List.{position}
+use Rattle.std.specs.List.Sorted.{IsStrictlyIncreasing}
+use Rattle.std.specs.Option.{option_map}
+use Rattle.dp_base.specs.declared.limits.TheConstants.{MAX_PAGES, PAGE_BYTES, PAGE_NUMBERS}
+use Rattle.dp_base.specs.declared.page.Page.{Page}
+use Rattle.shared_words.specs.declared.layout.TheConstants.{FIRST_WORD, PAGE_WORDS}
+use Rattle.shared_words.specs.declared.mapped_page.MappedPage.{MappedPage}
+
+-- ---- pages
+
+-- a page without its bytes
+abbrev pub mapped_page : Page → MappedPage
+mapped_page page = record { number = page.number; flags = page.flags }
+
+-- what the pages of a guest always are
+pub record AreMapped (pages : List MappedPage) : Type 0 where
+  pub numbers : All (λ page. page.number < PAGE_NUMBERS) pages
+  pub flags : All (λ page. page.flags < 8) pages
+  pub rising : IsStrictlyIncreasing (map (λ page. page.number) pages)
+  pub few : length pages ≤ MAX_PAGES
+
+abbrev pub has_number : ℕ → Option MappedPage → Bool
+has_number number None = false
+has_number number (Some page) = page.number == number
+
+-- the index of the page with this number
+abbrev pub page_index : List MappedPage → ℕ → Option ℕ
+page_index pages number = position (λ (page : MappedPage). page.number == number) pages
+
+abbrev pub is_mapped : List MappedPage → ℕ → Bool
+is_mapped pages number = is_some (page_index pages number)
+
+-- ---- words
+
+-- the index of the first word of the page with this number
+abbrev pub first_word : List MappedPage → ℕ → Option ℕ
+first_word pages number = option_map (λ index. FIRST_WORD + PAGE_WORDS * index) (page_index pages number)
+
+-- the index of the word that holds an address
+abbrev pub word_index : List MappedPage → ℕ → Option ℕ
+word_index pages address = option_map (λ index. (FIRST_WORD + PAGE_WORDS * index) + address % PAGE_BYTES / 4) (page_index pages (address / PAGE_BYTES))
+
+-- ---- bytes
+
+-- a byte of a word, the lowest first
+abbrev pub word_byte : (word index : ℕ) → ℕ
+word_byte word index = word / 256 ^ index % 256
+
+-- the byte at an offset of the page at an index
+abbrev pub byte_at : List ℕ → (index offset : ℕ) → ℕ
+byte_at words index offset = word_byte (slice_index words ((FIRST_WORD + PAGE_WORDS * index) + offset / 4)) (offset % 4)
+
+-- pages with these numbers and flags, whose bytes are those of these words
+pub record HasWords (mapped : List MappedPage) (words : List ℕ) (pages : List Page) : Type 0 where
+  pub mapped_same : map mapped_page pages ≡ mapped
+  pub bytes : (index offset : ℕ) (d : Page) → index < length pages → offset < PAGE_BYTES → slice_index (slice_index_or pages index d).bytes offset ≡ byte_at words index offset

@@ -1,0 +1,6 @@
+pub mod Closing
+pub mod Contended
+pub mod Layout
+pub mod NoTable
+pub mod Rule
+pub mod Words
