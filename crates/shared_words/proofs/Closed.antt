@@ -9,15 +9,15 @@ use Rattle.shared_words.specs.Rule.{AreRuled, KeepsRule}
 use Rattle.shared_words.specs.declared.mapped_page.MappedPage.{MappedPage}
 use Rattle.shared_words.specs.declared.view.View.{View}
 
-pub closes : {E : Type 0} (r : Result (List Page) E) (mapped : List MappedPage) (words : List ℕ) (count seat : ℕ) (v : View) (xs : List (Unit {0}))
-    → IfOk r (λ pages. HasWords mapped words pages) → Final (Seen KeepsRule seat v) words xs → length words ≡ count → IfOk r (λ pages. ClosesTo mapped count v pages)
-closes (Ok pages) mapped words count seat v xs has final sized = record {
+pub closes : {E : Type 0} (r : Result (List Page) E) (mapped : List MappedPage) (start words : List ℕ) (count seat : ℕ) (v : View) (xs : List (Unit {0}))
+    → IfOk r (λ pages. HasWords mapped words pages) → Final (Seen (KeepsRule start) seat v) words xs → length words ≡ count → IfOk r (λ pages. ClosesTo mapped start count v pages)
+closes (Ok pages) mapped start words count seat v xs has final sized = record {
   words = words;
   views = final.0.views;
-  ruled = subst (λ (ws : List ℕ). AreRuled ws final.0.views) final.2 final.1.0;
+  ruled = subst (λ (ws : List ℕ). AreRuled start ws final.0.views) final.2 final.1.0;
   seat = seat;
   known = final.1.1;
   sized = sized;
   pages_are = has;
 }
-closes (Err e) mapped words count seat v xs has final sized = tt
+closes (Err e) mapped start words count seat v xs has final sized = tt

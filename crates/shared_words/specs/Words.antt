@@ -11,6 +11,10 @@ use Rattle.shared_words.specs.declared.view.View.{View}
 abbrev pub table_of : SharedWords → TableId
 table_of words = words.table.shared.table_id
 
+-- the words at the start
+abbrev pub start_of : SharedWords → List ℕ
+start_of words = words.table.shared.key.items
+
 -- the pages that the words are of, without their bytes
 abbrev pub pages_of : SharedWords → List MappedPage
 pages_of words = words.pages.items

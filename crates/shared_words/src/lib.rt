@@ -1,13 +1,15 @@
 //! The words of a guest's pages, shared by threads that race.
 //!
-//! Promises: the rule of the words holds at every moment, whatever threads do (`specs/Rule.antt`): each guest word is below 2^32, the
-//! tickets that seats have are the numbers below the ticket word, each once, and the ticket word and the budgets of all seats are 2^62
-//! in all. Each step of a seat is one atomic step on the word that the address names, and a seat's view says which step was its last.
-//! `into_pages` returns pages with the numbers and flags that `of_pages` found, whose words are those of one moment that keeps the rule.
-//! `RacingMem` is a `Mem` over a seat: it counts the accesses that were busy and the SCs that were lost, as `Mem` says. Stands on
-//! `atomic_table` for the steps, on `cow_pages` for pages, on `dp_base` for `Mem`, and on `sync_hints` for what a log says of a step.
+//! Promises: the rule of the words holds at every moment, whatever threads do (`specs/Rule.antt`). Each guest word is below 2^32, and is
+//! either the word at the start or one that a seat stored there. The tickets that seats have are the numbers below the ticket word, each
+//! once. The ticket word and the budgets of all seats are 2^62 in all. `of_pages` starts with the words of the pages, and `into_pages`
+//! returns the same pages with the words of one moment at which the rule holds. Each call of a seat is one atomic step on the word that
+//! its address names, and the seat's view says what the step found and stored. `RacingMem` is a `Mem` over a seat: it counts the accesses
+//! that were busy and the SCs that were lost. Stands on `atomic_table` for the steps, on `cow_pages` for pages, on `dp_base` for `Mem`, and
+//! on `sync_hints` for what a log says of a step.
 //!
-//! Not said: what a load finds, since other threads store; that a thread gets on; how often an access is busy.
+//! Not said: which of the stored words a load finds, since other threads store; that a thread gets on; how often an access is busy; which
+//! accesses of `RacingMem` are denied, and what it logs.
 //!
 //! ```text
 //! let (words, seat) = SharedWords::of_pages(alloc, &pages)?;
@@ -39,4 +41,4 @@ pub use naming::Naming;
 pub use racing_mem::RacingMem;
 pub use rule::WordRule;
 pub use shared_words::{Seat, SharedWords};
-pub use view::{Touch, View};
+pub use view::{Stored, Touch, View};

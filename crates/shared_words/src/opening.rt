@@ -1,8 +1,8 @@
 // Words made of pages.
-ghost use Rattle.std.specs.Prelude.{◌≡◌, ◌+◌, ◌*◌, ◌<◌, ◌≤◌, ◌^◌, All, IfOk, length, map, slice_index, vec_len};
-ghost use Rattle.shared_words.specs.Layout.{mapped_page};
+ghost use Rattle.std.specs.Prelude.{◌≡◌, ℕ, ◌+◌, ◌*◌, ◌/◌, ◌%◌, ◌<◌, ◌≤◌, ◌^◌, All, IfOk, length, map, slice_index, vec_len};
+ghost use Rattle.shared_words.specs.Layout.{HasBytes, HasWords, mapped_page, word_byte};
 ghost use Rattle.shared_words.specs.Rule.{all_tickets, view_of};
-ghost use Rattle.shared_words.specs.Words.{IsSeatOf, pages_of};
+ghost use Rattle.shared_words.specs.Words.{IsSeatOf, pages_of, start_of};
 ghost use Rattle.shared_words.specs.declared.layout.TheConstants.{FIRST_WORD, PAGE_WORDS};
 ghost use Rattle.shared_words.specs.declared.shared_words.TheConstants.{HINTS};
 
@@ -15,7 +15,7 @@ use dp_base::OutOfMemory;
 use std::alloc::Global;
 
 impl SharedWords {
-    /// Shares the words of these pages, and returns the one seat at them, which may take 2^62 tickets.
+    /// Shares the words of these pages. Returns them with the first seat, which may take 2^62 tickets.
     ///
     /// # Errors
     ///
@@ -24,12 +24,13 @@ impl SharedWords {
         ensures seat { IfOk result (λ r. IsSeatOf r.0 r.1) }
         ensures view { IfOk result (λ r. view_of r.1 ≡ all_tickets) }
         ensures mapped { IfOk result (λ r. pages_of r.0 ≡ map mapped_page pages.now) }
+        ensures words { IfOk result (λ r. HasWords (pages_of r.0) (start_of r.0) pages.now) }
     {
         let mapped = read_mapped(alloc, pages)?;
         let _kept = pages.pages();
         let words = read_words(alloc, pages, mapped.len())?;
         let hints = make_hints(alloc, &mapped)?;
-        let (table, seat) = Table::of_words(alloc, &words, &())?;
+        let (table, seat) = Table::of_words(alloc, &words, &words)?;
         Ok((
             SharedWords {
                 table,
@@ -59,10 +60,12 @@ fn read_mapped(alloc: Global, pages: &Pages) -> Result<Vec<MappedPage>, OutOfMem
 }
 
 fn read_words(alloc: Global, pages: &Pages, count: usize) -> Result<Vec<u64>, OutOfMemory>
-    requires { count ≤ 1024 }
+    requires count { count ≡ length pages.now }
+    requires few { count ≤ 1024 }
     ensures small { IfOk result (λ words. All (λ w. w < 2 ^ 32) words.items) }
     ensures sized { IfOk result (λ words. length words.items ≡ FIRST_WORD + PAGE_WORDS * count) }
     ensures no_tickets { IfOk result (λ words. slice_index words.items 0 ≡ 0) }
+    ensures words { IfOk result (λ words. HasBytes words.items count pages.now) }
 {
     let mut words = vec![in alloc; 0; FIRST_WORD + PAGE_WORDS * count]?;
     fill_pages(&mut words, pages, count);
@@ -70,14 +73,17 @@ fn read_words(alloc: Global, pages: &Pages, count: usize) -> Result<Vec<u64>, Ou
 }
 
 fn fill_pages(words: &mut [u64], pages: &Pages, count: usize)
+    requires count { count ≡ length pages.now }
     requires sized { length words.old ≡ FIRST_WORD + PAGE_WORDS * count }
     requires small { All (λ w. w < 2 ^ 32) words.old }
     ensures small { All (λ w. w < 2 ^ 32) words.new }
     ensures ticket_word { slice_index words.new 0 ≡ slice_index words.old 0 }
+    ensures words { HasBytes words.new count pages.now }
 {
     for index in 0..count {
-        if let Some(page) = pages.at(index) {
-            fill_page(words, FIRST_WORD + PAGE_WORDS * index, page.bytes);
+        match pages.at(index) {
+            Some(page) => fill_page(words, FIRST_WORD + PAGE_WORDS * index, page.bytes),
+            None => unreachable!(),
         }
     }
 }
@@ -85,20 +91,23 @@ fn fill_pages(words: &mut [u64], pages: &Pages, count: usize)
 fn fill_page(words: &mut [u64], first: usize, bytes: &[u8])
     requires inside { first + PAGE_WORDS ≤ length words.old }
     requires whole { length bytes.now ≡ 4096 }
-    requires guest { 0 < first }
     requires small { All (λ w. w < 2 ^ 32) words.old }
     ensures small { All (λ w. w < 2 ^ 32) words.new }
-    ensures ticket_word { slice_index words.new 0 ≡ slice_index words.old 0 }
+    ensures before { (i : ℕ) → i < first → slice_index words.new i ≡ slice_index words.old i }
+    ensures page { (k : ℕ) → k < 4096 → slice_index bytes.now k ≡ word_byte (slice_index words.new (first + k / 4)) (k % 4) }
 {
     for index in 0..PAGE_WORDS {
-        let word = u32::from_le_bytes([
-            bytes[4 * index],
-            bytes[4 * index + 1],
-            bytes[4 * index + 2],
-            bytes[4 * index + 3],
-        ]);
-        words[first + index] = u64::from(word);
+        words[first + index] = u64::from(word_in(bytes, 4 * index));
     }
+}
+
+// The word at an offset of some bytes.
+#[inline(always)]
+fn word_in(bytes: &[u8], at: usize) -> u32
+    requires { at + 4 ≤ length bytes.now }
+    ensures { (k : ℕ) → k < 4 → slice_index bytes.now (at + k) ≡ word_byte result k }
+{
+    u32::from_le_bytes([bytes[at], bytes[at + 1], bytes[at + 2], bytes[at + 3]])
 }
 
 fn make_hints(alloc: Global, pages: &[MappedPage]) -> Result<Vec<u16>, OutOfMemory>

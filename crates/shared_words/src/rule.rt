@@ -1,23 +1,34 @@
 // The rule of the words, and what each kind of step says.
-ghost use Rattle.shared_words.specs.Rule.{KeepsRule, all_tickets, joined, new_view, reduced, spent, takes_ticket, touches};
+ghost use Rattle.shared_words.specs.Rule.{KeepsRule, all_tickets, exchanges, joined, loads, new_view, reduced, spent, stores, takes_ticket};
 
 use crate::view::View;
 use atomic_table::{Join, Play, Split, TableRule};
 
-/// The rule of the words: `specs/Rule.antt`.
+/// The rule of the words: `specs/Rule.antt`. Its key is the words at the start.
 pub struct WordRule;
 
-impl TableRule<(), View, ()> for WordRule {
-    ghost holds = { λ _. KeepsRule };
+impl TableRule<(), View, Vec<u64>> for WordRule {
+    ghost holds = { λ start. KeepsRule start.items };
 
     ghost first = { λ _. all_tickets };
 }
 
-// A load, a store or a compare-exchange of a guest's word.
-pub(crate) struct Touches;
+pub(crate) struct Loads;
 
-impl Play<(), View> for Touches {
-    ghost then = { touches };
+impl Play<(), View> for Loads {
+    ghost then = { loads };
+}
+
+pub(crate) struct Stores;
+
+impl Play<(), View> for Stores {
+    ghost then = { stores };
+}
+
+pub(crate) struct Exchanges;
+
+impl Play<(), View> for Exchanges {
+    ghost then = { exchanges };
 }
 
 pub(crate) struct TakesTicket;

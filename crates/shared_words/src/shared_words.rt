@@ -19,7 +19,7 @@ pub(crate) const HINTS: usize = 4096;
 /// The words of a guest's pages, which threads share.
 #[derive(Drop)]
 pub struct SharedWords {
-    pub(crate) table: Table<(), View, (), WordRule, Global>,
+    pub(crate) table: Table<(), View, Vec<u64>, WordRule, Global>,
     // In rising order of number.
     pub(crate) pages: Vec<MappedPage>,
     // Where a page is in that list, by its number. A hint is checked when it is used.

@@ -1,10 +1,10 @@
 // The steps that a seat takes. Each is one atomic step on one word.
 ghost use Rattle.std.specs.Prelude.{◌≡◌, ℕ, ◌/◌, ◌%◌, ◌<◌, ◌≤◌, ◌^◌, ◌==◌, All, Some, true};
 ghost use Rattle.shared_words.specs.Layout.{is_mapped, word_index};
-ghost use Rattle.shared_words.specs.Rule.{exchange_of, joined, load_of, new_view, reduced, store_of, touched, view_of, with_ticket};
+ghost use Rattle.shared_words.specs.Rule.{after_exchange, after_load, after_store, joined, new_view, reduced, view_of, with_ticket};
 ghost use Rattle.shared_words.specs.Words.{IsGuestWord, IsSeatOf, pages_of, table_of};
 
-use crate::rule::{JoinsViews, SplitsBudget, TakesTicket, Touches};
+use crate::rule::{Exchanges, JoinsViews, Loads, SplitsBudget, Stores, TakesTicket};
 use crate::shared_words::{Seat, SharedWords};
 
 impl SharedWords {
@@ -14,7 +14,7 @@ impl SharedWords {
         requires aligned { address % 4 ≡ 0 }
         requires mapped { is_mapped (pages_of self.now) (address / 4096) ≡ true }
         ensures seat { IsSeatOf self.now seat.new }
-        ensures view { (word : ℕ) × (Some word ≡ word_index (pages_of self.now) address) × (view_of seat.new ≡ touched (view_of seat.old) (load_of word result)) }
+        ensures view { (word : ℕ) × (Some word ≡ word_index (pages_of self.now) address) × (view_of seat.new ≡ after_load (view_of seat.old) word result) }
     {
         let word = self.index(address);
         self.load_at(seat, word)
@@ -26,7 +26,7 @@ impl SharedWords {
         requires aligned { address % 4 ≡ 0 }
         requires mapped { is_mapped (pages_of self.now) (address / 4096) ≡ true }
         ensures seat { IsSeatOf self.now seat.new }
-        ensures view { (word : ℕ) × (Some word ≡ word_index (pages_of self.now) address) × (view_of seat.new ≡ touched (view_of seat.old) (store_of word value)) }
+        ensures view { (word : ℕ) × (Some word ≡ word_index (pages_of self.now) address) × (view_of seat.new ≡ after_store (view_of seat.old) word value) }
     {
         let word = self.index(address);
         self.store_at(seat, word, value);
@@ -38,7 +38,7 @@ impl SharedWords {
         requires aligned { address % 4 ≡ 0 }
         requires mapped { is_mapped (pages_of self.now) (address / 4096) ≡ true }
         ensures seat { IsSeatOf self.now seat.new }
-        ensures view { (word : ℕ) × (Some word ≡ word_index (pages_of self.now) address) × (view_of seat.new ≡ touched (view_of seat.old) (exchange_of word expected new (view_of seat.new).last.found)) }
+        ensures view { (word : ℕ) × (Some word ≡ word_index (pages_of self.now) address) × (view_of seat.new ≡ after_exchange (view_of seat.old) word expected new (view_of seat.new).last.found) }
         ensures answer { result ≡ ((view_of seat.new).last.found == expected) }
     {
         let word = self.index(address);
@@ -83,9 +83,9 @@ impl SharedWords {
         requires seat { IsSeatOf self.now seat.old }
         requires guest { IsGuestWord (table_of self.now) word }
         ensures seat { IsSeatOf self.now seat.new }
-        ensures view { view_of seat.new ≡ touched (view_of seat.old) (load_of word result) }
+        ensures view { view_of seat.new ≡ after_load (view_of seat.old) word result }
     {
-        self.table.shared.load::<Touches>(seat, word) as u32
+        self.table.shared.load::<Loads>(seat, word) as u32
     }
 
     #[inline(always)]
@@ -93,11 +93,11 @@ impl SharedWords {
         requires seat { IsSeatOf self.now seat.old }
         requires guest { IsGuestWord (table_of self.now) word }
         ensures seat { IsSeatOf self.now seat.new }
-        ensures view { view_of seat.new ≡ touched (view_of seat.old) (store_of word value) }
+        ensures view { view_of seat.new ≡ after_store (view_of seat.old) word value }
     {
         self.table
             .shared
-            .store::<Touches>(seat, word, u64::from(value));
+            .store::<Stores>(seat, word, u64::from(value));
     }
 
     #[inline(always)]
@@ -111,13 +111,13 @@ impl SharedWords {
         requires seat { IsSeatOf self.now seat.old }
         requires guest { IsGuestWord (table_of self.now) word }
         ensures seat { IsSeatOf self.now seat.new }
-        ensures view { view_of seat.new ≡ touched (view_of seat.old) (exchange_of word expected new (view_of seat.new).last.found) }
+        ensures view { view_of seat.new ≡ after_exchange (view_of seat.old) word expected new (view_of seat.new).last.found }
         ensures answer { result ≡ ((view_of seat.new).last.found == expected) }
     {
         let found = self
             .table
             .shared
-            .compare_exchange::<Touches>(seat, word, u64::from(expected), u64::from(new));
+            .compare_exchange::<Exchanges>(seat, word, u64::from(expected), u64::from(new));
         found == u64::from(expected)
     }
 }

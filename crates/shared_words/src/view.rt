@@ -5,12 +5,15 @@ use std::collections::LinkedList;
 pub struct Touch {
     /// The index of the word in the table.
     pub word: u64,
-    /// The word that a store stores, or that a compare-exchange expects. 0 for a load.
-    pub operand: u64,
-    /// The word that a compare-exchange stores if it finds the one that it expects. Otherwise 0.
-    pub replacement: u64,
-    /// The word that was found; for a store, the one that was stored.
+    /// The word that the step found. A store finds what it stores.
     pub found: u64,
+}
+
+/// A word that was stored. It exists in proofs alone.
+pub struct Stored {
+    /// The index of the word in the table.
+    pub word: u64,
+    pub value: u64,
 }
 
 /// What is known of a seat. It exists in proofs alone.
@@ -23,4 +26,6 @@ pub struct View {
     pub steps: u64,
     /// The last one.
     pub last: Touch,
+    /// The words that it stored, in order.
+    pub stored: LinkedList<Stored>,
 }
