@@ -1,8 +1,9 @@
 -- Where the words of a guest's pages are in the table, and the bytes of words. This project's own; a word's bytes are little-endian.
-use Rattle.std.specs.Prelude.{◌≡◌, ◌+◌, ◌*◌, ◌/◌, ◌%◌, ◌^◌, ◌<◌, ◌≤◌, ◌==◌, ℕ, Bool, false, List, All, length, map, slice_index, slice_index_or, Option, Some, None, is_some}
+use Rattle.std.specs.Prelude.{◌≡◌, ◌+◌, ◌*◌, ◌/◌, ◌%◌, ◌^◌, ◌<◌, ◌≤◌, ◌==◌, ℕ, Bool, false, List, All, length, map, slice_index, slice_index_or, slice_get, Option, Some, None, is_some, if◌then◌else◌}
 use Rattle.std.specs.List.{position}
 use Rattle.std.specs.List.Sorted.{IsStrictlyIncreasing}
 use Rattle.std.specs.Option.{option_map}
+use Rattle.dp_base.specs.Field.{◌>>=◌}
 use Rattle.dp_base.specs.declared.limits.TheConstants.{MAX_PAGES, PAGE_BYTES, PAGE_NUMBERS}
 use Rattle.dp_base.specs.declared.page.Page.{Page}
 use Rattle.shared_words.specs.declared.layout.TheConstants.{FIRST_WORD, PAGE_WORDS}
@@ -34,9 +35,18 @@ is_mapped pages number = is_some (page_index pages number)
 
 -- ---- words
 
--- the index of the first word of the page with this number
-abbrev pub first_word : List MappedPage → ℕ → Option ℕ
-first_word pages number = option_map (λ index. FIRST_WORD + PAGE_WORDS * index) (page_index pages number)
+-- the index of the first word of the page at an index, if the page has the flag
+abbrev pub first_if : (flag index : ℕ) → Option MappedPage → Option ℕ
+first_if flag index None = None
+first_if flag index (Some page) = if page.flags / flag % 2 == 1 then Some (FIRST_WORD + PAGE_WORDS * index) else None
+
+-- that of the page with this number
+abbrev pub first_with : (flag : ℕ) → List MappedPage → ℕ → Option ℕ
+first_with flag pages number = page_index pages number >>= λ index. first_if flag index (slice_get pages index)
+
+-- the index of the word that holds an address, if its page has the flag
+abbrev pub index_with : (flag : ℕ) → List MappedPage → ℕ → Option ℕ
+index_with flag pages address = option_map (λ first. first + address % PAGE_BYTES / 4) (first_with flag pages (address / PAGE_BYTES))
 
 -- the index of the word that holds an address
 abbrev pub word_index : List MappedPage → ℕ → Option ℕ

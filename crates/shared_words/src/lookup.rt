@@ -1,6 +1,6 @@
 // Where the word at an address is in the table.
 ghost use Rattle.std.specs.Prelude.{◌≡◌, ◌/◌, ◌<◌, IfSome, Some, true, vec_len};
-ghost use Rattle.shared_words.specs.Layout.{first_word, is_mapped, page_index, word_index};
+ghost use Rattle.shared_words.specs.Layout.{first_with, index_with, is_mapped, page_index, word_index};
 ghost use Rattle.shared_words.specs.Words.{IsGuestWord, IsPageStart, pages_of, table_of};
 
 use crate::layout::{FIRST_WORD, PAGE_WORDS};
@@ -33,7 +33,7 @@ impl SharedWords {
     #[inline(always)]
     pub(crate) fn first_with(&self, flag: u8, number: u32) -> Option<usize>
         requires { 0 < flag }
-        ensures first { IfSome result (λ first. Some first ≡ first_word (pages_of self.now) number) }
+        ensures first { result ≡ first_with flag (pages_of self.now) number }
         ensures inside { IfSome result (IsPageStart (table_of self.now)) }
     {
         let Some(index) = self.page(number) else {
@@ -50,7 +50,8 @@ impl SharedWords {
     #[inline(always)]
     pub(crate) fn index_with(&self, flag: u8, address: u32) -> Option<usize>
         requires { 0 < flag }
-        ensures { IfSome result (IsGuestWord (table_of self.now)) }
+        ensures index { result ≡ index_with flag (pages_of self.now) address }
+        ensures inside { IfSome result (IsGuestWord (table_of self.now)) }
     {
         let Some(first) = self.first_with(flag, address / 4096) else {
             return None;

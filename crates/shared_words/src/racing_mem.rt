@@ -33,7 +33,7 @@ struct Reservation {
 ///
 /// An aligned word is loaded and stored in one step. A store to part of a word or across two words, and an AMO, change each word by a
 /// step that fails if another hart changed it first. They try that 64 times and then answer `Busy`. An SC tries once, and is lost if
-/// that fails. An access is denied if the page has not the flag, as in `Pages`.
+/// that fails. An access is denied if a page hasn't the flag, as in `Pages`.
 ///
 /// Each LR, SC and AMO takes a ticket. Two more cases answer `Busy`: all of 2^32 - 1 tickets are taken, or an LR, or an SC without a
 /// reservation, can't get memory for its entry in the log (`is_out_of_memory`).
