@@ -1,5 +1,6 @@
 pub mod Bytes
 pub mod Closed
+pub mod Logs
 pub mod MappedPages
 pub mod PageIndexes
 pub mod PagesMade

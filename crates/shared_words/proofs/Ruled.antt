@@ -1,15 +1,15 @@
 -- Each step keeps the rule.
-use Rattle.std.proofs.Common.{◌≡◌, ◌⊎◌, inl, inr, ⊎_elim, ℕ, ◌+◌, ◌%◌, ◌^◌, ◌<◌, ◌≤◌, Bool, true, false, cond, List, [], ◌∷◌, ◌++◌, get_or, set, length, sym, refl, ap, subst, ◌∙◌, arith, length-set, get_or-set_same}
+use Rattle.std.proofs.Common.{◌≡◌, ◌⊎◌, inl, inr, ⊎_elim, ℕ, ◌+◌, ◌%◌, ◌^◌, ◌<◌, ◌≤◌, Bool, true, false, cond, List, [], ◌∷◌, ◌++◌, get_or, set, sym, refl, ap, subst, ◌∙◌, arith, length-set, get_or-set_same}
 use Rattle.std.proofs.lemmas.List.{get_or-set_other}
 use prog.Atomic.{either}
 use Rattle.std.specs.Prelude.{◌==◌}
 use mathlib.Core.Option.{none, some}
 use lib.ListN.{get_elem?}
-use Rattle.atomic_table.specs.Table.{Me, step, keeps, Allows, Splits, Joins, opening}
-use Rattle.shared_words.specs.Rule.{HasSource, KeepsRule, times, stores_of, total, once_below, after_load, after_store, after_exchange, loads, stores, exchanges, with_ticket, takes_ticket, reduced, new_view, joined, spent, all_tickets}
+use Rattle.atomic_table.specs.Table.{Me, step, keeps, Allows, Splits, Joins}
+use Rattle.shared_words.specs.Rule.{HasSource, KeepsRule, times, stores_of, total, once_below, after_load, after_store, after_exchange, loads, stores, exchanges, with_ticket, takes_ticket, reduced, new_view, joined, spent}
 use Rattle.shared_words.specs.declared.view.Stored.{Stored}
 use Rattle.shared_words.specs.declared.view.View.{View}
-use Rattle.shared_words.proofs.Views.{total_set, total_append, part_of, times_append, stores_append, stored_last, above_all, none_below, once_more, once_below_lt, set_at}
+use Rattle.shared_words.proofs.Views.{total_set, total_append, part_of, times_append, stores_append, stored_last, above_all, once_more, once_below_lt, set_at}
 
 abbrev M : Type 0
 M = Me (Unit {0}) View
@@ -136,12 +136,3 @@ joining start id other v w s kept at _ there =
           (let f : View → ℕ = λ u. stores_of i (get_or s.words i 0) u.stored in let e = total_set f s.views id v (joined v w) at in let o = total_set f (set s.views id (joined v w)) other w spent there in
           let a = stores_append i (get_or s.words i 0) v.stored w.stored in omega arith) (kept.sources i p);
     }
-
-pub opens : (words : List ℕ) → 0 < length words → ((i : ℕ) → 0 < i → get_or words i 0 < 2 ^ 32) → get_or words 0 0 ≡ 0 → KeepsRule words (opening words [] all_tickets)
-opens words at_least guest_words none_yet = record {
-  ticket_word = at_least;
-  guest_words = guest_words;
-  tickets = λ x. (let e : once_below x (get_or words 0 0) ≡ once_below x 0 = ap (once_below x) none_yet in let z = none_below x in omega arith);
-  budgets = (let z = none_yet in omega arith);
-  sources = λ i p. inl refl;
-}

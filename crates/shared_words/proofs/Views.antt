@@ -40,9 +40,6 @@ pub above_all : (n : ℕ) (ys : List ℕ) → ((x : ℕ) → 0 < times x ys → 
 above_all n [] h = grind arith
 above_all n (y ∷ ys) h = All-cons (λ t. t < n) y ys (h y (grind (arith, nat_tests))) (above_all n ys (λ x more. h x (omega arith)))
 
-pub none_below : (x : ℕ) → once_below x 0 ≡ 0
-none_below x = grind (arith, nat_tests)
-
 pub once_more : (x n : ℕ) → once_below x (n + 1) ≡ once_below x n + times x (n ∷ [])
 once_more x n = grind (arith, nat_tests)
 

@@ -1,6 +1,7 @@
 pub mod Closing
 pub mod Contended
 pub mod Layout
+pub mod Logged
 pub mod NoTable
 pub mod Rule
 pub mod Words

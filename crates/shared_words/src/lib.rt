@@ -5,11 +5,11 @@
 //! once. The ticket word and the budgets of all seats are 2^62 in all. `of_pages` starts with the words of the pages, and `into_pages`
 //! returns the same pages with the words of one moment at which the rule holds. Each call of a seat is one atomic step on the word that
 //! its address names, and the seat's view says what the step found and stored. `RacingMem` is a `Mem` over a seat: it counts the accesses
-//! that were busy and the SCs that were lost. Stands on `atomic_table` for the steps, on `cow_pages` for pages, on `dp_base` for `Mem`, and
-//! on `sync_hints` for what a log says of a step.
+//! that were busy and the SCs that were lost, and the tickets in its log don't fall. Stands on `atomic_table` for the steps, on `cow_pages`
+//! for pages, on `dp_base` for `Mem`, and on `sync_hints` for what a log says of a step.
 //!
 //! Not said: which of the stored words a load finds, since other threads store; that a thread gets on; how often an access is busy; which
-//! accesses of `RacingMem` are denied, and what it logs.
+//! accesses of `RacingMem` are denied, and which steps it logs.
 //!
 //! ```text
 //! let (words, seat) = SharedWords::of_pages(alloc, &pages)?;

@@ -1,6 +1,7 @@
 // The memory that a racing hart sees.
-ghost use Rattle.std.specs.Prelude.{◌≡◌, ◌<◌, ◌≤◌, ◌^◌, None, length};
+ghost use Rattle.std.specs.Prelude.{◌≡◌, ◌<◌, ◌≤◌, ◌^◌, None};
 ghost use Rattle.shared_words.specs.Contended.{contention_of};
+ghost use Rattle.shared_words.specs.Logged.{AreInOrder};
 ghost use Rattle.shared_words.specs.Rule.{view_of};
 ghost use Rattle.shared_words.specs.Words.{IsSeatAt, table_of};
 ghost use Rattle.shared_words.specs.declared.layout.TheConstants.{FIRST_WORD};
@@ -43,8 +44,6 @@ struct Reservation {
 pub struct RacingMem<'a, J: Naming> {
     seat: RacingSeat<'a, J>,
     reservation: Option<Reservation>,
-    // The ticket of each step that synchronises, and what the step is.
-    entries: Vec<(u64, Sc)>,
     out_of_memory: bool,
     // The page that was last fetched from, and the index of its first word.
     code_page: u32,
@@ -61,9 +60,8 @@ impl<'a, J: Naming> RacingMem<'a, J> {
         requires budget { 2 ^ 32 ≤ (view_of seat).budget }
     {
         RacingMem {
-            seat: RacingSeat::new(words, seat),
+            seat: RacingSeat::new(alloc, words, seat),
             reservation: None,
-            entries: Vec::new(alloc),
             out_of_memory: false,
             // No page has this number.
             code_page: u32::MAX,
@@ -77,21 +75,21 @@ impl<'a, J: Naming> RacingMem<'a, J> {
         self.out_of_memory
     }
 
-    /// Returns the seat, and the log of the steps that synchronise: the ticket of each, and what the step is. An LR whose SC stored has
-    /// the ticket of the SC if no other entry is between them.
+    /// Returns the seat, and the log of the steps that synchronise: the ticket of each, and what the step is. The tickets don't fall. An
+    /// LR whose SC stored has the ticket of the SC if no other entry is between them.
     pub fn into_parts(self) -> (Seat, Log<(u64, Sc)>)
-        ensures { IsSeatAt J.table result.0 }
+        ensures seat { IsSeatAt J.table result.0 }
+        ensures log { AreInOrder result.1 }
     {
         let RacingMem {
             seat,
             reservation: _,
-            entries,
             out_of_memory: _,
             code_page: _,
             code_first: _,
             counts: _,
         } = self;
-        (seat.into_seat(), Log::from_vec(entries))
+        seat.into_parts()
     }
 
     // Fetches from another page than the last time, or across two words.
@@ -171,12 +169,9 @@ impl<'a, J: Naming> Mem for RacingMem<'a, J> {
         let Some(index) = self.seat.index_with(WRITE, address) else {
             return Ok(Access::Denied);
         };
-        self.entries.reserve(1)?;
+        self.seat.reserve()?;
         match self.seat.change_word(index, op, value) {
-            Some((old, ticket)) => {
-                self.entries.push_reserved((ticket, Sc::NotSc));
-                Ok(Access::Done(old))
-            }
+            Some(old) => Ok(Access::Done(old)),
             None => {
                 self.counts.add_busy();
                 Ok(Access::Busy)
@@ -189,7 +184,7 @@ impl<'a, J: Naming> Mem for RacingMem<'a, J> {
         let Some(index) = self.seat.index_with(READ, address) else {
             return Access::Denied;
         };
-        if self.entries.reserve(1).is_err() {
+        if self.seat.reserve().is_err() {
             self.out_of_memory = true;
             self.counts.add_busy();
             return Access::Busy;
@@ -202,9 +197,9 @@ impl<'a, J: Naming> Mem for RacingMem<'a, J> {
         self.reservation = Some(Reservation {
             address,
             word,
-            entry: self.entries.len(),
+            entry: self.seat.entry_count(),
         });
-        self.entries.push_reserved((ticket, Sc::NotSc));
+        self.seat.note(ticket, Sc::NotSc);
         Access::Done(word)
     }
 
@@ -213,7 +208,7 @@ impl<'a, J: Naming> Mem for RacingMem<'a, J> {
         let Some(index) = self.seat.index_with(WRITE, address) else {
             return Ok(Access::Denied);
         };
-        self.entries.reserve(1)?;
+        self.seat.reserve()?;
         let Some(ticket) = self.seat.ticket() else {
             self.counts.add_busy();
             return Ok(Access::Busy);
@@ -222,12 +217,11 @@ impl<'a, J: Naming> Mem for RacingMem<'a, J> {
         self.reservation = None;
         if let Some(held) = reservation {
             if held.address == address && self.seat.compare_exchange(index, held.word, value) {
-                move_entry(&mut self.entries, held.entry, ticket);
-                self.entries.push_reserved((ticket, Sc::Won));
+                self.seat.note_won(ticket, held.entry);
                 return Ok(Access::Done(true));
             }
         }
-        self.entries.push_reserved((ticket, Sc::Lost));
+        self.seat.note(ticket, Sc::Lost);
         self.counts.add_lost();
         Ok(Access::Done(false))
     }
@@ -237,7 +231,7 @@ impl<'a, J: Naming> Mem for RacingMem<'a, J> {
         if self.seat.index_with(WRITE, address).is_none() {
             return Access::Denied;
         }
-        if self.entries.reserve(1).is_err() {
+        if self.seat.reserve().is_err() {
             self.out_of_memory = true;
             self.counts.add_busy();
             return Access::Busy;
@@ -246,15 +240,7 @@ impl<'a, J: Naming> Mem for RacingMem<'a, J> {
             self.counts.add_busy();
             return Access::Busy;
         };
-        self.entries.push_reserved((ticket, Sc::Lost));
+        self.seat.note(ticket, Sc::Lost);
         Access::Done(())
-    }
-}
-
-// Gives the LR of an SC that stored the ticket of the SC, if the LR's entry is the last one. A schedule could otherwise put a step of
-// another thread between the two, which would end the reservation.
-fn move_entry(entries: &mut [(u64, Sc)], entry: usize, ticket: u64) {
-    if entry.saturating_add(1) == entries.len() {
-        entries[entry].0 = ticket;
     }
 }
