@@ -10,3 +10,4 @@ mod Turning
 mod TurnKept
 mod Running
 mod Starting
+mod Sizes

@@ -1,7 +1,7 @@
 //! Which states have an encoding. Each function's contract is a law over all guests, states, slices and logs; a call of it
 //! costs nothing and hands the law to the caller's proof.
 
-ghost use Rattle.std.specs.Prelude.{◌≡◌, ◌<◌, ◌^◌, ℕ, List, [], Ok};
+ghost use Rattle.std.specs.Prelude.{◌≡◌, ◌<◌, ◌^◌, ℕ, List, [], length, Ok};
 ghost use Rattle.dp_base.specs.declared.answer.Answer.{Answer};
 ghost use Rattle.dp_base.specs.declared.slice.Slice.{Slice};
 ghost use Rattle.dp_base.specs.declared.tid.Tid.{Tid};
@@ -14,7 +14,8 @@ ghost use Rattle.guest_kernel.specs.Slices.{at, run, chain};
 ghost use Rattle.guest_kernel.specs.Start.{IsGuestFile, start_state};
 ghost use Rattle.guest_kernel.specs.State.{without_reservation};
 ghost use Rattle.guest_kernel.specs.Turn.{turn};
-ghost use Rattle.checkpoint.specs.State.{IsEncodable};
+ghost use Rattle.checkpoint.specs.State.{IsEncodable, state_bytes};
+ghost use Rattle.dp_base.specs.declared.limits.TheConstants.{MAX_BODY_BYTES};
 
 /// The state in which a guest starts has an encoding.
 pub fn a_start_state_is_encodable()
@@ -24,6 +25,11 @@ pub fn a_start_state_is_encodable()
     elf_image::laws::a_heap_starts_in_memory();
     guest_kernel::laws::a_guest_starts_with_pages();
 }
+
+/// The encoding of a state is shorter than the body of a record may be, so a mark of it fits.
+pub fn an_encoding_is_short()
+    ensures { (s : State) → IsEncodable s → length (state_bytes s) < MAX_BODY_BYTES }
+{}
 
 /// Behind a turn a state has an encoding once the reservation of the thread whose turn it was is dropped, if it was so
 /// before and its answers have encodings. Step counts and input places are below 2^64.
