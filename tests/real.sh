@@ -16,7 +16,7 @@ work=$(mktemp -d) || exit 1
 trap 'rm -rf "$work"' EXIT
 cd "$work" || exit 1
 
-checks=567 # how many there are below; one that isn't made must be missed
+checks=648 # how many there are below; one that isn't made must be missed
 passed=0
 failed=0
 
@@ -448,6 +448,28 @@ if [[ -z ${DPCLI:-} ]]; then
   status=$?
   check "the script and a file that may not grow: the status is $status, not DiskFault" ended_with 6
 fi
+
+# ---- marks
+
+# Twenty epochs of 30,000 steps. With a mark after every so many of them the journal is longer by as many marks, of 28 pages each, and
+# replays the same by any number of workers.
+run record "$lines" unmarked.dpj --epoch 30000 --limit 600000 --mark 0 </dev/null
+check "without marks: the status is $status, not StepLimit" ended_with 11
+cp out unmarked.out
+for mark in 1 3 7 16 21; do
+  run record "$lines" "marked$mark.dpj" --epoch 30000 --limit 600000 --mark "$mark" </dev/null
+  check "a mark after each $mark epochs: the status is $status, not StepLimit" ended_with 11
+  check "a mark after each $mark epochs: another output" same out unmarked.out
+  more=$(($(bytes_of "marked$mark.dpj") - $(bytes_of unmarked.dpj)))
+  check "a mark after each $mark epochs: too few marks" test "$more" -ge "$((20 / mark * 28 * 4101))"
+  check "a mark after each $mark epochs: too many marks" test "$more" -lt "$(((20 / mark + 1) * 28 * 4101))"
+  for workers in 1 2 4 64; do
+    run replay "marked$mark.dpj" --workers "$workers" </dev/null
+    check "a mark after each $mark epochs, replayed by $workers workers: the status is $status" ended_with 0
+    check "a mark after each $mark epochs, replayed by $workers workers: another output" same out unmarked.out
+    check "a mark after each $mark epochs, replayed by $workers workers: another report" note_has "epochs 20 squashes 0 steps 600000 sent $(bytes_of out) end none"
+  done
+done
 
 # ---- a journal that is cut
 

@@ -1,3 +1,4 @@
+mod Marked
 pub mod Statuses
 mod Halves
 mod Replays

@@ -27,22 +27,22 @@ use Rattle.recorder.proofs.Moments.{blank_reads, nothing_begun}
 use Rattle.dp_top.specs.Asking.{Asked}
 use Rattle.dp_top.specs.Moments.{EveryMoment, IsStill, StandsFor, StillThroughout}
 use Rattle.dp_top.specs.Running.{CameTo, Did, RecordedAs}
-use Rattle.dp_top.proofs.Statuses.{not_both, same_name}
+use Rattle.dp_top.proofs.Statuses.{not_both, same_mark, same_name}
 
 -- ---- nothing was mid
 
 still_start : (s : History) → Always (IsStill s) s s
 still_start s = always-start (IsStill s) s (λ image sent may. (may.on_disk, may.got ∙ got-nothing s.sent may.taken))
 
-pub not_begun : (guest : List ℕ) (start : State) (i : Option Input) (before after : Option History) → after ≡ before → EachMoment guest start i i before after
-not_begun guest start i before after same = known-same _ before after same (λ s empty synced. nothing_begun guest start i i s empty synced)
+pub not_begun : (guest : List ℕ) (every : ℕ) (start : State) (i : Option Input) (before after : Option History) → after ≡ before → EachMoment guest every start i i before after
+not_begun guest every start i before after same = known-same _ before after same (λ s empty synced. nothing_begun guest every start i i s empty synced)
 
-module _ (name : List ℕ) (files : Option (List File)) (i j : Option Input) where
-  blank : (s : History) → s.disk ≡ [] → IsSynced s → Always (StandsFor name files i j s) s s
-  blank s empty synced = always-start (StandsFor name files i j s) s
+module _ (name : List ℕ) (every : ℕ) (files : Option (List File)) (i j : Option Input) where
+  blank : (s : History) → s.disk ≡ [] → IsSynced s → Always (StandsFor name every files i j s) s s
+  blank s empty synced = always-start (StandsFor name every files i j s) s
       (λ image sent may. ([], may.got ∙ got-nothing s.sent may.taken ∙ sym (append-nil s.sent), inl (blank_reads s empty synced image may.on_disk, refl)))
 
-  idle : (before after : Option History) → after ≡ before → IfKnown (EveryMoment name files i j) before after
+  idle : (before after : Option History) → after ≡ before → IfKnown (EveryMoment name every files i j) before after
   idle before after same = known-same _ before after same (λ s. (blank s, λ some. still_start s))
 
 -- ---- a recording
@@ -54,27 +54,30 @@ found_or_same guest tells start options i j before after (Ok report) (r, ended, 
 found_or_same guest tells start options i j before after (Err (faults.StepLimit n)) (r, going, is, most, room, drawn, known) = known-map _ _ _ _ (λ s t k. inl k.empty) known
 found_or_same guest tells start options i j before after (Err faults.InputFault) (r, going, due, room, drawn, known) = known-map _ _ _ _ (λ s t k. inl k.empty) known
 found_or_same guest tells start options i j before after (Err (faults.JournalFull end need)) (inl (zero_, needs, full, same, known)) = known-map _ _ _ _ (λ s t k. inl k.0) known
-found_or_same guest tells start options i j before after (Err (faults.JournalFull end need)) (inr (r, next_, room, end_is, need_is, full, drawn, known)) =
+found_or_same guest tells start options i j before after (Err (faults.JournalFull end need)) (inr (inl (r, next_, room, end_is, need_is, full, drawn, known))) =
+    known-map _ _ _ _ (λ s t k. inl k.empty) known
+found_or_same guest tells start options i j before after (Err (faults.JournalFull end need)) (inr (inr (r, due, room, end_is, need_is, full, drawn, known))) =
     known-map _ _ _ _ (λ s t k. inl k.empty) known
 found_or_same guest tells start options i j before after (Err faults.OutOfMemory) (inl (same, known)) = known-map _ _ _ _ (λ s t k. inl k.0) known
 found_or_same guest tells start options i j before after (Err faults.OutOfMemory) (inr (inl (r, may_go, room, drawn, known))) = known-map _ _ _ _ (λ s t k. inl k.empty) known
 found_or_same guest tells start options i j before after (Err faults.OutOfMemory) (inr (inr (on, next_, room, drawn, known))) = known-map _ _ _ _ (λ s t k. inl k.empty) known
 found_or_same guest tells start options i j before after (Err (faults.JournalInUse len)) (some, same, known) = known-map _ _ _ _ (λ s t k. inr k.1) known
 found_or_same guest tells start options i j before after (Err faults.DiskFault) (inl (same, known)) = known-map _ _ _ _ (λ s t k. k.untouched) known
-found_or_same guest tells start options i j before after (Err faults.DiskFault) (inr (r, next_, room, drawn, known)) = known-map _ _ _ _ (λ s t k. inl k.empty) known
+found_or_same guest tells start options i j before after (Err faults.DiskFault) (inr (inl (r, next_, room, drawn, known))) = known-map _ _ _ _ (λ s t k. inl k.empty) known
+found_or_same guest tells start options i j before after (Err faults.DiskFault) (inr (inr (r, due, room, drawn, known))) = known-map _ _ _ _ (λ s t k. inl k.empty) known
 found_or_same guest tells start options i j before after (Err faults.OutputFault) (inl (r, next_, room, drawn, known)) = known-map _ _ _ _ (λ s t k. inl k.1.empty) known
 found_or_same guest tells start options i j before after (Err faults.OutputFault) (inr (r, ended, room, drawn, known)) = known-map _ _ _ _ (λ s t k. inl k.1.empty) known
 
 module _ (tells : Tells) (name : List ℕ) (options : Options) (files : Option (List File)) (i j : Option Input) (before after : Option History) where
-  recorded_moments : (answer : Result Report RecordFault) → RecordedAs tells name options files i j before after answer → IfKnown (EveryMoment name files i j) before after
+  recorded_moments : (answer : Result Report RecordFault) → RecordedAs tells name options files i j before after answer → IfKnown (EveryMoment name options.mark files i j) before after
   recorded_moments answer as_ = known-map _ _ _ _
       (λ s t both. (
-        λ empty synced. always-weaker (HoldsAt as_.bytes (start_state as_.bytes) i j s) (StandsFor name files i j s) s t (stands s) (both.0 empty synced),
+        λ empty synced. always-weaker (HoldsAt as_.bytes options.mark (start_state as_.bytes) i j s) (StandsFor name options.mark files i j s) s t (stands s) (both.0 empty synced),
         λ some. untouched s t some both.1,
       ))
       (known-both _ _ _ _ as_.moments (found_or_same as_.bytes tells (start_state as_.bytes) options i j before after answer as_.recorded))
     where
-      stands : (s : History) (image sent : List ℕ) → HoldsAt as_.bytes (start_state as_.bytes) i j s image sent → StandsFor name files i j s image sent
+      stands : (s : History) (image sent : List ℕ) → HoldsAt as_.bytes options.mark (start_state as_.bytes) i j s image sent → StandsFor name options.mark files i j s image sent
       stands s image sent (said, is, inl none) = (said, is, inl none)
       stands s image sent (said, is, inr recording) =
           (said, is, inr (record { guest = as_.bytes; fetched = as_.fetched; accepted = as_.accepted; recording = recording }))
@@ -83,27 +86,28 @@ module _ (tells : Tells) (name : List ℕ) (options : Options) (files : Option (
       untouched s t some (inl empty) = absurd (omega (arith, some, ap (λ (l : List ℕ). length l) empty))
       untouched s t some (inr same) = subst (λ (h : History). Always (IsStill s) s h) (sym same) (still_start s)
 
-  came_moments : (status : Status) → CameTo tells name options files i j before after status → IfKnown (EveryMoment name files i j) before after
-  came_moments status (inl came) = idle name files i j before after came.2
-  came_moments status (inr (inl came)) = idle name files i j before after came.6
+  came_moments : (status : Status) → CameTo tells name options files i j before after status → IfKnown (EveryMoment name options.mark files i j) before after
+  came_moments status (inl came) = idle name options.mark files i j before after came.2
+  came_moments status (inr (inl came)) = idle name options.mark files i j before after came.6
   came_moments status (inr (inr (answer, is, as_))) = recorded_moments answer as_
 
 -- ---- a command
 
 did_moments : (tells : Tells) (words : List (String Global)) (files : Option (List File)) (i j : Option Input) (before mid : Option History) (status : Status) → Did tells words files i j before mid status
-    → (a : Asked words) → IfKnown (EveryMoment a.guest files i j) before mid
+    → (a : Asked words) → IfKnown (EveryMoment a.guest a.options.mark files i j) before mid
 did_moments tells words files i j before mid status (inl refused) a = absurd (let not_taken = refused.1 in let taken = a.taken in cc)
-did_moments tells words files i j before mid status (inr (inl memory)) a = idle a.guest files i j before mid memory.2
+did_moments tells words files i j before mid status (inr (inl memory)) a = idle a.guest a.options.mark files i j before mid memory.2
 did_moments tells words files i j before mid status (inr (inr (inl did))) a =
-    subst (λ (name : List ℕ). IfKnown (EveryMoment name files i j) before mid) (same_name words did.0 a) (came_moments tells did.0.guest did.0.options files i j before mid status did.1)
+    subst (λ (every : ℕ). IfKnown (EveryMoment a.guest every files i j) before mid) (same_mark words did.0 a)
+    (subst (λ (name : List ℕ). IfKnown (EveryMoment name did.0.options.mark files i j) before mid) (same_name words did.0 a) (came_moments tells did.0.guest did.0.options files i j before mid status did.1))
 did_moments tells words files i j before mid status (inr (inr (inr did))) a = absurd (not_both words a did.0)
 
 -- and then its status's line is sent
 pub command_moments : (tells : Tells) (words : List (String Global)) (files : Option (List File)) (i j : Option Input) (before mid after : Option History) (status : Status) (told : Bool) → Did tells words files i j before mid status
-    → IfKnown (Sent Note (status_line status) told) mid after → (a : Asked words) → IfKnown (EveryMoment a.guest files i j) before after
+    → IfKnown (Sent Note (status_line status) told) mid after → (a : Asked words) → IfKnown (EveryMoment a.guest a.options.mark files i j) before after
 command_moments tells words files i j before mid after status told did line a = known-then _ _ _ _ _ _
     (λ s t u e b. (
-      λ empty synced. noted-too (StandsFor a.guest files i j s) (status_line status) s t u (e.0 empty synced) b.1.moments,
+      λ empty synced. noted-too (StandsFor a.guest a.options.mark files i j s) (status_line status) s t u (e.0 empty synced) b.1.moments,
       λ some. noted-too (IsStill s) (status_line status) s t u (e.1 some) b.1.moments,
     ))
     (did_moments tells words files i j before mid status did a) line

@@ -40,7 +40,7 @@ not_attached guest tells start options i j before after kept same =
 -- the guest that was fetched was recorded
 pub came_by : (tells : Tells) (name : List ℕ) (options : Options) (files : Option (List File)) (i j : Option Input) (before after : Option History) (guest loaded there : List ℕ) (state : State) (answer : Result Report RecordFault) (status : Status)
     → AreBytes there → IsFetched files name guest → loaded ≡ guest → there ≡ guest → IsGuestFile loaded → state ≡ start_state loaded
-    → status ≡ status_of answer → Recorded there tells state options i j before after answer → EachMoment there state i j before after → CameTo tells name options files i j before after status
+    → status ≡ status_of answer → Recorded there tells state options i j before after answer → EachMoment there options.mark state i j before after → CameTo tells name options files i j before after status
 came_by tells name options files i j before after guest loaded there state answer status of_bytes fetched loaded_is there_is accepted state_is status_is recorded moments =
     let started : state ≡ start_state guest = state_is ∙ ap start_state loaded_is in
     let as_ : RecordedAs tells name options files i j before after answer = record {
@@ -49,7 +49,7 @@ came_by tells name options files i j before after guest loaded there state answe
       fetched = fetched;
       accepted = subst IsGuestFile loaded_is accepted;
       recorded = subst (λ (s : State). Recorded guest tells s options i j before after answer) started (subst (λ (g : List ℕ). Recorded g tells state options i j before after answer) there_is recorded);
-      moments = subst (λ (s : State). EachMoment guest s i j before after) started (subst (λ (g : List ℕ). EachMoment g state i j before after) there_is moments);
+      moments = subst (λ (s : State). EachMoment guest options.mark s i j before after) started (subst (λ (g : List ℕ). EachMoment g options.mark state i j before after) there_is moments);
     } in
     inr (inr (answer, status_is, as_))
 
@@ -76,6 +76,15 @@ guest_named None = []
 -- words ask for one guest
 pub same_name : (words : List (String Global)) (a b : Asked words) → a.guest ≡ b.guest
 same_name words a b = ap guest_named (sym a.said ∙ b.said)
+
+abbrev mark_named : Option Command → ℕ
+mark_named (Some (Record guest journal workers epoch slice ahead mark limit)) = mark
+mark_named (Some (Replay journal workers)) = 0
+mark_named None = 0
+
+-- and for one count of epochs from mark to mark
+pub same_mark : (words : List (String Global)) (a b : Asked words) → a.options.mark ≡ b.options.mark
+same_mark words a b = ap mark_named (sym a.said ∙ b.said)
 
 abbrev asks_to_record : Option Command → Bool
 asks_to_record (Some (Record guest journal workers epoch slice ahead mark limit)) = true

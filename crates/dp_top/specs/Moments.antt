@@ -8,25 +8,26 @@ use Rattle.guest_kernel.specs.Start.{IsGuestFile, start_state}
 use Rattle.journal_text.specs.Reading.{reads}
 use Rattle.recorder.specs.Moments.{IsRecording}
 
--- The image is a recording of the guest whose file has this name, from its start, and what was said is a prefix of its output.
-pub record IsRecordingOf (name : List ℕ) (files : Option (List File)) (i j : Option Input) (image said : List ℕ) : Type 0 where
+-- The image is a recording of the guest whose file has this name, from its start, with a mark after every so many epochs, and what was said is
+-- a prefix of its output.
+pub record IsRecordingOf (name : List ℕ) (every : ℕ) (files : Option (List File)) (i j : Option Input) (image said : List ℕ) : Type 0 where
   pub guest : List ℕ
   pub fetched : IsFetched files name guest
   pub accepted : IsGuestFile guest
-  pub recording : IsRecording guest (start_state guest) i j image said
+  pub recording : IsRecording guest every (start_state guest) i j image said
 
 -- No journal yet, and nothing was said; or a recording. What was said is what Out has got since the command began.
-abbrev pub StandsFor : (name : List ℕ) → (files : Option (List File)) → (i j : Option Input) → History → (image sent : List ℕ) → Type 0
-StandsFor name files i j before image sent = (said : List ℕ) × (sent ≡ before.sent ++ said)
-    × (((reads image ≡ None) × (said ≡ [])) ⊎ IsRecordingOf name files i j image said)
+abbrev pub StandsFor : (name : List ℕ) → (every : ℕ) → (files : Option (List File)) → (i j : Option Input) → History → (image sent : List ℕ) → Type 0
+StandsFor name every files i j before image sent = (said : List ℕ) × (sent ≡ before.sent ++ said)
+    × (((reads image ≡ None) × (said ≡ [])) ⊎ IsRecordingOf name every files i j image said)
 
 -- The disk is as it was, and nothing was sent.
 abbrev pub IsStill : History → (image sent : List ℕ) → Type 0
 IsStill before image sent = IsImage before.pending image × (sent ≡ before.sent)
 
 -- Every moment of a record command: on a disk that was empty, with nothing pending, it stands; on one that wasn't empty all is still.
-abbrev pub EveryMoment : (name : List ℕ) → (files : Option (List File)) → (i j : Option Input) → History → History → Type 0
-EveryMoment name files i j s t = (s.disk ≡ [] → IsSynced s → Always (StandsFor name files i j s) s t) × (0 < length s.disk → Always (IsStill s) s t)
+abbrev pub EveryMoment : (name : List ℕ) → (every : ℕ) → (files : Option (List File)) → (i j : Option Input) → History → History → Type 0
+EveryMoment name every files i j s t = (s.disk ≡ [] → IsSynced s → Always (StandsFor name every files i j s) s t) × (0 < length s.disk → Always (IsStill s) s t)
 
 -- at every moment all is still
 abbrev pub StillThroughout : History → History → Type 0

@@ -33,7 +33,7 @@ pub record RecordedAs (tells : Tells) (name : List ℕ) (options : Options) (fil
   pub fetched : IsFetched files name bytes
   pub accepted : IsGuestFile bytes
   pub recorded : Recorded bytes tells (start_state bytes) options i j before after answer
-  pub moments : EachMoment bytes (start_state bytes) i j before after
+  pub moments : EachMoment bytes options.mark (start_state bytes) i j before after
 
 -- What a record command results in, before its status's line is sent on Note. Nothing was done, since the guest's file could not be
 -- read, or is refused, or memory ran out; or the guest was recorded, and the status is that of the recording's answer.

@@ -36,7 +36,7 @@ pub fn record_guest<R: Threads + Sync, I: Inlet, W: World, Q: Racer, G: Gate + S
     ensures bytes { AreBytes guest.now }
     ensures recorded { (answer : Result Report RecordFault) × (result.1 ≡ status_of answer)
         × Recorded guest.now (Q.tells racer.old) start options (I.input inlet.old) (I.input inlet.new) (W.history world) (W.history result.0) answer }
-    ensures moments { EachMoment guest.now start (I.input inlet.old) (I.input inlet.new) (W.history world) (W.history result.0) }
+    ensures moments { EachMoment guest.now options.mark start (I.input inlet.old) (I.input inlet.new) (W.history world) (W.history result.0) }
     ensures none { result.1 ≡ Status.Ok → (W.sink_faults result.0 ≡ W.sink_faults world)
         × (I.input_faults inlet.new ≡ I.input_faults inlet.old) }
     ensures input_fault { result.1 ≡ Status.InputFault → Rose (I.input_faults inlet.old) (I.input_faults inlet.new) }

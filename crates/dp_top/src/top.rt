@@ -56,7 +56,7 @@ pub fn run<R: Threads + Sync, F: Files, I: Inlet, W: World, Q: Racer, G: Gate + 
     // pending, is no journal, and nothing was sent; or whole epochs in order that are one run of the guest on its input, of whose
     // output a prefix was sent. On a disk that wasn't empty, and where no journal is attached, nothing is written or sent.
     ensures every_moment { (asked : Asked words.now) →
-        IfKnown (EveryMoment asked.guest (F.directory files.old) (I.input inlet.old) (I.input inlet.new)) (W.history world) (W.history result.0) }
+        IfKnown (EveryMoment asked.guest asked.options.mark (F.directory files.old) (I.input inlet.old) (I.input inlet.new)) (W.history world) (W.history result.0) }
     ensures still { (result.1 ≡ Status.Usage) ⊎ (result.1 ≡ Status.GuestFault)
         ⊎ (Asked words.now × IsBadImage result.1) →
         IfKnown StillThroughout (W.history world) (W.history result.0) }

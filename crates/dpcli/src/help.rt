@@ -79,7 +79,7 @@ fn record<'a>(alloc: Global) -> Result<Command<'a>, AllocError> {
             0,
             1000,
             "16",
-            "0 to 1,000; changes nothing yet",
+            "Epochs from one mark to the next, 0 to 1,000: a replay by several workers starts at each mark; 0 writes none",
         ))?
         .arg(number(
             alloc,
@@ -110,7 +110,7 @@ fn replay<'a>(alloc: Global) -> Result<Command<'a>, AllocError> {
             1,
             MAX_WORKERS as u64,
             "4",
-            "Threads for the parts of a journal between marks, 1 to 64: no mark is written yet",
+            "Threads for the parts of a journal between marks, 1 to 64",
         ))
 }
 

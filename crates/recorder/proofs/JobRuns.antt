@@ -25,10 +25,14 @@ use Rattle.racing_runner.specs.declared.offer.Offer.{Offer}
 use Rattle.recorder.specs.declared.options.Options.{Options}
 use Rattle.recorder.specs.Machine.{epochs_of_runs}
 use Rattle.recorder.specs.Racing.{AreJobs, AreResults, IsJob, bounds_for}
-use Rattle.recorder.specs.Recording.{EachIsRound, GoesOn, first_after, records_of}
+use Rattle.recorder.specs.Recording.{EachIsRound, GoesOn, first_after}
 use Rattle.supply.specs.Supplied.{Supplied}
 use Rattle.sync_hints.specs.declared.hints.Hints.{Hints}
 use Rattle.sync_hints.specs.NoHints.{no_hints}
+
+-- a record of each epoch
+abbrev pub records_in : List journals.Epoch → List Record
+records_in epochs = map epoch epochs
 
 module _ (options : Options) where
   job_ran : (first : ℕ) (s : State) (hints : Hints) (j : Job) (w : Supplied) (x : Ran) → IsJob options first s hints j → HasRun j.start j.hints w j.bounds x → HasRun s hints w (bounds_for options first s) x
@@ -104,7 +108,7 @@ module _ (options : Options) where
   is_record s hints w b r x is same = subst (λ (y : EpochRun). IsRecord (epoch (epoch_of y.epoch))) (sym same) (is.runs.is_epoch, is.runs.fits.1)
 
   pub records_ran : (first : ℕ) (s t u : State) (offers : List Offer) (w : Supplied) (results : List Ran) (runs : List EpochRun) (stop : RoundEnd) → AreResults options first s offers w results → IsJudged t results runs u stop
-      → AllByRecursion IsRecord (records_of (epochs_of_runs runs))
+      → AllByRecursion IsRecord (records_in (epochs_of_runs runs))
   records_ran first s t u offers w results [] stop are judged = tt
   records_ran first s t u offers w [] (x ∷ runs) stop are judged = absurd judged
   records_ran first s t u offers w (Idle y ∷ results) (x ∷ runs) stop are judged = absurd judged
@@ -115,14 +119,14 @@ module _ (options : Options) where
       (is_record s o.hints w (bounds_for options first s) r x are.0 judged.1.0, records_ran 1 o.next r.end u offers w results runs stop are.1 judged.1.1)
 
 -- those of rounds are
-pub are_records : (options : Options) (tells after : Tells) (first : ℕ) (s t : State) (w : Supplied) (rounds : List Round) → EachIsRound tells options first s w rounds t after → AllByRecursion IsRecord (records_of (epochs_of rounds))
+pub are_records : (options : Options) (tells after : Tells) (first : ℕ) (s t : State) (w : Supplied) (rounds : List Round) → EachIsRound tells options first s w rounds t after → AllByRecursion IsRecord (records_in (epochs_of rounds))
 are_records options tells after first s t w [] each = tt
 are_records options tells after first s t w (r ∷ rounds) each =
     let is = each.4 in
-    let these = subst (λ (l : List journals.Epoch). AllByRecursion IsRecord (records_of l)) (sym is.epochs_are)
+    let these = subst (λ (l : List journals.Epoch). AllByRecursion IsRecord (records_in l)) (sym is.epochs_are)
     (records_ran options first s s each.2 is.raced.offers (supply_of w r.draw) is.results is.runs is.stop is.raced.are_results is.judged) in
     subst (λ (l : List Record). AllByRecursion IsRecord l) (sym (map-append epoch r.epochs (epochs_of rounds)))
-    (all_append IsRecord (records_of r.epochs) (records_of (epochs_of rounds)) these (are_records options each.3 after (first_after first r.epochs) each.2 t (supply_of w r.draw) rounds each.5))
+    (all_append IsRecord (records_in r.epochs) (records_in (epochs_of rounds)) these (are_records options each.3 after (first_after first r.epochs) each.2 t (supply_of w r.draw) rounds each.5))
 
 -- ---- results judged in order
 

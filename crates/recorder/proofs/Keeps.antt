@@ -2,7 +2,8 @@
 use Rattle.std.proofs.Common.{◌≡◌, ℕ, ◌+◌, ◌<◌, ◌≤◌, Bool, true, false, List, [], ◌∷◌, ◌++◌, length, take, Option, Ok, Err, refl, sym, ap, subst, ◌∙◌, append_assoc, arith}
 use Rattle.std.proofs.lemmas.List.{append-nil, length-append, length_push}
 use Rattle.std.specs.List.{AllByRecursion, list_any}
-use Rattle.std.specs.Prelude.{◌&&◌, not}
+use Rattle.std.specs.Prelude.{◌&&◌, not, if◌then◌else◌}
+use Rattle.dp_base.specs.declared.limits.TheConstants.{MAX_BODY_BYTES}
 use Rattle.dp_base.specs.declared.answer.Answer.{Answer}
 use Rattle.dp_base.specs.declared.slice.Slice.{Slice}
 use Rattle.dp_base.specs.Encoding.{IsPrefixOf}
@@ -13,7 +14,7 @@ use Rattle.disk_model.specs.Input.{IfInput, Input, IsLast}
 use Rattle.disk_model.specs.Known.{IfKnown}
 use Rattle.disk_model.specs.Moments.{Always}
 use Rattle.disk_model.proofs.Knowing.{known-both, known-map, known-then}
-use Rattle.epoch_journal.specs.Appending.{IsAppend, RecordWritten}
+use Rattle.epoch_journal.specs.Appending.{HasAppended, IsAppend, RecordWritten}
 use Rattle.epoch_journal.specs.Standing.{Journal, Stands}
 use Rattle.epoch_journal.proofs.AtRest.{shut-of}
 use Rattle.epoch_journal.proofs.OnDisk.{length-journal-push}
@@ -28,20 +29,23 @@ use Rattle.guest_kernel.specs.Call.{After}
 use Rattle.guest_kernel.specs.Slices.{at, chain}
 use Rattle.guest_kernel.specs.State.{has_ended}
 use Rattle.journal_text.specs.Reading.{journal_of}
-use Rattle.journal_text.specs.Records.{IsRecord, Record, epoch}
+use Rattle.journal_text.specs.Records.{IsRecord, Record, body_of, epoch, mark}
 use Rattle.recorder.specs.Committing.{Committed, EachCommitted, HasCommitted}
 use Rattle.recorder.specs.declared.commit.CommitFault.{CommitFault}
 use Rattle.recorder.specs.declared.commit.CommitFault.TheVariants as commits
 use Rattle.recorder.specs.declared.tally.Tally.{Tally}
 use Rattle.recorder.specs.EpochLaws.{EpochLaws}
 use Rattle.recorder.specs.Drawing.{Draw, Drew, HasDrawn, IsHonestSince, answers_in, readings_since, supply_of}
-use Rattle.recorder.specs.Keeping.{AlwaysPartly, CanGoOn, IsDrawn, Kept, Setting}
+use Rattle.recorder.specs.Keeping.{AlwaysPartly, CanGoOn, IsDrawn, IsSince, Kept, Setting}
 use Rattle.recorder.specs.Moments.{EachMoment, HoldsAt}
 use Rattle.recorder.specs.Racing.{bounds_for, epoch_steps}
-use Rattle.recorder.specs.Recording.{GoesOn, HasRoom, IsInterrupted, IsRecorded, first_behind, records_of}
+use Rattle.recorder.specs.Marking.{IsMarkDue, is_due, marks_at, records_of, records_unmarked, since_after, since_then}
+use Rattle.recorder.specs.Recording.{GoesOn, HasRoom, IsInterrupted, IsRecorded, first_behind}
+use Rattle.checkpoint.specs.State.{IsEncodable, checkpoint_of, state_bytes}
+use Rattle.recorder.proofs.Marking.{epoch_more, mark_more, since_more}
 use Rattle.recorder.proofs.Drawings.{TakeLaws, drawn_more, has_drawn, taken_more}
-use Rattle.recorder.proofs.Moments.{append_left, appends_partly, commits_partly, each_moment}
-use Rattle.recorder.proofs.RunLists.{answers_are-push, answers_in-push, first_after-push, low_numbers, positive_steps, records-push}
+use Rattle.recorder.proofs.Moments.{append_left, appends_partly, commits_partly, each_moment, marks_partly}
+use Rattle.recorder.proofs.RunLists.{answers_are-push, answers_in-push, first_after-push, low_numbers, positive_steps}
 use Rattle.supply.specs.Supplied.{IsSupply, Supplied, end_of, refilled}
 use Rattle.sync_hints.specs.declared.hints.Hints.{Hints}
 
@@ -87,8 +91,8 @@ pub round_goes : (s : State) (w : Supplied) (there later : Option Input) (with_ 
 round_goes s w there later with_ round ready refills stamps =
     ap (can_step s) round.is ∙ can_go s w round.draw.due round.draw.taken round.draw.reading round.due ready refills stamps
 
-module _ (a : Setting) (there : Option Input) (now : Option History) (E : List Epoch) (D : List Draw) (output : List ℕ) (state : State) (w : Supplied) (j : Journal) (tally : Tally) (kept : Kept a there now E D output state w j tally) where
-  pub fits_still : HasRoom a.guest a.options E
+module _ (a : Setting) (there : Option Input) (now : Option History) (K : List Record) (E : List Epoch) (D : List Draw) (output : List ℕ) (state : State) (w : Supplied) (j : Journal) (tally : Tally) (kept : Kept a there now K E D output state w j tally) where
+  pub fits_still : HasRoom a.guest a.options K
   fits_still = omega (arith, kept.fits, kept.place_is, kept.room_is)
 
   pub drawn_still : IfInput (HasDrawn D (answers_in E)) a.given there
@@ -100,10 +104,10 @@ module _ (a : Setting) (there : Option Input) (now : Option History) (E : List E
   honest_of later draws drawn = known-map (HasDrawn draws (answers_in E)) (IsHonestSince (answers_in E)) a.given later (λ s t h. h.1) drawn
 
   -- every moment so far
-  pub moments_now : (later : Option Input) → later ≡ there → EachMoment a.guest a.start a.given later a.before now
+  pub moments_now : (later : Option Input) → later ≡ there → EachMoment a.guest a.options.mark a.start a.given later a.before now
   moments_now later same =
       let honest = honest_of there D drawn_still in
-      each_moment a.guest a.start E a.given later (subst (λ (o : Option Input). IfInput (IsHonestSince (answers_in E)) a.given o) (sym same) honest) a.before now kept.moments
+      each_moment a.guest a.options.mark a.start E a.given later (subst (λ (o : Option Input). IfInput (IsHonestSince (answers_in E)) a.given o) (sym same) honest) a.before now kept.moments
 
   -- ---- a round draws
 
@@ -120,7 +124,7 @@ module _ (a : Setting) (there : Option Input) (now : Option History) (E : List E
         (λ s t u d b. drawn_more laws w state.input D (answers_in E) round.draw s t u d (λ e. (round.used e).1) b)
         kept.drawn round.drew
 
-    pub kept_drawn : Kept a later now E (D ++ round.draw ∷ []) output state with_ j tally
+    pub kept_drawn : Kept a later now K E (D ++ round.draw ∷ []) output state with_ j tally
     kept_drawn = record {
       is_guest = kept.is_guest;
       chained = kept.chained;
@@ -133,6 +137,7 @@ module _ (a : Setting) (there : Option Input) (now : Option History) (E : List E
       little_input = kept.little_input;
       are_answers = kept.are_answers;
       are_records = kept.are_records;
+      encodable = kept.encodable;
       drawn = known-map DrawnSo (IsDrawn with_ state.input (D ++ round.draw ∷ []) (answers_in E)) a.given later
           (λ s t d. subst (λ (x : Supplied). IsDrawn x state.input (D ++ round.draw ∷ []) (answers_in E) s t) (sym round.is) d.0)
           with_round;
@@ -147,6 +152,7 @@ module _ (a : Setting) (there : Option Input) (now : Option History) (E : List E
       few = kept.few;
       sent_is = kept.sent_is;
       little = kept.little;
+      since_few = kept.since_few;
     }
 
     pub last_drawn : IfInput (λ s t. IsLast with_.stamp (readings_since s t)) a.given later
@@ -154,7 +160,11 @@ module _ (a : Setting) (there : Option Input) (now : Option History) (E : List E
         (λ s t d. subst (λ (n : ℕ). IsLast n (readings_since s t)) (sym (ap (λ (x : Supplied). x.stamp) round.is)) d.1)
         with_round
 
-  -- ---- an epoch is run from here
+-- ---- an epoch is run from here
+
+module _ (a : Setting) (there : Option Input) (now : Option History) (E : List Epoch) (D : List Draw) (output : List ℕ) (state : State) (w : Supplied) (j : Journal) (tally : Tally) (kept : Kept a there now (records_of a.options a.start E) E D output state w j tally) where
+  abbrev K : List Record
+  K = records_of a.options a.start E
 
   module _ (laws : EpochLaws) (last : IfInput (λ s t. IsLast w.stamp (readings_since s t)) a.given there) (first : ℕ) (hints : Hints) (r : EpochRun) (is : HasRunEpoch state hints w (bounds_for a.options first state) r) where
     abbrev e : Epoch
@@ -187,6 +197,10 @@ module _ (a : Setting) (there : Option Input) (now : Option History) (E : List E
     goes_on_there : CanGoOn r.end
     goes_on_there = laws.goes_on state e.slices e.answers end_at is.runs.ran kept.goes_on
 
+    pub encodable_there : IsEncodable r.end
+    encodable_there = laws.encodable state e.slices e.answers end_at kept.encodable is.runs.is_epoch.answers is.runs.ran (omega (arith, is.runs.counted, few_steps, left, a.options.limit_range.1))
+        (omega (arith, laws.reads state e.slices e.answers end_at is.runs.ran, is.runs.counted, kept.little_input, few_steps, left, a.options.limit_range.1))
+
     pub low : AllByRecursion (λ (x : Slice). x.tid.0 < 65535) e.slices
     low = low_numbers e.slices (length r.end.threads) is.runs.is_epoch.slices (laws.made state e.slices e.answers end_at is.runs.ran) goes_on_there.few.made
 
@@ -210,59 +224,62 @@ module _ (a : Setting) (there : Option Input) (now : Option History) (E : List E
     honest_there : IfInput (IsHonestSince (answers_in (E ++ e ∷ []))) a.given there
     honest_there = known-map (HasDrawn D (answers_in (E ++ e ∷ []))) (IsHonestSince (answers_in (E ++ e ∷ []))) a.given there (λ s t h. h.1) drawn_epoch
 
-    records_there : AllByRecursion IsRecord (records_of E ++ epoch e ∷ [])
-    records_there = all_append IsRecord (records_of E) (epoch e ∷ []) kept.are_records ((is.runs.is_epoch, is.runs.fits.1), tt)
+    push : records_unmarked a.options a.start (E ++ e ∷ []) ≡ K ++ epoch e ∷ []
+    push = epoch_more a.options.mark 0 a.start E state output e end_at kept.chained is.runs.ran
 
-    pub size_more : length (journal_of a.guest (records_of (E ++ e ∷ []))) ≡ length (journal_of a.guest (records_of E)) + length (frame (epoch_body e))
-    size_more = ap (λ (l : List Record). length (journal_of a.guest l)) (records-push E e) ∙ length-journal-push a.guest (records_of E) (epoch e)
+    records_there : AllByRecursion IsRecord (K ++ epoch e ∷ [])
+    records_there = all_append IsRecord K (epoch e ∷ []) kept.are_records ((is.runs.is_epoch, is.runs.fits.1), tt)
 
-    stands_more : (u : History) → Stands a.guest (records_of E ++ epoch e ∷ []) u → Stands a.guest (records_of (E ++ e ∷ [])) u
-    stands_more u stands = subst (λ (l : List Record). Stands a.guest l u) (sym (records-push E e)) stands
+    pub size_more : length (journal_of a.guest (records_unmarked a.options a.start (E ++ e ∷ []))) ≡ length (journal_of a.guest K) + length (frame (epoch_body e))
+    size_more = ap (λ (l : List Record). length (journal_of a.guest l)) push ∙ length-journal-push a.guest K (epoch e)
+
+    stands_more : (u : History) → Stands a.guest (K ++ epoch e ∷ []) u → Stands a.guest (records_unmarked a.options a.start (E ++ e ∷ [])) u
+    stands_more u stands = subst (λ (l : List Record). Stands a.guest l u) (sym push) stands
 
     -- ---- its commit
 
     module _ (added : List ℕ) (framed : added ≡ frame (epoch_body e)) (j' : Journal) (behind : Option History) where
-      appends_there : (s t : History) → IsRecorded a.guest E output [] s t → IsAppend j.end added t a.guest (records_of E) (epoch e)
-      appends_there s t recorded = record { stands = shut-of a.guest (records_of E) t recorded.stands; at_end = kept.place_is ∙ ap (λ (l : List ℕ). length l) (sym recorded.stands.disk); framed = framed }
+      appends_there : (s t : History) → IsRecorded a.guest K output [] s t → IsAppend j.end added t a.guest K (epoch e)
+      appends_there s t recorded = record { stands = shut-of a.guest K t recorded.stands; at_end = kept.place_is ∙ ap (λ (l : List ℕ). length l) (sym recorded.stands.disk); framed = framed }
 
-      while_committed : IfKnown (EachCommitted j added r.out) now behind → IfKnown (AlwaysPartly a.guest a.start (E ++ e ∷ [])) a.before behind
+      while_committed : IfKnown (EachCommitted j added r.out) now behind → IfKnown (AlwaysPartly a.guest a.options.mark a.start (E ++ e ∷ [])) a.before behind
       while_committed known = known-then _ _ _ _ _ _
-          (λ s t u x k empty_ synced. commits_partly a.guest a.start E e state r.end output r.out kept.chained longer (records-push E e) s t x.0.sent u (x.1 empty_ synced)
-          ((k a.guest (records_of E) (epoch e) (appends_there s t x.0)).moments kept.is_guest records_there))
+          (λ s t u x k empty_ synced. commits_partly a.guest a.options.mark a.start E e state r.end output r.out kept.chained longer push s t x.0.sent u (x.1 empty_ synced)
+          ((k a.guest K (epoch e) (appends_there s t x.0)).moments kept.is_guest records_there))
           (known-both _ _ _ _ kept.history kept.moments) known
 
-      while_appended : IfKnown (RecordWritten j.end added false) now behind → IfKnown (AlwaysPartly a.guest a.start (E ++ e ∷ [])) a.before behind
+      while_appended : IfKnown (RecordWritten j.end added false) now behind → IfKnown (AlwaysPartly a.guest a.options.mark a.start (E ++ e ∷ [])) a.before behind
       while_appended known = known-then _ _ _ _ _ _
-          (λ s t u x k empty_ synced. appends_partly a.guest a.start E e state r.end output r.out kept.chained longer (records-push E e) s t x.0.sent u (x.1 empty_ synced)
-          ((k.1 a.guest (records_of E) (epoch e) (appends_there s t x.0)).moments kept.is_guest records_there))
+          (λ s t u x k empty_ synced. appends_partly a.guest a.options.mark a.start E e state r.end output r.out kept.chained longer push s t x.0.sent u (x.1 empty_ synced)
+          ((k.1 a.guest K (epoch e) (appends_there s t x.0)).moments kept.is_guest records_there))
           (known-both _ _ _ _ kept.history kept.moments) known
 
       pub commit_failed_moments : (fault : CommitFault) → HasCommitted j (length added) j' (Err fault) → IfKnown (Committed j added r.out (Err fault)) now behind
-          → EachMoment a.guest a.start a.given there a.before behind
+          → EachMoment a.guest a.options.mark a.start a.given there a.before behind
       commit_failed_moments commits.DiskFault numbers known =
-          each_moment a.guest a.start (E ++ e ∷ []) a.given there honest_there a.before behind (while_appended known)
+          each_moment a.guest a.options.mark a.start (E ++ e ∷ []) a.given there honest_there a.before behind (while_appended known)
       commit_failed_moments (commits.Full end_ need) numbers known = known-then _ _ _ _ _ _
-          (λ s t u x k empty_ synced. subst (λ (h : History). Always (HoldsAt a.guest a.start a.given there s) s h) (sym k) (x empty_ synced)) (moments_now there refl) known
+          (λ s t u x k empty_ synced. subst (λ (h : History). Always (HoldsAt a.guest a.options.mark a.start a.given there s) s h) (sym k) (x empty_ synced)) (moments_now a there now K E D output state w j tally kept there refl) known
       commit_failed_moments (commits.Failed last_) numbers known = absurd (let bad = sym numbers.0 ∙ kept.works in cc)
       commit_failed_moments commits.OutputFault numbers known =
-          each_moment a.guest a.start (E ++ e ∷ []) a.given there honest_there a.before behind (while_committed (known-map _ _ _ _ (λ s t k. k.2) known))
+          each_moment a.guest a.options.mark a.start (E ++ e ∷ []) a.given there honest_there a.before behind (while_committed (known-map _ _ _ _ (λ s t k. k.2) known))
 
-      pub interrupted : IfKnown (Committed j added r.out (Err commits.DiskFault)) now behind → IfKnown (IsInterrupted a.guest E output e) a.before behind
+      pub interrupted : IfKnown (Committed j added r.out (Err commits.DiskFault)) now behind → IfKnown (IsInterrupted a.guest K output (epoch e)) a.before behind
       interrupted known = known-then _ _ _ _ _ _
           (λ s t u x k. record {
             empty = x.empty;
             sent = k.0.sent ∙ x.sent;
             noted = k.0.noted ∙ x.noted ∙ append-nil s.noted;
-            synced = subst (λ (l : List ℕ). IsPrefixOf l u.pending.synced) x.stands.disk ((k.1 a.guest (records_of E) (epoch e) (appends_there s t x)).kept refl);
-            left = append_left a.guest E e (records-push E e) t u ((k.1 a.guest (records_of E) (epoch e) (appends_there s t x)).moments kept.is_guest records_there);
+            synced = subst (λ (l : List ℕ). IsPrefixOf l u.pending.synced) x.stands.disk ((k.1 a.guest K (epoch e) (appends_there s t x)).kept refl);
+            left = append_left a.guest K (epoch e) t u ((k.1 a.guest K (epoch e) (appends_there s t x)).moments kept.is_guest records_there);
           })
           kept.history known
 
       pub cut_off : IfKnown (Committed j added r.out (Err commits.OutputFault)) now behind
-          → IfKnown (λ s t. (count : ℕ) × IsRecorded a.guest (E ++ e ∷ []) (output ++ take count r.out) [] s t) a.before behind
+          → IfKnown (λ s t. (count : ℕ) × IsRecorded a.guest (records_unmarked a.options a.start (E ++ e ∷ [])) (output ++ take count r.out) [] s t) a.before behind
       cut_off known = known-then _ _ _ _ _ _
           (λ s t u x k.
-          let made = k.2 a.guest (records_of E) (epoch e) (appends_there s t x) in (
+          let made = k.2 a.guest K (epoch e) (appends_there s t x) in (
             k.0.0,
             record {
               empty = x.empty;
@@ -273,17 +290,17 @@ module _ (a : Setting) (there : Option Input) (now : Option History) (E : List E
           ))
           kept.history known
 
-      pub untouched : behind ≡ now → IfKnown (IsRecorded a.guest E output []) a.before behind
-      untouched same = subst (λ (h : Option History). IfKnown (IsRecorded a.guest E output []) a.before h) (sym same) kept.history
+      pub untouched : behind ≡ now → IfKnown (IsRecorded a.guest K output []) a.before behind
+      untouched same = subst (λ (h : Option History). IfKnown (IsRecorded a.guest K output []) a.before h) (sym same) kept.history
 
-      pub not_added : (end_ need : ℕ) → IfKnown (Committed j added r.out (Err (commits.Full end_ need))) now behind → IfKnown (IsRecorded a.guest E output []) a.before behind
-      not_added end_ need known = known-then _ _ _ _ _ _ (λ s t u x k. subst (λ (h : History). IsRecorded a.guest E output [] s h) (sym k) x) kept.history known
+      pub not_added : (end_ need : ℕ) → IfKnown (Committed j added r.out (Err (commits.Full end_ need))) now behind → IfKnown (IsRecorded a.guest K output []) a.before behind
+      not_added end_ need known = known-then _ _ _ _ _ _ (λ s t u x k. subst (λ (h : History). IsRecorded a.guest K output [] s h) (sym k) x) kept.history known
 
       -- it was committed
       pub kept_committed : 0 < length added → HasCommitted j (length added) j' (Ok tt) → IfKnown (Committed j added r.out (Ok tt)) now behind → (tally' : Tally)
-          → tally'.first ≡ first_behind tally.first e.slices → tally'.epochs ≡ tally.epochs + 1 → tally'.sent ≡ tally.sent + length r.out
-          → Kept a there behind (E ++ e ∷ []) D (output ++ r.out) r.end w j' tally'
-      kept_committed some numbers known tally' first_is epochs_are sent_is =
+          → tally'.first ≡ first_behind tally.first e.slices → tally'.epochs ≡ tally.epochs + 1 → tally'.sent ≡ tally.sent + length r.out → tally'.since ≡ tally.since + 1
+          → Kept a there behind (records_unmarked a.options a.start (E ++ e ∷ [])) (E ++ e ∷ []) D (output ++ r.out) r.end w j' tally'
+      kept_committed some numbers known tally' first_is epochs_are sent_is since_is =
           let end_is : j'.end ≡ j.end + length added = ap (λ (k : Journal). k.end) numbers.2 in
           let little = laws.writes state hints w bounds e r.out r.end is.scheduled in
           record {
@@ -297,11 +314,12 @@ module _ (a : Setting) (there : Option Input) (now : Option History) (E : List E
             inside = supplied.within;
             little_input = omega (arith, laws.reads state e.slices e.answers end_at is.runs.ran, is.runs.counted, kept.little_input);
             are_answers = answers_are-push E e kept.are_answers is.runs.is_epoch.answers;
-            are_records = subst (λ (l : List Record). AllByRecursion IsRecord l) (sym (records-push E e)) records_there;
+            are_records = subst (λ (l : List Record). AllByRecursion IsRecord l) (sym push) records_there;
+            encodable = encodable_there;
             drawn = drawn_more_;
             history = known-then _ _ _ _ _ _
                 (λ s t u x k.
-                let made = k.2 a.guest (records_of E) (epoch e) (appends_there s t x) in
+                let made = k.2 a.guest K (epoch e) (appends_there s t x) in
                 record {
                   empty = x.empty;
                   stands = stands_more u made.stands;
@@ -319,4 +337,123 @@ module _ (a : Setting) (there : Option Input) (now : Option History) (E : List E
             few = omega (arith, end_is, kept.few, some, epochs_are);
             sent_is = omega (arith, kept.sent_is, length-append output r.out, sent_is);
             little = omega (arith, kept.little, little, sent_is, epochs_are);
+            since_few = omega (arith, kept.since_few, since_is, epochs_are);
           }
+
+      -- whether a mark is due is judged next
+      pub since_next : tally.since ≡ since_after a.options.mark 0 a.start E → (tally' : Tally) → tally'.since ≡ tally.since + 1 → IsSince false a (E ++ e ∷ []) r.end tally'.since
+      since_next since_is tally' grown =
+          let same : since_after a.options.mark 0 a.start E + 1 ≡ tally'.since = sym (grown ∙ ap (λ n. n + 1) since_is) in (
+            mark_more a.options.mark 0 a.start E state output e end_at kept.chained is.runs.ran ∙ ap (λ n. records_unmarked a.options a.start (E ++ e ∷ []) ++ marks_at a.options.mark n r.end) same,
+            ap (λ n. since_then a.options.mark n r.end) (sym same) ∙ sym (since_more a.options.mark 0 a.start E state output e end_at kept.chained is.runs.ran),
+          )
+
+-- ---- the mark after the last epoch
+
+module _ (a : Setting) (there : Option Input) (now : Option History) (E : List Epoch) (D : List Draw) (output : List ℕ) (state : State) (w : Supplied) (j : Journal) (tally : Tally) (kept : Kept a there now (records_unmarked a.options a.start E) E D output state w j tally) (since : IsSince false a E state tally.since) where
+  abbrev bare : List Record
+  bare = records_unmarked a.options a.start E
+
+  none_at : (due : Bool) → due ≡ false → (if due then mark (checkpoint_of state) ∷ [] else []) ≡ []
+  none_at true is = absurd cc
+  none_at false is = refl
+
+  one_at : (due : Bool) → due ≡ true → (if due then mark (checkpoint_of state) ∷ [] else []) ≡ mark (checkpoint_of state) ∷ []
+  one_at true is = refl
+  one_at false is = absurd cc
+
+  counted : (due : Bool) → due ≡ false → (if due then 0 else tally.since) ≡ tally.since
+  counted true is = absurd cc
+  counted false is = refl
+
+  begins_anew : (due : Bool) → due ≡ true → (if due then 0 else tally.since) ≡ 0
+  begins_anew true is = refl
+  begins_anew false is = absurd cc
+
+  -- none is due
+  module _ (none : is_due a.options.mark tally.since state ≡ false) where
+    pub not_due : IsSince true a E state tally.since × Kept a there now (records_of a.options a.start E) E D output state w j tally
+    not_due = (
+      sym (counted (is_due a.options.mark tally.since state) none) ∙ since.1,
+      subst (λ (l : List Record). Kept a there now l E D output state w j tally) (sym (since.0 ∙ ap (λ (l : List Record). bare ++ l) (none_at (is_due a.options.mark tally.since state) none) ∙ append-nil bare)) kept,
+    )
+
+  -- it is due
+  module _ (due : is_due a.options.mark tally.since state ≡ true) (added : List ℕ) (framed : added ≡ frame (body_of (mark (checkpoint_of state)))) (short : length (state_bytes state) < MAX_BODY_BYTES) (behind : Option History) where
+    abbrev c : Record
+    c = mark (checkpoint_of state)
+
+    pub mark_due : IsMarkDue a.options a.start E state
+    mark_due = since.0 ∙ ap (λ (l : List Record). bare ++ l) (one_at (is_due a.options.mark tally.since state) due)
+
+    records_all : AllByRecursion IsRecord (bare ++ c ∷ [])
+    records_all = all_append IsRecord bare (c ∷ []) kept.are_records ((kept.encodable, omega (arith, short)), tt)
+
+    pub size_marked : length (journal_of a.guest (records_of a.options a.start E)) ≡ length (journal_of a.guest bare) + length (frame (body_of c))
+    size_marked = ap (λ (l : List Record). length (journal_of a.guest l)) mark_due ∙ length-journal-push a.guest bare c
+
+    appends_mark : (s t : History) → IsRecorded a.guest bare output [] s t → IsAppend j.end added t a.guest bare c
+    appends_mark s t recorded = record { stands = shut-of a.guest bare t recorded.stands; at_end = kept.place_is ∙ ap (λ (l : List ℕ). length l) (sym recorded.stands.disk); framed = framed }
+
+    while_marked : (ok : Bool) → IfKnown (RecordWritten j.end added ok) now behind → IfKnown (AlwaysPartly a.guest a.options.mark a.start E) a.before behind
+    while_marked ok known = known-then _ _ _ _ _ _
+        (λ s t u x k empty_ synced. marks_partly a.guest a.options.mark a.start E state output (checkpoint_of state) kept.chained mark_due s t x.0.sent u (x.1 empty_ synced)
+        ((k.1 a.guest bare c (appends_mark s t x.0)).moments kept.is_guest records_all))
+        (known-both _ _ _ _ kept.history kept.moments) known
+
+    pub marking_moments : IfKnown (RecordWritten j.end added false) now behind → EachMoment a.guest a.options.mark a.start a.given there a.before behind
+    marking_moments known = each_moment a.guest a.options.mark a.start E a.given there (honest_of a there now bare E D output state w j tally kept there D (drawn_still a there now bare E D output state w j tally kept)) a.before behind (while_marked false known)
+
+    pub mark_interrupted : IfKnown (RecordWritten j.end added false) now behind → IfKnown (IsInterrupted a.guest bare output c) a.before behind
+    mark_interrupted known = known-then _ _ _ _ _ _
+        (λ s t u x k. record {
+          empty = x.empty;
+          sent = k.0.sent ∙ x.sent;
+          noted = k.0.noted ∙ x.noted ∙ append-nil s.noted;
+          synced = subst (λ (l : List ℕ). IsPrefixOf l u.pending.synced) x.stands.disk ((k.1 a.guest bare c (appends_mark s t x)).kept refl);
+          left = append_left a.guest bare c t u ((k.1 a.guest bare c (appends_mark s t x)).moments kept.is_guest records_all);
+        })
+        kept.history known
+
+    -- it was appended
+    pub kept_marked : (j' : Journal) → HasAppended j (length added) j' (Ok tt) → IfKnown (RecordWritten j.end added true) now behind → (tally' : Tally) → tally'.first ≡ tally.first → tally'.epochs ≡ tally.epochs
+        → tally'.sent ≡ tally.sent → tally'.since ≡ 0
+        → IsSince true a E state tally'.since × Kept a there behind (records_of a.options a.start E) E D output state w j' tally'
+    kept_marked j' numbers known tally' first_is epochs_are sent_is since_is =
+        let end_is : j'.end ≡ j.end + length added = ap (λ (k : Journal). k.end) numbers.2 in (
+          since_is ∙ sym (begins_anew (is_due a.options.mark tally.since state) due) ∙ since.1,
+          record {
+            is_guest = kept.is_guest;
+            chained = kept.chained;
+            counted = kept.counted;
+            goes_on = kept.goes_on;
+            is_supply = kept.is_supply;
+            some_room = kept.some_room;
+            placed = kept.placed;
+            inside = kept.inside;
+            little_input = kept.little_input;
+            are_answers = kept.are_answers;
+            are_records = subst (λ (l : List Record). AllByRecursion IsRecord l) (sym mark_due) records_all;
+            encodable = kept.encodable;
+            drawn = kept.drawn;
+            history = known-then _ _ _ _ _ _
+                (λ s t u x k. record {
+                  empty = x.empty;
+                  stands = subst (λ (l : List Record). Stands a.guest l u) (sym mark_due) ((k.1 a.guest bare c (appends_mark s t x)).stands refl);
+                  sent = k.0.sent ∙ x.sent;
+                  noted = k.0.noted ∙ x.noted;
+                })
+                kept.history known;
+            moments = while_marked true known;
+            place_is = omega (arith, end_is, size_marked, kept.place_is, ap (λ (l : List ℕ). length l) framed);
+            room_is = ap (λ (k : Journal). k.room) numbers.2 ∙ kept.room_is;
+            fits = omega (arith, end_is, numbers.1, ap (λ (k : Journal). k.room) numbers.2);
+            works = ap (λ (k : Journal). k.failed) numbers.2 ∙ kept.works;
+            first_is = first_is ∙ kept.first_is;
+            count = epochs_are ∙ kept.count;
+            few = omega (arith, end_is, kept.few, epochs_are);
+            sent_is = sent_is ∙ kept.sent_is;
+            little = omega (arith, kept.little, sent_is, epochs_are);
+            since_few = omega (arith, since_is);
+          },
+        )

@@ -1,6 +1,8 @@
 mod Commits
 pub mod Drawings
 pub mod RunLists
+pub mod Marking
+pub mod MarkRecords
 mod Takes
 pub mod JobRuns
 mod Keeps

@@ -31,16 +31,23 @@ use Rattle.recorder.specs.declared.commit.CommitFault.TheVariants as commits
 use Rattle.recorder.specs.declared.record_fault.RecordFault.{RecordFault}
 use Rattle.recorder.specs.declared.record_fault.RecordFault.TheVariants as faults
 use Rattle.recorder.specs.declared.tally.Tally.{Tally}
-use Rattle.recorder.specs.Drawing.{Draw, Drew, Round, draws_of, epochs_of, supply_behind, supply_of}
+use Rattle.recorder.specs.Drawing.{Draw, Drew, HasDrawn, Round, answers_in, draws_of, epochs_of, supply_behind, supply_of}
 use Rattle.recorder.specs.EpochLaws.{EpochLaws}
 use Rattle.recorder.specs.Faults.{MetNoOther, of_commit}
-use Rattle.recorder.specs.Keeping.{InRound, IsOver, IsStopped, Kept, RoundSays, Setting, SoFar, Within}
+use Rattle.recorder.specs.Keeping.{InRound, IsOver, IsSince, IsStopped, Kept, RoundSays, Setting, SoFar, Within}
 use Rattle.recorder.specs.Machine.{epochs_of_runs}
 use Rattle.recorder.specs.Racing.{AreResults, IsRaced, bounds_for}
-use Rattle.recorder.specs.Recording.{HasRoom, IsRound, NextEpoch, Recorded, RunOn, draws, epochs, first_behind, first_next, is_squash, records_of, supply}
+use Rattle.recorder.specs.Marking.{IsMarkDue, is_due, records_of, records_unmarked, since_after}
+use Rattle.checkpoint.specs.State.{IsEncodable, checkpoint_of, state_bytes}
+use Rattle.journal_text.specs.Records.{Record, body_of, mark}
+use Rattle.epoch_journal.specs.Appending.{HasAppended, RecordWritten}
+use Rattle.epoch_journal.specs.declared.append.AppendFault.TheVariants as appends
+use Rattle.recorder.specs.Moments.{EachMoment}
+use Rattle.dp_base.specs.declared.limits.TheConstants.{MAX_BODY_BYTES}
+use Rattle.recorder.specs.Recording.{HasRoom, IsRecorded, IsRound, NextEpoch, Recorded, RunOn, draws, epochs, first_behind, first_next, is_squash, supply}
 use Rattle.recorder.proofs.Drawings.{TakeLaws}
 use Rattle.recorder.proofs.JobRuns.{cancel, commits_one, judged_links, next_run, same_end, starts_there}
-use Rattle.recorder.proofs.Keeps.{HasDrawnRound, commit_failed_moments, cut_off, drawn_epoch, drawn_still, fits_still, interrupted, kept_committed, kept_drawn, last_drawn, low, may_go_on, moments_now, not_added, round_goes, round_of, size_more, steps_more}
+use Rattle.recorder.proofs.Keeps.{encodable_there, HasDrawnRound, commit_failed_moments, cut_off, drawn_epoch, drawn_still, fits_still, interrupted, kept_committed, kept_drawn, kept_marked, last_drawn, low, mark_due, mark_interrupted, marking_moments, may_go_on, moments_now, not_added, not_due, round_goes, round_of, since_next, size_marked, size_more, steps_more}
 use Rattle.recorder.proofs.RunLists.{draws-push, each-push, epochs-push, few_squashes, squashes-push, supply-push}
 use Rattle.recorder.proofs.Stops.{run_so_far}
 use Rattle.supply.specs.Supplied.{IsSupply, Supplied, empty, end_of, refilled}
@@ -63,10 +70,10 @@ Starts = (s : State) (results : List Ran) (core : Core) → core.committed ≡ s
 pub begins : (a : Setting) (there later : Option Input) (now : Option History) (racer after : Tells) (state : State) (w with_ : Supplied) (j : Journal) (tally : Tally) (count : ℕ) (so_far : SoFar a there now racer state w j tally count)
     → TakeLaws → HasDrawnRound w state there later with_ → has_ended state.end ≡ false → state.steps < a.options.limit → can_step state with_ ≡ true → (results : List Ran)
     → IsRaced racer a.options tally.first state with_ results after → (core : Core) → IsWithin state results [] core → core.committed ≡ state
-    → Within (record { setting = a; later = later; racer = after; supply = with_; from = state; squashes = count }) now core j tally
+    → Within true (record { setting = a; later = later; racer = after; supply = with_; from = state; squashes = count }) now core j tally
 begins a there later now racer after state w with_ j tally count so_far laws round going left can results raced core judged at_start =
     let run_ = run_so_far a there now racer state w j tally count so_far in
-    let kept = kept_drawn a there now (epochs_of so_far.rounds) (draws_of so_far.rounds) so_far.output state w j tally so_far.kept laws later with_ round in
+    let kept = kept_drawn a there now (records_of a.options a.start (epochs_of so_far.rounds)) (epochs_of so_far.rounds) (draws_of so_far.rounds) so_far.output state w j tally so_far.kept laws later with_ round in
     record {
       run = run_;
       from_is = refl;
@@ -81,9 +88,10 @@ begins a there later now racer after state w with_ j tally count so_far laws rou
       runs = [];
       judged = judged;
       output = so_far.output;
-      kept = subst (λ (l : List journals.Epoch). Kept a later now l (draws_of so_far.rounds ++ round.draw ∷ []) so_far.output core.committed with_ j tally) (sym (append-nil (epochs_of so_far.rounds)))
-          (subst (λ (s : State). Kept a later now (epochs_of so_far.rounds) (draws_of so_far.rounds ++ round.draw ∷ []) so_far.output s with_ j tally) (sym at_start) kept);
-      last = last_drawn a there now (epochs_of so_far.rounds) (draws_of so_far.rounds) so_far.output state w j tally so_far.kept laws later with_ round;
+      since_is = so_far.since_is ∙ ap (λ (l : List journals.Epoch). since_after a.options.mark 0 a.start l) (sym (append-nil (epochs_of so_far.rounds)));
+      kept = subst (λ (l : List journals.Epoch). Kept a later now (records_of a.options a.start l) l (draws_of so_far.rounds ++ round.draw ∷ []) so_far.output core.committed with_ j tally) (sym (append-nil (epochs_of so_far.rounds)))
+          (subst (λ (s : State). Kept a later now (records_of a.options a.start (epochs_of so_far.rounds)) (epochs_of so_far.rounds) (draws_of so_far.rounds ++ round.draw ∷ []) so_far.output s with_ j tally) (sym at_start) kept);
+      last = last_drawn a there now (records_of a.options a.start (epochs_of so_far.rounds)) (epochs_of so_far.rounds) (draws_of so_far.rounds) so_far.output state w j tally so_far.kept laws later with_ round;
       longer = omega (arith, ap (λ (s : State). s.steps) at_start);
     }
 
@@ -94,7 +102,7 @@ module _ (laws : StepLaws) (a : Setting) (there later : Option Input) (now : Opt
 
   pub begins_by : TakeLaws → Starts → has_ended state.end ≡ false → state.steps < a.options.limit → (after : Tells) (results : List Ran) → IsRaced racer a.options tally.first state with_ results after
       → (core : Core) → core ≡ record (fresh state (length results)) { jobs = map Taken results }
-      → Within (record { setting = a; later = later; racer = after; supply = with_; from = state; squashes = count }) now core j tally
+      → Within true (record { setting = a; later = later; racer = after; supply = with_; from = state; squashes = count }) now core j tally
   begins_by takes starts going left after results raced core core_is =
       let kept = so_far.kept in
       let can = round_goes state w there later with_ drawn_by (laws.ready state w going (kept.goes_on.runs going))
@@ -124,12 +132,15 @@ squashes_fit a there now racer state w j tally count so_far =
     let few = few_squashes a.options a.tells racer 1 a.start state (empty MAX_ROOM) so_far.rounds so_far.each in
     omega (arith, few, so_far.squashes_is, so_far.kept.count, so_far.kept.few, so_far.kept.fits, so_far.kept.room_is, a.options.room_range)
 
-module _ (a : InRound) (now : Option History) (core : Core) (j : Journal) (tally : Tally) (within : Within a now core j tally) where
+module _ (a : InRound) (now : Option History) (core : Core) (j : Journal) (tally : Tally) (within : Within true a now core j tally) where
   abbrev E : List journals.Epoch
   E = epochs within.run ++ epochs_of_runs within.runs
 
   abbrev D : List Draw
   D = draws within.run ++ within.draw ∷ []
+
+  abbrev K : List Record
+  K = records_of a.setting.options a.setting.start E
 
   -- ---- it is over
 
@@ -158,11 +169,11 @@ module _ (a : InRound) (now : Option History) (core : Core) (j : Journal) (tally
     rounds_are : epochs_of (within.run.rounds ++ round_is ∷ []) ≡ E
     rounds_are = epochs-push within.run.rounds round_is
 
-    kept_there : Kept a.setting a.later now (epochs_of (within.run.rounds ++ round_is ∷ [])) (draws_of (within.run.rounds ++ round_is ∷ [])) within.output there.committed a.supply j tally
+    kept_there : Kept a.setting a.later now (records_of a.setting.options a.setting.start (epochs_of (within.run.rounds ++ round_is ∷ []))) (epochs_of (within.run.rounds ++ round_is ∷ [])) (draws_of (within.run.rounds ++ round_is ∷ [])) within.output there.committed a.supply j tally
     kept_there =
-        subst (λ (s : State). Kept a.setting a.later now (epochs_of (within.run.rounds ++ round_is ∷ [])) (draws_of (within.run.rounds ++ round_is ∷ [])) within.output s a.supply j tally) stays
-        (subst (λ (l : List Draw). Kept a.setting a.later now (epochs_of (within.run.rounds ++ round_is ∷ [])) l within.output core.committed a.supply j tally) (sym (draws-push within.run.rounds round_is))
-        (subst (λ (l : List journals.Epoch). Kept a.setting a.later now l D within.output core.committed a.supply j tally) (sym rounds_are) within.kept))
+        subst (λ (s : State). Kept a.setting a.later now (records_of a.setting.options a.setting.start (epochs_of (within.run.rounds ++ round_is ∷ []))) (epochs_of (within.run.rounds ++ round_is ∷ [])) (draws_of (within.run.rounds ++ round_is ∷ [])) within.output s a.supply j tally) stays
+        (subst (λ (l : List Draw). Kept a.setting a.later now (records_of a.setting.options a.setting.start (epochs_of (within.run.rounds ++ round_is ∷ []))) (epochs_of (within.run.rounds ++ round_is ∷ [])) l within.output core.committed a.supply j tally) (sym (draws-push within.run.rounds round_is))
+        (subst (λ (l : List journals.Epoch). Kept a.setting a.later now (records_of a.setting.options a.setting.start l) l D within.output core.committed a.supply j tally) (sym rounds_are) within.kept))
 
     pub is_over : IsOver a (a.squashes + (if is_squash stop then 1 else 0)) now there j tally
     is_over = (
@@ -172,6 +183,7 @@ module _ (a : InRound) (now : Option History) (core : Core) (j : Journal) (tally
         each = each-push a.setting.options a.setting.tells within.run.racer a.racer 1 a.setting.start within.run.end there.committed (empty MAX_ROOM) within.run.rounds round_is within.run.each within.goes_on within.due is_round;
         supply_is = within.supply_is ∙ sym (supply-push (empty MAX_ROOM) (draws_of within.run.rounds) within.draw) ∙ ap (supply_behind (empty MAX_ROOM)) (sym (draws-push within.run.rounds round_is));
         squashes_is = omega (arith, within.squashes_is, squashes-push within.run.rounds round_is);
+        since_is = within.since_is ∙ ap (λ (l : List journals.Epoch). since_after a.setting.options.mark 0 a.setting.start l) (sym rounds_are);
         kept = kept_there;
       },
       omega (arith, one, within.longer, ap (λ (s : State). s.steps) within.from_is, ap (λ (s : State). s.steps) stays),
@@ -202,6 +214,9 @@ module _ (a : InRound) (now : Option History) (core : Core) (j : Journal) (tally
     pub low_here : AllByRecursion (λ (x : Slice). x.tid.0 < 65535) e.slices
     low_here = low a.setting a.later now E D within.output core.committed a.supply j tally within.kept laws within.last job.0 job.1 r job.2
 
+    pub encodable_next : IsEncodable there.committed
+    encodable_next = subst IsEncodable (sym ends) (encodable_there a.setting a.later now E D within.output core.committed a.supply j tally within.kept laws within.last job.0 job.1 r job.2)
+
     abbrev on : RunOn a.setting.tells a.setting.options a.setting.start
     on = record {
       run = within.run;
@@ -229,40 +244,40 @@ module _ (a : InRound) (now : Option History) (core : Core) (j : Journal) (tally
       starts = starts;
     }
 
-    room_here : HasRoom a.setting.guest a.setting.options E
-    room_here = fits_still a.setting a.later now E D within.output core.committed a.supply j tally within.kept
+    room_here : HasRoom a.setting.guest a.setting.options K
+    room_here = fits_still a.setting a.later now K E D within.output core.committed a.supply j tally within.kept
 
     -- memory ran out before it was appended
     pub no_memory : IsStopped a now faults.OutOfMemory
     no_memory = (
-      inr (inr (on, next_one, room_here, drawn_still a.setting a.later now E D within.output core.committed a.supply j tally within.kept, within.kept.history)),
-      moments_now a.setting a.later now E D within.output core.committed a.supply j tally within.kept a.later refl,
+      inr (inr (on, next_one, room_here, drawn_still a.setting a.later now K E D within.output core.committed a.supply j tally within.kept, within.kept.history)),
+      moments_now a.setting a.later now K E D within.output core.committed a.supply j tally within.kept a.later refl,
     )
 
     module _ (added : List ℕ) (framed : added ≡ frame (epoch_body e)) (j' : Journal) (behind : Option History) where
-      size_is : length (journal_of a.setting.guest (records_of (E ++ e ∷ []))) ≡ length (journal_of a.setting.guest (records_of E)) + length (frame (epoch_body e))
+      size_is : length (journal_of a.setting.guest (records_unmarked a.setting.options a.setting.start (E ++ e ∷ []))) ≡ length (journal_of a.setting.guest K) + length (frame (epoch_body e))
       size_is = size_more a.setting a.later now E D within.output core.committed a.supply j tally within.kept laws within.last job.0 job.1 r job.2
 
       -- it wasn't committed, or not sent whole
       failed : (fault : CommitFault) → HasCommitted j (length added) j' (Err fault) → IfKnown (Committed j added r.out (Err fault)) now behind
           → Recorded a.setting.guest a.setting.tells a.setting.start a.setting.options a.setting.given a.later a.setting.before behind (Err (of_commit fault))
-      failed commits.DiskFault numbers known = inr (
+      failed commits.DiskFault numbers known = inr (inl (
         on,
         next_one,
         omega (arith, numbers.1, size_is, within.kept.place_is, within.kept.room_is, ap (λ (l : List ℕ). length l) framed),
-        drawn_still a.setting a.later now E D within.output core.committed a.supply j tally within.kept,
+        drawn_still a.setting a.later now K E D within.output core.committed a.supply j tally within.kept,
         interrupted a.setting a.later now E D within.output core.committed a.supply j tally within.kept laws within.last job.0 job.1 r job.2 added framed j' behind known,
-      )
-      failed (commits.Full end_ need) numbers known = inr (
+      ))
+      failed (commits.Full end_ need) numbers known = inr (inl (
         on,
         next_one,
         room_here,
         numbers.1 ∙ within.kept.place_is,
         numbers.2 ∙ ap (λ (l : List ℕ). length l) framed,
         omega (arith, numbers.1, numbers.2, numbers.3, within.kept.room_is),
-        drawn_still a.setting a.later now E D within.output core.committed a.supply j tally within.kept,
+        drawn_still a.setting a.later now K E D within.output core.committed a.supply j tally within.kept,
         not_added a.setting a.later now E D within.output core.committed a.supply j tally within.kept laws within.last job.0 job.1 r job.2 added framed j' behind end_ need known,
-      )
+      ))
       failed (commits.Failed last_) numbers known = absurd (let bad = sym numbers.0 ∙ within.kept.works in cc)
       failed commits.OutputFault numbers known = inl (
         on,
@@ -283,9 +298,10 @@ module _ (a : InRound) (now : Option History) (core : Core) (j : Journal) (tally
 
       -- it was
       pub committed : 0 < length added → HasCommitted j (length added) j' (Ok tt) → IfKnown (Committed j added r.out (Ok tt)) now behind → (tally' : Tally)
-          → tally'.first ≡ first_behind tally.first e.slices → tally'.epochs ≡ tally.epochs + 1 → tally'.sent ≡ tally.sent + length r.out → Within a behind there j' tally'
-      committed some numbers known tally' first_is epochs_are sent_is =
-          let kept = kept_committed a.setting a.later now E D within.output core.committed a.supply j tally within.kept laws within.last job.0 job.1 r job.2 added framed j' behind some numbers known tally' first_is epochs_are sent_is in
+          → tally'.first ≡ first_behind tally.first e.slices → tally'.epochs ≡ tally.epochs + 1 → tally'.sent ≡ tally.sent + length r.out → tally'.since ≡ tally.since + 1 → Within false a behind there j' tally'
+      committed some numbers known tally' first_is epochs_are sent_is grown =
+          let kept = kept_committed a.setting a.later now E D within.output core.committed a.supply j tally within.kept laws within.last job.0 job.1 r job.2 added framed j' behind some numbers known tally' first_is epochs_are sent_is grown in
+          let since = since_next a.setting a.later now E D within.output core.committed a.supply j tally within.kept laws within.last job.0 job.1 r job.2 added framed j' behind within.since_is tally' grown in
           let more = steps_more a.setting a.later now E D within.output core.committed a.supply j tally within.kept laws within.last job.0 job.1 r job.2 in
           record {
             run = within.run;
@@ -301,8 +317,10 @@ module _ (a : InRound) (now : Option History) (core : Core) (j : Journal) (tally
             runs = within.runs ++ r ∷ [];
             judged = next;
             output = within.output ++ r.out;
-            kept = subst (λ (s : State). Kept a.setting a.later behind (epochs within.run ++ epochs_of_runs (within.runs ++ r ∷ [])) D (within.output ++ r.out) s a.supply j' tally') (sym ends)
-                (subst (λ (l : List journals.Epoch). Kept a.setting a.later behind l D (within.output ++ r.out) r.end a.supply j' tally') epochs_more kept);
+            since_is = subst (λ (s : State). IsSince false a.setting (epochs within.run ++ epochs_of_runs (within.runs ++ r ∷ [])) s tally'.since) (sym ends)
+                (subst (λ (l : List journals.Epoch). IsSince false a.setting l r.end tally'.since) epochs_more since);
+            kept = subst (λ (s : State). Kept a.setting a.later behind (records_unmarked a.setting.options a.setting.start (epochs within.run ++ epochs_of_runs (within.runs ++ r ∷ []))) (epochs within.run ++ epochs_of_runs (within.runs ++ r ∷ [])) D (within.output ++ r.out) s a.supply j' tally') (sym ends)
+                (subst (λ (l : List journals.Epoch). Kept a.setting a.later behind (records_unmarked a.setting.options a.setting.start l) l D (within.output ++ r.out) r.end a.supply j' tally') epochs_more kept);
             last = within.last;
             longer = omega (arith, within.longer, more, ap (λ (s : State). s.steps) ends, length-append within.runs (r ∷ []));
           }
@@ -317,3 +335,103 @@ module _ (a : InRound) (now : Option History) (core : Core) (j : Journal) (tally
         ap (λ (l : List Stage). length l) next.jobs ∙ length-append (map (λ (x : EpochRun). Judged) (within.runs ++ r ∷ [])) (map Taken next.rest)
         ∙ omega (arith, length-map (within.runs ++ r ∷ []) (λ (x : EpochRun). Judged), length-map next.rest Taken) in
         omega (arith, jobs_are, jobs_there, within.judged.judged, next.judged, length-append within.runs (r ∷ []), ap (λ (l : List Ran). length l) rest_is)
+
+-- ---- the mark after the last epoch
+
+module _ (a : InRound) (now : Option History) (core : Core) (j : Journal) (tally : Tally) (within : Within false a now core j tally) where
+  abbrev committed_epochs : List journals.Epoch
+  committed_epochs = epochs within.run ++ epochs_of_runs within.runs
+
+  abbrev drawn : List Draw
+  drawn = draws within.run ++ within.draw ∷ []
+
+  abbrev bare : List Record
+  bare = records_unmarked a.setting.options a.setting.start committed_epochs
+
+  -- with another tally, journal and history
+  module _ (j' : Journal) (tally' : Tally) (behind : Option History)
+      (kept : IsSince true a.setting committed_epochs core.committed tally'.since × Kept a.setting a.later behind (records_of a.setting.options a.setting.start committed_epochs) committed_epochs drawn within.output core.committed a.supply j' tally') where
+    marked_within : Within true a behind core j' tally'
+    marked_within = record {
+      run = within.run;
+      from_is = within.from_is;
+      squashes_is = within.squashes_is;
+      goes_on = within.goes_on;
+      draw = within.draw;
+      due = within.due;
+      supply_is = within.supply_is;
+      can = within.can;
+      results = within.results;
+      raced = within.raced;
+      runs = within.runs;
+      judged = within.judged;
+      output = within.output;
+      since_is = kept.0;
+      kept = kept.1;
+      last = within.last;
+      longer = within.longer;
+    }
+
+  pub no_mark : is_due a.setting.options.mark tally.since core.committed ≡ false → Within true a now core j tally
+  no_mark none = marked_within j tally now (not_due a.setting a.later now committed_epochs drawn within.output core.committed a.supply j tally within.kept within.since_is none)
+
+  module _ (due : is_due a.setting.options.mark tally.since core.committed ≡ true) (added : List ℕ) (framed : added ≡ frame (body_of (mark (checkpoint_of core.committed)))) (short : length (state_bytes core.committed) < MAX_BODY_BYTES) (behind : Option History) where
+    abbrev at_mark : RunOn a.setting.tells a.setting.options a.setting.start
+    at_mark = record {
+      run = within.run;
+      goes_on = within.goes_on;
+      draw = within.draw;
+      due = within.due;
+      results = within.results;
+      after = a.racer;
+      raced = subst (λ (x : Supplied). IsRaced within.run.racer a.setting.options (first_next within.run) within.run.end x within.results a.racer) within.supply_is within.raced;
+      runs = within.runs;
+      rest = within.judged.rest;
+      all = within.judged.all;
+      end = core.committed;
+      linked = within.judged.linked;
+      output = within.output;
+      chained = within.kept.chained;
+    }
+
+    is_mark_due : IsMarkDue a.setting.options a.setting.start committed_epochs core.committed
+    is_mark_due = mark_due a.setting a.later now committed_epochs drawn within.output core.committed a.supply j tally within.kept within.since_is due added framed short behind
+
+    marked_size : length (journal_of a.setting.guest (records_of a.setting.options a.setting.start committed_epochs)) ≡ length (journal_of a.setting.guest bare) + length (frame (body_of (mark (checkpoint_of core.committed))))
+    marked_size = size_marked a.setting a.later now committed_epochs drawn within.output core.committed a.supply j tally within.kept within.since_is due added framed short behind
+
+    drawn_there : IfInput (HasDrawn drawn (answers_in committed_epochs)) a.setting.given a.later
+    drawn_there = drawn_still a.setting a.later now bare committed_epochs drawn within.output core.committed a.supply j tally within.kept
+
+    pub mark_lost : (j' : Journal) → HasAppended j (length added) j' (Err appends.DiskFault) → IfKnown (RecordWritten j.end added false) now behind → IsStopped a behind faults.DiskFault
+    mark_lost j' numbers known = (
+      inr (inr (
+        at_mark,
+        is_mark_due,
+        omega (arith, numbers.1, marked_size, within.kept.place_is, within.kept.room_is, ap (λ (l : List ℕ). length l) framed),
+        drawn_there,
+        mark_interrupted a.setting a.later now committed_epochs drawn within.output core.committed a.supply j tally within.kept within.since_is due added framed short behind known,
+      )),
+      marking_moments a.setting a.later now committed_epochs drawn within.output core.committed a.supply j tally within.kept within.since_is due added framed short behind known,
+    )
+
+    pub mark_without_room : (j' : Journal) (end_ need : ℕ) → HasAppended j (length added) j' (Err (appends.Full end_ need)) → behind ≡ now → IsStopped a behind (faults.JournalFull end_ need)
+    mark_without_room j' end_ need numbers same = (
+      inr (inr (
+        at_mark,
+        is_mark_due,
+        fits_still a.setting a.later now bare committed_epochs drawn within.output core.committed a.supply j tally within.kept,
+        numbers.1 ∙ within.kept.place_is,
+        numbers.2 ∙ ap (λ (l : List ℕ). length l) framed,
+        omega (arith, numbers.1, numbers.2, numbers.3, within.kept.room_is),
+        drawn_there,
+        subst (λ (h : Option History). IfKnown (IsRecorded a.setting.guest bare within.output []) a.setting.before h) (sym same) within.kept.history,
+      )),
+      subst (λ (h : Option History). EachMoment a.setting.guest a.setting.options.mark a.setting.start a.setting.given a.later a.setting.before h) (sym same)
+          (moments_now a.setting a.later now bare committed_epochs drawn within.output core.committed a.supply j tally within.kept a.later refl),
+    )
+
+    pub was_marked : (j' : Journal) → HasAppended j (length added) j' (Ok tt) → IfKnown (RecordWritten j.end added true) now behind → (tally' : Tally) → tally'.first ≡ tally.first → tally'.epochs ≡ tally.epochs
+        → tally'.sent ≡ tally.sent → tally'.since ≡ 0 → Within true a behind core j' tally'
+    was_marked j' numbers known tally' first_is epochs_are sent_is since_is =
+        marked_within j' tally' behind (kept_marked a.setting a.later now committed_epochs drawn within.output core.committed a.supply j tally within.kept within.since_is due added framed short behind j' numbers known tally' first_is epochs_are sent_is since_is)

@@ -16,8 +16,7 @@ use Rattle.recorder.specs.Keeping.{AreAnswers}
 use Rattle.guest_kernel.specs.declared.state.State.{State}
 use Rattle.guest_kernel.specs.Slices.{chain}
 use Rattle.recorder.specs.declared.options.Options.{Options}
-use Rattle.recorder.specs.Recording.{EachIsRound, GoesOn, IsRound, first_after, first_behind, records_of}
-use Rattle.journal_text.specs.Records.{epoch}
+use Rattle.recorder.specs.Recording.{EachIsRound, GoesOn, IsRound, first_after, first_behind}
 use Rattle.dp_base.proofs.Lists.{all_append}
 
 pub no_epochs : (start : State) → chain start [] ≡ Ok (start, [])
@@ -91,9 +90,6 @@ answers_are-push epochs e are more = all_append (λ (x : Epoch). AllByRecursion 
 pub first_after-push : (first : ℕ) (epochs : List Epoch) (e : Epoch) → first_after first (epochs ++ e ∷ []) ≡ first_behind (first_after first epochs) e.slices
 first_after-push first [] e = refl
 first_after-push first (x ∷ xs) e = first_after-push (first_behind first x.slices) xs e
-
-pub records-push : (epochs : List Epoch) (e : Epoch) → records_of (epochs ++ e ∷ []) ≡ records_of epochs ++ epoch e ∷ []
-records-push epochs e = map_push epoch epochs e
 
 -- ---- an epoch that was run
 

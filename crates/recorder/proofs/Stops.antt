@@ -25,6 +25,8 @@ use Rattle.recorder.specs.Keeping.{Setting, SoFar}
 use Rattle.recorder.specs.Moments.{EachMoment, HoldsAt}
 use Rattle.recorder.specs.Recording.{HasDrawnOn, HasRoom, IsRecorded, Recorded, Run, reported}
 use Rattle.recorder.specs.Telling.{HasTold, IsTold, report_at}
+use Rattle.journal_text.specs.Records.{Record}
+use Rattle.recorder.specs.Marking.{records_of}
 use Rattle.recorder.proofs.Drawings.{TakeLaws}
 use Rattle.recorder.proofs.Keeps.{HasDrawnRound, drawn_still, fits_still, kept_drawn, moments_now}
 use Rattle.supply.specs.Supplied.{Supplied}
@@ -32,6 +34,9 @@ use Rattle.supply.specs.Supplied.{Supplied}
 module _ (a : Setting) (there : Option Input) (now : Option History) (racer : Tells) (state : State) (w : Supplied) (j : Journal) (tally : Tally) (squashes : ℕ) (so_far : SoFar a there now racer state w j tally squashes) where
   abbrev E : List Epoch
   E = epochs_of so_far.rounds
+
+  abbrev K : List Record
+  K = records_of a.options a.start E
 
   abbrev pub run_so_far : Run a.tells a.options a.start
   run_so_far = record {
@@ -44,18 +49,18 @@ module _ (a : Setting) (there : Option Input) (now : Option History) (racer : Te
     counted = so_far.kept.counted;
   }
 
-  fits : HasRoom a.guest a.options E
-  fits = fits_still a there now E (draws_of so_far.rounds) so_far.output state w j tally so_far.kept
+  fits : HasRoom a.guest a.options K
+  fits = fits_still a there now K E (draws_of so_far.rounds) so_far.output state w j tally so_far.kept
 
   drawn : IfInput (HasDrawn (draws_of so_far.rounds) (answers_in E)) a.given there
-  drawn = drawn_still a there now E (draws_of so_far.rounds) so_far.output state w j tally so_far.kept
+  drawn = drawn_still a there now K E (draws_of so_far.rounds) so_far.output state w j tally so_far.kept
 
   no_more : HasDrawnOn run_so_far a.given there
   no_more = inl drawn
 
   -- every moment so far
-  pub still_moments : (later : Option Input) → later ≡ there → EachMoment a.guest a.start a.given later a.before now
-  still_moments later same = moments_now a there now E (draws_of so_far.rounds) so_far.output state w j tally so_far.kept later same
+  pub still_moments : (later : Option Input) → later ≡ there → EachMoment a.guest a.options.mark a.start a.given later a.before now
+  still_moments later same = moments_now a there now K E (draws_of so_far.rounds) so_far.output state w j tally so_far.kept later same
 
   pub step_limit : has_ended state.end ≡ false → a.options.limit ≤ state.steps → Recorded a.guest a.tells a.start a.options a.given there a.before now (Err (faults.StepLimit state.steps))
   step_limit going reached = (run_so_far, going, refl, omega (arith, reached, so_far.kept.counted), fits, drawn, so_far.kept.history)
@@ -85,21 +90,21 @@ module _ (a : Setting) (there : Option Input) (now : Option History) (racer : Te
       inr (
         round.draw,
         round.due ∙ ap (input_due state) so_far.supply_is,
-        drawn_still a later now E (draws_of so_far.rounds ++ round.draw ∷ []) so_far.output state with_ j tally (kept_drawn a there now E (draws_of so_far.rounds) so_far.output state w j tally so_far.kept laws later with_ round),
+        drawn_still a later now K E (draws_of so_far.rounds ++ round.draw ∷ []) so_far.output state with_ j tally (kept_drawn a there now K E (draws_of so_far.rounds) so_far.output state w j tally so_far.kept laws later with_ round),
       ),
       so_far.kept.history,
     ))
 
-    pub drawn_moments : EachMoment a.guest a.start a.given later a.before now
-    drawn_moments = moments_now a later now E (draws_of so_far.rounds ++ round.draw ∷ []) so_far.output state with_ j tally
-        (kept_drawn a there now E (draws_of so_far.rounds) so_far.output state w j tally so_far.kept laws later with_ round) later refl
+    pub drawn_moments : EachMoment a.guest a.options.mark a.start a.given later a.before now
+    drawn_moments = moments_now a later now K E (draws_of so_far.rounds ++ round.draw ∷ []) so_far.output state with_ j tally
+        (kept_drawn a there now K E (draws_of so_far.rounds) so_far.output state w j tally so_far.kept laws later with_ round) later refl
 
   -- ---- the guest has ended
 
   -- while its line is sent
-  told_moments : (bytes : List ℕ) (ok : _) (later : Option History) → IfKnown (Sent Note bytes ok) now later → EachMoment a.guest a.start a.given there a.before later
+  told_moments : (bytes : List ℕ) (ok : _) (later : Option History) → IfKnown (Sent Note bytes ok) now later → EachMoment a.guest a.options.mark a.start a.given there a.before later
   told_moments bytes ok later known = known-then _ _ _ _ _ _
-      (λ s t u r b empty_ synced. noted-too (HoldsAt a.guest a.start a.given there s) bytes s t u (r empty_ synced) b.1.moments)
+      (λ s t u r b empty_ synced. noted-too (HoldsAt a.guest a.options.mark a.start a.given there s) bytes s t u (r empty_ synced) b.1.moments)
       (still_moments there refl) known
 
   module _ (later : Option History) (ended : has_ended state.end ≡ true) (report : Report) (is : report ≡ report_at tally.epochs squashes tally.sent state) where
@@ -156,7 +161,7 @@ module _ (a : Setting) (there : Option Input) (now : Option History) (racer : Te
     inl ended_,
     fits,
     no_more,
-    known-then _ _ _ _ _ _ (λ s t u r k. subst (λ (h : History). IsRecorded a.guest E so_far.output [] s h) (sym k) r) so_far.kept.history known,
+    known-then _ _ _ _ _ _ (λ s t u r k. subst (λ (h : History). IsRecorded a.guest K so_far.output [] s h) (sym k) r) so_far.kept.history known,
   ))
   ended_so later ended_ (Err faults.DiskFault) is known = absurd is
   ended_so later ended_ (Err faults.InputFault) is known = absurd is
@@ -164,11 +169,11 @@ module _ (a : Setting) (there : Option Input) (now : Option History) (racer : Te
   ended_so later ended_ (Err (faults.StepLimit steps)) is known = absurd is
   ended_so later ended_ (Err (faults.JournalFull end need)) is known = absurd is
 
-  pub ended_moments : (later : Option History) (told_ : Result Report RecordFault) → Told told_ → IfKnown (HasTold (report_at tally.epochs squashes tally.sent state) told_) now later → EachMoment a.guest a.start a.given there a.before later
+  pub ended_moments : (later : Option History) (told_ : Result Report RecordFault) → Told told_ → IfKnown (HasTold (report_at tally.epochs squashes tally.sent state) told_) now later → EachMoment a.guest a.options.mark a.start a.given there a.before later
   ended_moments later (Ok report) is known = told_moments (report_line (report_at tally.epochs squashes tally.sent state)) true later known
   ended_moments later (Err faults.OutputFault) is known = told_moments (report_line (report_at tally.epochs squashes tally.sent state)) false later known
   ended_moments later (Err faults.OutOfMemory) is known = known-then _ _ _ _ _ _
-      (λ s t u r k empty_ synced. subst (λ (h : History). Always (HoldsAt a.guest a.start a.given there s) s h) (sym k) (r empty_ synced))
+      (λ s t u r k empty_ synced. subst (λ (h : History). Always (HoldsAt a.guest a.options.mark a.start a.given there s) s h) (sym k) (r empty_ synced))
       (still_moments there refl) known
   ended_moments later (Err faults.DiskFault) is known = absurd is
   ended_moments later (Err faults.InputFault) is known = absurd is

@@ -1,10 +1,11 @@
 -- What the laws of the crates below say of one epoch. It serves the contracts of the crate's own steps. This project's own.
-use Rattle.std.specs.Prelude.{◌≡◌, ◌+◌, ◌*◌, ◌<◌, ◌≤◌, ℕ, List, [], ◌∷◌, ◌++◌, length, Ok}
+use Rattle.std.specs.Prelude.{◌≡◌, ◌+◌, ◌*◌, ◌^◌, ◌<◌, ◌≤◌, ℕ, List, [], ◌∷◌, ◌++◌, length, Ok}
 use Rattle.std.specs.List.{AllByRecursion}
 use Rattle.dp_base.specs.declared.answer.Answer.{Answer}
 use Rattle.dp_base.specs.declared.limits.TheConstants.{EPOCH_END_BYTES, MAX_CALL_BYTES}
 use Rattle.dp_base.specs.declared.slice.Slice.{Slice}
-use Rattle.dp_base.specs.Journal.{Epoch, steps_of}
+use Rattle.checkpoint.specs.State.{IsEncodable}
+use Rattle.dp_base.specs.Journal.{Epoch, IsAnswer, steps_of}
 use Rattle.epoch_runner.specs.declared.bounds.Bounds.{Bounds}
 use Rattle.epoch_runner.specs.Schedule.{IsScheduled}
 use Rattle.epoch_runner.specs.Supplying.{IsSuppliedBy}
@@ -25,3 +26,5 @@ pub record EpochLaws : Type 0 where
   pub reads : (s : State) (slices : List Slice) (log : List Answer) (there : After) → run slices (at s [] log) ≡ Ok there → there.state.input ≤ s.input + MAX_CALL_BYTES * steps_of slices
   pub goes_on : (s : State) (slices : List Slice) (log : List Answer) (there : After) → run slices (at s [] log) ≡ Ok there → CanGoOn s → CanGoOn there.state
   pub made : (s : State) (slices : List Slice) (log : List Answer) (there : After) → run slices (at s [] log) ≡ Ok there → AllByRecursion (λ (x : Slice). 0 < x.steps → x.tid.0 ≤ length there.state.threads) slices
+  pub encodable : (s : State) (slices : List Slice) (log : List Answer) (there : After) → IsEncodable s → AllByRecursion IsAnswer log → run slices (at s [] log) ≡ Ok there → there.state.steps < 2 ^ 64 → there.state.input < 2 ^ 64
+      → IsEncodable there.state

@@ -8,7 +8,7 @@ use Rattle.dp_base.specs.declared.answer.Answer.{Answer}
 use Rattle.dp_base.specs.declared.answer.Answer.TheVariants.{Read}
 use Rattle.dp_base.specs.declared.limits.TheConstants.{EPOCH_END_BYTES, MAX_CALL_BYTES}
 use Rattle.dp_base.specs.Encoding.{IsPrefixOf}
-use Rattle.dp_base.specs.Journal.{Epoch, IsAnswer, IsGuest}
+use Rattle.dp_base.specs.Journal.{Epoch, IsAnswer, IsGuest, frame}
 use Rattle.disk_model.specs.History.{History, IsSynced}
 use Rattle.disk_model.specs.Input.{IfInput, Input, IsLast, is_at_end}
 use Rattle.disk_model.specs.Known.{IfKnown}
@@ -25,7 +25,7 @@ use Rattle.guest_kernel.specs.Slices.{chain}
 use Rattle.guest_kernel.specs.State.{has_ended}
 use Rattle.guest_kernel.specs.Threads.{AreFew, is_running}
 use Rattle.journal_text.specs.Reading.{journal_of, reads}
-use Rattle.journal_text.specs.Records.{IsRecord}
+use Rattle.journal_text.specs.Records.{IsRecord, Record, body_of, mark}
 use Rattle.racing_runner.specs.Offers.{Tells}
 use Rattle.recorder.specs.declared.options.Options.{Options}
 use Rattle.recorder.specs.declared.record_fault.RecordFault.{RecordFault}
@@ -36,7 +36,9 @@ use Rattle.recorder.specs.Drawing.{AreFound, Draw, DrewAll, Round, answers_in, d
 use Rattle.recorder.specs.Machine.{epochs_of_runs}
 use Rattle.recorder.specs.Moments.{EachMoment}
 use Rattle.recorder.specs.Racing.{IsRaced}
-use Rattle.recorder.specs.Recording.{EachIsRound, GoesOn, IsRecorded, Recorded, Run, draws, epochs, first_after, first_next, records_of, squashes, supply}
+use Rattle.recorder.specs.Recording.{EachIsRound, GoesOn, IsRecorded, Recorded, Run, draws, epochs, first_after, first_next, squashes, supply}
+use Rattle.recorder.specs.Marking.{is_due, marks_at, records_of, records_unmarked, records_with, since_after, since_then}
+use Rattle.checkpoint.specs.State.{IsEncodable, checkpoint_of}
 use Rattle.supply.specs.Supplied.{IsLastOf, IsSupply, Supplied, empty, end_of}
 use Rattle.supply.specs.Windows.{bytes_left}
 use Rattle.supply.specs.declared.TheConstants.{MAX_ROOM}
@@ -59,23 +61,24 @@ pub record IsDrawn (w : Supplied) (place : ℕ) (draws : List Draw) (answers : L
 
 -- ---- every moment so far
 
--- The journal has the first of these epochs, and of their output a prefix was sent.
-pub record IsFront (guest : List ℕ) (start : State) (epochs : List Epoch) (image said : List ℕ) : Type 0 where
+-- The journal has the first of these epochs with their marks, but the last one may be missing, and of their output a prefix was sent.
+pub record IsFront (guest : List ℕ) (every : ℕ) (start : State) (epochs : List Epoch) (image said : List ℕ) : Type 0 where
   pub front : List Epoch
   pub rest : List Epoch
   pub all : epochs ≡ front ++ rest
-  pub journal : Reads guest (records_of front) image
+  pub marked : Bool
+  pub journal : Reads guest (records_with marked every start front) image
   pub end : State
   pub output : List ℕ
   pub chained : chain start front ≡ Ok (end, output)
   pub sent : IsPrefixOf said output
 
-abbrev pub IsPartly : (guest : List ℕ) → (start : State) → List Epoch → History → (image sent : List ℕ) → Type 0
-IsPartly guest start epochs before image sent =
-    (said : List ℕ) × (sent ≡ before.sent ++ said) × (((reads image ≡ None) × (said ≡ [])) ⊎ IsFront guest start epochs image said)
+abbrev pub IsPartly : (guest : List ℕ) → (every : ℕ) → (start : State) → List Epoch → History → (image sent : List ℕ) → Type 0
+IsPartly guest every start epochs before image sent =
+    (said : List ℕ) × (sent ≡ before.sent ++ said) × (((reads image ≡ None) × (said ≡ [])) ⊎ IsFront guest every start epochs image said)
 
-abbrev pub AlwaysPartly : (guest : List ℕ) → (start : State) → List Epoch → History → History → Type 0
-AlwaysPartly guest start epochs s t = s.disk ≡ [] → IsSynced s → Always (IsPartly guest start epochs s) s t
+abbrev pub AlwaysPartly : (guest : List ℕ) → (every : ℕ) → (start : State) → List Epoch → History → History → Type 0
+AlwaysPartly guest every start epochs s t = s.disk ≡ [] → IsSynced s → Always (IsPartly guest every start epochs s) s t
 
 -- ---- the epochs so far
 
@@ -96,8 +99,8 @@ pub record Setting : Type 0 where
   pub given : Option Input
   pub before : Option History
 
--- These epochs were committed and sent, and that was drawn.
-pub record Kept (a : Setting) (there : Option Input) (now : Option History) (epochs : List Epoch) (draws : List Draw) (output : List ℕ) (state : State) (w : Supplied) (j : Journal) (tally : Tally) : Type 0 where
+-- These epochs were committed and sent, in a journal of these records, and that was drawn.
+pub record Kept (a : Setting) (there : Option Input) (now : Option History) (records : List Record) (epochs : List Epoch) (draws : List Draw) (output : List ℕ) (state : State) (w : Supplied) (j : Journal) (tally : Tally) : Type 0 where
   pub is_guest : IsGuest a.guest
   pub chained : chain a.start epochs ≡ Ok (state, output)
   pub counted : state.steps ≤ a.options.limit
@@ -108,11 +111,12 @@ pub record Kept (a : Setting) (there : Option Input) (now : Option History) (epo
   pub inside : state.input ≤ end_of w
   pub little_input : state.input ≤ MAX_CALL_BYTES * state.steps
   pub are_answers : AreAnswers epochs
-  pub are_records : AllByRecursion IsRecord (records_of epochs)
+  pub are_records : AllByRecursion IsRecord records
+  pub encodable : IsEncodable state
   pub drawn : IfInput (IsDrawn w state.input draws (answers_in epochs)) a.given there
-  pub history : IfKnown (IsRecorded a.guest epochs output []) a.before now
-  pub moments : IfKnown (AlwaysPartly a.guest a.start epochs) a.before now
-  pub place_is : j.end ≡ length (journal_of a.guest (records_of epochs))
+  pub history : IfKnown (IsRecorded a.guest records output []) a.before now
+  pub moments : IfKnown (AlwaysPartly a.guest a.options.mark a.start epochs) a.before now
+  pub place_is : j.end ≡ length (journal_of a.guest records)
   pub room_is : j.room ≡ a.options.room
   pub fits : j.end ≤ j.room
   pub works : j.failed ≡ false
@@ -121,6 +125,13 @@ pub record Kept (a : Setting) (there : Option Input) (now : Option History) (epo
   pub few : tally.epochs < j.end
   pub sent_is : tally.sent ≡ length output
   pub little : tally.sent ≤ (EPOCH_END_BYTES + MAX_CALL_BYTES) * tally.epochs
+  pub since_few : tally.since ≤ tally.epochs
+
+-- Whether the mark after the last epoch was judged, and the count of epochs since the last mark.
+abbrev pub IsSince : (judged : Bool) → Setting → List Epoch → State → (since : ℕ) → Type 0
+IsSince true a epochs state since = since ≡ since_after a.options.mark 0 a.start epochs
+IsSince false a epochs state since = (records_of a.options a.start epochs ≡ records_unmarked a.options a.start epochs ++ marks_at a.options.mark since state)
+    × (since_then a.options.mark since state ≡ since_after a.options.mark 0 a.start epochs)
 
 -- ---- between two rounds
 
@@ -130,7 +141,8 @@ pub record SoFar (a : Setting) (there : Option Input) (now : Option History) (ra
   pub each : EachIsRound a.tells a.options 1 a.start (empty MAX_ROOM) rounds state racer
   pub supply_is : w ≡ supply_behind (empty MAX_ROOM) (draws_of rounds)
   pub squashes_is : squashes ≡ squashes_of rounds
-  pub kept : Kept a there now (epochs_of rounds) (draws_of rounds) output state w j tally
+  pub since_is : IsSince true a (epochs_of rounds) state tally.since
+  pub kept : Kept a there now (records_of a.options a.start (epochs_of rounds)) (epochs_of rounds) (draws_of rounds) output state w j tally
 
 -- ---- within a round
 
@@ -144,7 +156,8 @@ pub record InRound : Type 0 where
   pub from : State
   pub squashes : ℕ
 
-pub record Within (a : InRound) (now : Option History) (core : Core) (j : Journal) (tally : Tally) : Type 0 where
+-- Some results were judged. The mark after the last epoch was judged too, or wasn't yet.
+pub record Within (marked : Bool) (a : InRound) (now : Option History) (core : Core) (j : Journal) (tally : Tally) : Type 0 where
   pub run : Run a.setting.tells a.setting.options a.setting.start
   pub from_is : run.end ≡ a.from
   pub squashes_is : a.squashes ≡ squashes run
@@ -158,12 +171,13 @@ pub record Within (a : InRound) (now : Option History) (core : Core) (j : Journa
   pub runs : List EpochRun
   pub judged : IsWithin run.end results runs core
   pub output : List ℕ
-  pub kept : Kept a.setting a.later now (epochs run ++ epochs_of_runs runs) (draws run ++ draw ∷ []) output core.committed a.supply j tally
+  pub since_is : IsSince marked a.setting (epochs run ++ epochs_of_runs runs) core.committed tally.since
+  pub kept : Kept a.setting a.later now (records_with marked a.setting.options.mark a.setting.start (epochs run ++ epochs_of_runs runs)) (epochs run ++ epochs_of_runs runs) (draws run ++ draw ∷ []) output core.committed a.supply j tally
   pub last : IfInput (λ s t. IsLast a.supply.stamp (readings_since s t)) a.setting.given a.later
   pub longer : run.end.steps + length runs ≤ core.committed.steps
 
-abbrev pub IsInRound : (now : Option History) → Core → Journal → Tally → Type 0
-IsInRound now core j tally = (a : InRound) × Within a now core j tally
+abbrev pub IsInRoundOf : (every : ℕ) → (now : Option History) → Core → Journal → Tally → Type 0
+IsInRoundOf every now core j tally = (a : InRound) × (a.setting.options.mark ≡ every) × Within true a now core j tally
 
 -- the round is over, and some steps were committed
 abbrev pub IsOver : InRound → (squashes : ℕ) → (now : Option History) → Core → Journal → Tally → Type 0
@@ -176,14 +190,24 @@ StartsHere core = (run : EpochRun) → slice_get core.jobs core.judged ≡ Some 
 -- the recording stopped
 abbrev pub IsStopped : InRound → (now : Option History) → RecordFault → Type 0
 IsStopped a now fault = Recorded a.setting.guest a.setting.tells a.setting.start a.setting.options a.setting.given a.later a.setting.before now (Err fault)
-    × EachMoment a.setting.guest a.setting.start a.setting.given a.later a.setting.before now
+    × EachMoment a.setting.guest a.setting.options.mark a.setting.start a.setting.given a.later a.setting.before now
 
 -- what became of the next result
 abbrev pub StepSays : InRound → (now : Option History) → Core → Journal → Tally → Result Next RecordFault → Type 0
-StepSays a now core j tally (Ok Committed) = Within a now core j tally
+StepSays a now core j tally (Ok Committed) = Within true a now core j tally
 StepSays a now core j tally (Ok Squashed) = IsOver a (a.squashes + 1) now core j tally
 StepSays a now core j tally (Ok Over) = IsOver a a.squashes now core j tally
 StepSays a now core j tally (Err fault) = IsStopped a now fault
+
+-- what became of the mark that may be due
+abbrev pub MarkSays : InRound → (now : Option History) → Core → Journal → Tally → Result (Unit {0}) RecordFault → Type 0
+MarkSays a now core j tally (Ok done) = Within true a now core j tally
+MarkSays a now core j tally (Err fault) = IsStopped a now fault
+
+-- the frame of the mark that is due, if one is
+abbrev pub IsMarkFrame : (every since : ℕ) → State → Option (List ℕ) → Type 0
+IsMarkFrame every since s None = is_due every since s ≡ false
+IsMarkFrame every since s (Some added) = (is_due every since s ≡ true) × (added ≡ frame (body_of (mark (checkpoint_of s))))
 
 -- the results that aren't judged yet
 abbrev pub results_left : Core → ℕ

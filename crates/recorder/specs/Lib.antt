@@ -2,6 +2,7 @@ pub mod Committing
 pub mod Faults
 pub mod Drawing
 pub mod Racing
+pub mod Marking
 pub mod Recording
 pub mod Telling
 pub mod Moments

@@ -1,5 +1,5 @@
 -- What a crash leaves at every moment of a recording. This project's own.
-use Rattle.std.specs.Prelude.{◌≡◌, ◌⊎◌, ℕ, List, [], ◌++◌, Option, None, Ok}
+use Rattle.std.specs.Prelude.{◌≡◌, ◌⊎◌, ℕ, Bool, List, [], ◌++◌, Option, None, Ok}
 use Rattle.dp_base.specs.Encoding.{IsPrefixOf}
 use Rattle.dp_base.specs.Journal.{Epoch}
 use Rattle.disk_model.specs.History.{History, IsSynced}
@@ -11,13 +11,14 @@ use Rattle.guest_kernel.specs.declared.state.State.{State}
 use Rattle.guest_kernel.specs.Slices.{chain}
 use Rattle.journal_text.specs.Reading.{reads}
 use Rattle.recorder.specs.Drawing.{IsHonestSince, answers_in}
-use Rattle.recorder.specs.Recording.{records_of}
+use Rattle.recorder.specs.Marking.{records_with}
 
--- The image reads as this guest's journal. Its epochs, all of them whole and in order, are one run of the guest from its start, their
--- answers are honest of what the input has given by the end of the call, and what was said is a prefix of the run's output.
-pub record IsRecording (guest : List ℕ) (start : State) (i j : Option Input) (image said : List ℕ) : Type 0 where
+-- The image reads as this guest's journal, with a mark after every so many epochs; the one after the last epoch may be missing. Its
+-- epochs, all of them whole and in order, are one run of the guest from its start, their answers are honest of what the input has given by the end of the call, and what was said is a prefix of the run's output.
+pub record IsRecording (guest : List ℕ) (every : ℕ) (start : State) (i j : Option Input) (image said : List ℕ) : Type 0 where
   pub epochs : List Epoch
-  pub journal : Reads guest (records_of epochs) image
+  pub all : Bool
+  pub journal : Reads guest (records_with all every start epochs) image
   pub end : State
   pub output : List ℕ
   pub chained : chain start epochs ≡ Ok (end, output)
@@ -25,14 +26,14 @@ pub record IsRecording (guest : List ℕ) (start : State) (i j : Option Input) (
   pub sent : IsPrefixOf said output
 
 -- No journal yet, and nothing was said; or a recording.
-abbrev pub StandsAt : (guest : List ℕ) → (start : State) → (i j : Option Input) → (image said : List ℕ) → Type 0
-StandsAt guest start i j image said = ((reads image ≡ None) × (said ≡ [])) ⊎ IsRecording guest start i j image said
+abbrev pub StandsAt : (guest : List ℕ) → (every : ℕ) → (start : State) → (i j : Option Input) → (image said : List ℕ) → Type 0
+StandsAt guest every start i j image said = ((reads image ≡ None) × (said ≡ [])) ⊎ IsRecording guest every start i j image said
 
 -- The same of all that Out has got since a recording began.
-abbrev pub HoldsAt : (guest : List ℕ) → (start : State) → (i j : Option Input) → History → (image sent : List ℕ) → Type 0
-HoldsAt guest start i j before image sent = (said : List ℕ) × (sent ≡ before.sent ++ said) × StandsAt guest start i j image said
+abbrev pub HoldsAt : (guest : List ℕ) → (every : ℕ) → (start : State) → (i j : Option Input) → History → (image sent : List ℕ) → Type 0
+HoldsAt guest every start i j before image sent = (said : List ℕ) × (sent ≡ before.sent ++ said) × StandsAt guest every start i j image said
 
 -- At every moment, where the disk was empty and nothing was pending on it.
-abbrev pub EachMoment : (guest : List ℕ) → (start : State) → (i j : Option Input) → (before after : Option History) → Type 0
-EachMoment guest start i j before after =
-    IfKnown (λ s t. s.disk ≡ [] → IsSynced s → Always (HoldsAt guest start i j s) s t) before after
+abbrev pub EachMoment : (guest : List ℕ) → (every : ℕ) → (start : State) → (i j : Option Input) → (before after : Option History) → Type 0
+EachMoment guest every start i j before after =
+    IfKnown (λ s t. s.disk ≡ [] → IsSynced s → Always (HoldsAt guest every start i j s) s t) before after

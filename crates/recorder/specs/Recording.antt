@@ -25,6 +25,7 @@ use Rattle.sync_hints.specs.NoHints.{no_hints}
 use Rattle.supply.specs.declared.TheConstants.{MAX_ROOM}
 use Rattle.recorder.specs.Drawing.{Draw, HasDrawn, Round, answers_in, draws_of, epochs_of, squashes_of, supply_behind, supply_of}
 use Rattle.recorder.specs.Machine.{epochs_of_runs}
+use Rattle.recorder.specs.Marking.{IsMarkDue, records_of, records_unmarked}
 use Rattle.recorder.specs.Racing.{IsRaced, epoch_steps}
 use Rattle.racing_runner.specs.declared.offer.Offer.{Offer}
 use Rattle.racing_runner.specs.declared.plan.Plan.{Plan}
@@ -34,11 +35,11 @@ use Rattle.epoch_record.specs.Epoch.{epoch_of}
 use Rattle.epoch_runner.specs.declared.epoch_run.EpochRun.{EpochRun}
 use Rattle.epoch_runner.specs.declared.epoch_run.Ran.{Ran}
 use Rattle.epoch_runner.specs.declared.epoch_run.Ran.TheVariants as rans
-use Rattle.checkpoint.specs.State.{digest_of}
+use Rattle.checkpoint.specs.State.{checkpoint_of, digest_of}
 use Rattle.epoch_journal.specs.Images.{Reads}
 use Rattle.epoch_journal.specs.Standing.{Stands}
 use Rattle.journal_text.specs.Reading.{journal_of, reads}
-use Rattle.journal_text.specs.Records.{Record, epoch}
+use Rattle.journal_text.specs.Records.{Record, body_of, epoch, mark}
 
 -- ---- a run in rounds
 
@@ -93,6 +94,10 @@ pub record Run (tells : Tells) (options : Options) (start : State) : Type 0 wher
 -- last round
 abbrev pub epochs : {tells : Tells} {options : Options} {start : State} → Run tells options start → List Epoch
 epochs r = epochs_of r.rounds
+
+-- its records, with all marks
+abbrev pub records : {tells : Tells} {options : Options} {start : State} → Run tells options start → List Record
+records {tells} {options} {start} r = records_of options start (epochs r)
 
 abbrev pub squashes : {tells : Tells} {options : Options} {start : State} → Run tells options start → ℕ
 squashes r = squashes_of r.rounds
@@ -193,18 +198,14 @@ DrawnWithin on epochs i j = IfInput (HasDrawn (draws_on on) (answers_in epochs))
 
 -- ---- what is on the disk, and what was sent
 
--- a record for each epoch
-abbrev pub records_of : List Epoch → List Record
-records_of epochs = map epoch epochs
+-- the journal of these records fits
+abbrev pub HasRoom : (guest : List ℕ) → Options → List Record → Type 0
+HasRoom guest options records = length (journal_of guest records) ≤ options.room
 
--- the journal of these epochs fits
-abbrev pub HasRoom : (guest : List ℕ) → Options → List Epoch → Type 0
-HasRoom guest options epochs = length (journal_of guest (records_of epochs)) ≤ options.room
-
--- The disk was empty, and now holds the guest's journal with these epochs. This was sent on Out, and that on Note.
-pub record IsRecorded (guest : List ℕ) (epochs : List Epoch) (output note : List ℕ) (before after : History) : Type 0 where
+-- The disk was empty, and now holds the guest's journal with these records. This was sent on Out, and that on Note.
+pub record IsRecorded (guest : List ℕ) (records : List Record) (output note : List ℕ) (before after : History) : Type 0 where
   pub empty : before.disk ≡ []
-  pub stands : Stands guest (records_of epochs) after
+  pub stands : Stands guest records after
   pub sent : after.sent ≡ before.sent ++ output
   pub noted : after.noted ≡ before.noted ++ note
 
@@ -217,14 +218,14 @@ pub record IsUnbegun (guest : List ℕ) (before after : History) : Type 0 where
   pub synced : before.disk ≡ [] → IsSynced before → reads after.pending.synced ≡ None
   pub left : before.disk ≡ [] → IsSynced before → Then (λ image sent. (reads image ≡ None) ⊎ Reads guest [] image) (now after)
 
--- The disk failed while the record of one more epoch was appended. The output of the epochs before was sent. A crash leaves the
--- journal of these epochs, or the one that has this epoch too.
-pub record IsInterrupted (guest : List ℕ) (epochs : List Epoch) (output : List ℕ) (last : Epoch) (before after : History) : Type 0 where
+-- The disk failed while one more record was appended. The output of the epochs before was sent. A crash leaves the journal of these
+-- records, or the one that has this record too.
+pub record IsInterrupted (guest : List ℕ) (records : List Record) (output : List ℕ) (last : Record) (before after : History) : Type 0 where
   pub empty : before.disk ≡ []
   pub sent : after.sent ≡ before.sent ++ output
   pub noted : after.noted ≡ before.noted
-  pub synced : IsPrefixOf (journal_of guest (records_of epochs)) after.pending.synced
-  pub left : Then (λ image sent. (Reads guest (records_of epochs) image) ⊎ (Reads guest (records_of (epochs ++ last ∷ [])) image)) (now after)
+  pub synced : IsPrefixOf (journal_of guest records) after.pending.synced
+  pub left : Then (λ image sent. (Reads guest records image) ⊎ (Reads guest (records ++ last ∷ []) image)) (now after)
 
 -- nothing was written or sent
 abbrev pub IsUntouched : History → History → Type 0
@@ -244,30 +245,35 @@ report_of epochs end output =
 abbrev pub reported : {tells : Tells} {options : Options} {start : State} → Run tells options start → Report
 reported r = record (report_of (epochs r) r.end r.output) { squashes = squashes r }
 
--- The header doesn't fit, or the record of the epoch that is next.
+-- The header doesn't fit, or the record of the epoch that is next, or the mark that is due.
 abbrev pub HasNoRoom : (guest : List ℕ) → (tells : Tells) → (start : State) → Options → (end need : ℕ) → (i j : Option Input) → (before after : Option History) → Type 0
 HasNoRoom guest tells start options end need i j before after =
     ((end ≡ 0) × (need ≡ 10 + length guest) × (options.room < need) × (j ≡ i) × IfKnown IsUntouched before after)
-    ⊎ ((on : RunOn tells options start) × (n : NextEpoch on) × HasRoom guest options (epochs_on on)
-    × (end ≡ length (journal_of guest (records_of (epochs_on on)))) × (need ≡ length (frame (epoch_body (next_epoch n)))) × (options.room < end + need)
-    × DrawnWithin on (epochs_on on) i j × IfKnown (IsRecorded guest (epochs_on on) on.output []) before after)
+    ⊎ ((on : RunOn tells options start) × (n : NextEpoch on) × HasRoom guest options (records_of options start (epochs_on on))
+    × (end ≡ length (journal_of guest (records_of options start (epochs_on on)))) × (need ≡ length (frame (epoch_body (next_epoch n)))) × (options.room < end + need)
+    × DrawnWithin on (epochs_on on) i j × IfKnown (IsRecorded guest (records_of options start (epochs_on on)) on.output []) before after)
+    ⊎ ((on : RunOn tells options start) × IsMarkDue options start (epochs_on on) on.end × HasRoom guest options (records_unmarked options start (epochs_on on))
+    × (end ≡ length (journal_of guest (records_unmarked options start (epochs_on on)))) × (need ≡ length (frame (body_of (mark (checkpoint_of on.end))))) × (options.room < end + need)
+    × DrawnWithin on (epochs_on on) i j × IfKnown (IsRecorded guest (records_unmarked options start (epochs_on on)) on.output []) before after)
 
--- The disk failed before the first epoch, or while the epoch that is next was appended.
+-- The disk failed before the first epoch, or while the epoch that is next was appended, or the mark that is due.
 abbrev pub HasLostDisk : (guest : List ℕ) → (tells : Tells) → (start : State) → Options → (i j : Option Input) → (before after : Option History) → Type 0
 HasLostDisk guest tells start options i j before after =
     ((j ≡ i) × IfKnown (IsUnbegun guest) before after)
-    ⊎ ((on : RunOn tells options start) × (n : NextEpoch on) × HasRoom guest options (epochs_on on ++ next_epoch n ∷ [])
-    × DrawnWithin on (epochs_on on) i j × IfKnown (IsInterrupted guest (epochs_on on) on.output (next_epoch n)) before after)
+    ⊎ ((on : RunOn tells options start) × (n : NextEpoch on) × HasRoom guest options (records_unmarked options start (epochs_on on ++ next_epoch n ∷ []))
+    × DrawnWithin on (epochs_on on) i j × IfKnown (IsInterrupted guest (records_of options start (epochs_on on)) on.output (epoch (next_epoch n))) before after)
+    ⊎ ((on : RunOn tells options start) × IsMarkDue options start (epochs_on on) on.end × HasRoom guest options (records_of options start (epochs_on on))
+    × DrawnWithin on (epochs_on on) i j × IfKnown (IsInterrupted guest (records_unmarked options start (epochs_on on)) on.output (mark (checkpoint_of on.end))) before after)
 
 -- The epoch that is next was committed, and a part of its output was sent; or the guest has ended, and a part of the report's line was
--- sent.
+-- sent. The mark after that epoch isn't there.
 abbrev pub HasLostSink : (guest : List ℕ) → (tells : Tells) → (start : State) → Options → (i j : Option Input) → (before after : Option History) → Type 0
 HasLostSink guest tells start options i j before after =
-    ((on : RunOn tells options start) × (n : NextEpoch on) × HasRoom guest options (epochs_on on ++ next_epoch n ∷ [])
+    ((on : RunOn tells options start) × (n : NextEpoch on) × HasRoom guest options (records_unmarked options start (epochs_on on ++ next_epoch n ∷ []))
     × DrawnWithin on (epochs_on on ++ next_epoch n ∷ []) i j
-    × IfKnown (λ s t. (count : ℕ) × IsRecorded guest (epochs_on on ++ next_epoch n ∷ []) (on.output ++ take count n.run.out) [] s t) before after)
-    ⊎ ((r : Run tells options start) × (has_ended r.end.end ≡ true) × HasRoom guest options (epochs r) × RunDrawn r i j
-    × IfKnown (λ s t. (count : ℕ) × IsRecorded guest (epochs r) r.output (take count (report_line (reported r))) s t) before after)
+    × IfKnown (λ s t. (count : ℕ) × IsRecorded guest (records_unmarked options start (epochs_on on ++ next_epoch n ∷ [])) (on.output ++ take count n.run.out) [] s t) before after)
+    ⊎ ((r : Run tells options start) × (has_ended r.end.end ≡ true) × HasRoom guest options (records r) × RunDrawn r i j
+    × IfKnown (λ s t. (count : ℕ) × IsRecorded guest (records r) r.output (take count (report_line (reported r))) s t) before after)
 
 -- Memory ran out before the first epoch, between two rounds or while a round's jobs were made and run, or before the epoch that is next was
 -- appended.
@@ -275,22 +281,22 @@ abbrev pub HasLostMemory : (guest : List ℕ) → (tells : Tells) → (start : S
 HasLostMemory guest tells start options i j before after =
     ((j ≡ i) × IfKnown IsUntouched before after)
     ⊎ ((r : Run tells options start) × ((has_ended r.end.end ≡ true) ⊎ GoesOn options r.end)
-    × HasRoom guest options (epochs r) × HasDrawnOn r i j × IfKnown (IsRecorded guest (epochs r) r.output []) before after)
-    ⊎ ((on : RunOn tells options start) × NextEpoch on × HasRoom guest options (epochs_on on)
-    × DrawnWithin on (epochs_on on) i j × IfKnown (IsRecorded guest (epochs_on on) on.output []) before after)
+    × HasRoom guest options (records r) × HasDrawnOn r i j × IfKnown (IsRecorded guest (records r) r.output []) before after)
+    ⊎ ((on : RunOn tells options start) × NextEpoch on × HasRoom guest options (records_of options start (epochs_on on))
+    × DrawnWithin on (epochs_on on) i j × IfKnown (IsRecorded guest (records_of options start (epochs_on on)) on.output []) before after)
 
 -- By the answer: the run that was recorded, by a racer that told this at first, what the journal holds and what was sent of it, and what was
 -- read from the input.
 abbrev pub Recorded : (guest : List ℕ) → (tells : Tells) → (start : State) → Options → (i j : Option Input) → (before after : Option History) → Result Report RecordFault → Type 0
 Recorded guest tells start options i j before after (Ok report) =
-    (r : Run tells options start) × (has_ended r.end.end ≡ true) × (report ≡ reported r) × HasRoom guest options (epochs r)
-    × RunDrawn r i j × IfKnown (IsRecorded guest (epochs r) r.output (report_line report)) before after
+    (r : Run tells options start) × (has_ended r.end.end ≡ true) × (report ≡ reported r) × HasRoom guest options (records r)
+    × RunDrawn r i j × IfKnown (IsRecorded guest (records r) r.output (report_line report)) before after
 Recorded guest tells start options i j before after (Err (faults.StepLimit n)) =
-    (r : Run tells options start) × (has_ended r.end.end ≡ false) × (n ≡ r.end.steps) × (n ≡ options.limit) × HasRoom guest options (epochs r)
-    × RunDrawn r i j × IfKnown (IsRecorded guest (epochs r) r.output []) before after
+    (r : Run tells options start) × (has_ended r.end.end ≡ false) × (n ≡ r.end.steps) × (n ≡ options.limit) × HasRoom guest options (records r)
+    × RunDrawn r i j × IfKnown (IsRecorded guest (records r) r.output []) before after
 Recorded guest tells start options i j before after (Err faults.InputFault) =
-    (r : Run tells options start) × GoesOn options r.end × (input_due r.end (supply r) ≡ true) × HasRoom guest options (epochs r)
-    × RunDrawn r i j × IfKnown (IsRecorded guest (epochs r) r.output []) before after
+    (r : Run tells options start) × GoesOn options r.end × (input_due r.end (supply r) ≡ true) × HasRoom guest options (records r)
+    × RunDrawn r i j × IfKnown (IsRecorded guest (records r) r.output []) before after
 Recorded guest tells start options i j before after (Err faults.OutOfMemory) = HasLostMemory guest tells start options i j before after
 Recorded guest tells start options i j before after (Err (faults.JournalInUse len)) = (0 < len) × (j ≡ i) × IfKnown (IsInUse len) before after
 Recorded guest tells start options i j before after (Err (faults.JournalFull end need)) = HasNoRoom guest tells start options end need i j before after

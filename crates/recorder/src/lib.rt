@@ -1,6 +1,7 @@
 //! The recorder. It runs a guest in rounds: each round reads from the input, and runs epochs side by side, the first from the committed
 //! state and each other one from a state that a racer offers. Those that join on to the committed state are committed in order: an
-//! epoch's record is written into the journal on the disk, and its output is sent once the record is there.
+//! epoch's record is written into the journal on the disk, and its output is sent once the record is there. After every so many epochs a
+//! mark of the guest's state is appended.
 //!
 //! Promises (the contract of `record_`):
 //!
@@ -9,7 +10,10 @@
 //!   `recorded` says what every other answer leaves.
 //! - At every moment of the call, a crash leaves the journal of whole epochs that are one run of the guest, and a prefix of that run's
 //!   output was sent; or it leaves no journal, and nothing was sent (clause `moments`).
-//! - All memory for an epoch is taken before its first write to the disk. From there on only `Ok` or a device's fault is answered.
+//! - All memory for an epoch and for its mark is taken before its first write to the disk. From there to the end of its output only `Ok` or
+//!   a device's fault is answered.
+//! - A mark stands after every `options.mark`-th epoch at which the guest hasn't ended, and nowhere else. Only the one after the last epoch
+//!   may be missing, if the recording stopped there (`specs/Marking.antt`).
 //! - If the input is known, each round takes from it exactly if a thread waits for input, and reads the clock once. The answers in the
 //!   journal are faithful to the input: reads get its bytes in order, and clock calls get its readings in order.
 //! - All of this holds for any racer, whatever it offers, and for any number of workers. If the racer tells its offers, the number of

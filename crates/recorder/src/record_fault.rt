@@ -11,8 +11,8 @@ use supply::InputFault;
 /// Why a recording stopped before the guest's end. What is committed stays committed.
 #[derive(Clone, Copy, Debug, PartialEq, Eq)]
 pub enum RecordFault {
-    /// The disk failed. A crash leaves the journal of the epochs whose output was sent, or the one that also has the epoch that was being
-    /// appended; none of that epoch's output was sent. If the disk failed before the first epoch, a crash leaves no journal or one
+    /// The disk failed. A crash leaves the journal of the epochs whose output was sent, or the one that also has the record that was being
+    /// appended: an epoch, none of whose output was sent, or the mark that is due. If the disk failed before the first epoch, a crash leaves no journal or one
     /// without an epoch.
     DiskFault,
     /// The output failed. The journal has the epoch whose output was being sent, and a prefix of that output was sent; or the

@@ -24,9 +24,10 @@ use std::alloc::Global;
 use std::thread::Threads;
 use supply::{MAX_ROOM, Supply};
 
-/// Records a guest from its start state into a journal on the attached disk, and sends its output on Out, each epoch's once
-/// the epoch's record is on the disk; and once the guest has ended, sends the report's line on Note. A round takes from the input
-/// exactly where a thread waits for it, and reads the clock once. The world comes back whatever happens.
+/// Records a guest from its start state into a journal on the attached disk, with a mark after every `options.mark` epochs at which it
+/// hasn't ended, and sends its output on Out, each epoch's once the epoch's record is on the disk; and once the guest has ended, sends the
+/// report's line on Note. A round takes from the input exactly where a thread waits for it, and reads the clock once. The world comes back
+/// whatever happens.
 ///
 /// On a disk that was empty, with nothing pending, a crash at any moment of the call leaves the journal of whole epochs that are one
 /// run of the guest from its start, with honest answers, and of that run's output a prefix was sent; or no journal, and nothing was sent.
@@ -49,7 +50,7 @@ pub fn record_<R: Threads + Sync, W: World, I: Inlet, Q: Racer, G: Gate + Sync>(
     requires starts { start ≡ start_state guest.now }
     ensures recorded { Recorded guest.now (Q.tells racer.old) start options (I.input inlet.old) (I.input inlet.new)
         (W.history world) (W.history result.0) result.1 }
-    ensures moments { EachMoment guest.now start (I.input inlet.old) (I.input inlet.new)
+    ensures moments { EachMoment guest.now options.mark start (I.input inlet.old) (I.input inlet.new)
         (W.history world) (W.history result.0) }
     ensures others { MetNoOther result.1 (W.disk_faults world) (W.disk_faults result.0) (W.sink_faults world) (W.sink_faults result.0)
         (I.input_faults inlet.old) (I.input_faults inlet.new) }
@@ -81,7 +82,7 @@ fn record_rounds<R: Threads + Sync, W: World, I: Inlet, Q: Racer, G: Gate + Sync
     requires starts { start ≡ start_state guest.now }
     ensures recorded { Recorded guest.now (Q.tells racer.old) start options (I.input inlet.old) (I.input inlet.new)
         (W.history world.old) (W.history world.new) result }
-    ensures moments { EachMoment guest.now start (I.input inlet.old) (I.input inlet.new)
+    ensures moments { EachMoment guest.now options.mark start (I.input inlet.old) (I.input inlet.new)
         (W.history world.old) (W.history world.new) }
     ensures others { MetNoOther result (W.disk_faults world.old) (W.disk_faults world.new) (W.sink_faults world.old)
         (W.sink_faults world.new) (I.input_faults inlet.old) (I.input_faults inlet.new) }
@@ -104,13 +105,13 @@ fn record_rounds<R: Threads + Sync, W: World, I: Inlet, Q: Racer, G: Gate + Sync
     supply::the_windows_are_the_input();
     dp_base::laws::lengths();
     checkpoint::laws::a_start_state_is_encodable();
-    checkpoint::laws::a_chain_keeps_a_state_encodable();
     let mut journal = Journal::begin(alloc, world, guest, options.room)?;
     let mut supply = Supply::new(alloc, MAX_ROOM)?;
     let mut state = start;
     let mut tally = Tally {
         first: 1,
         epochs: 0,
+        since: 0,
         sent: 0,
     };
     let mut squashes = 0;
@@ -130,7 +131,14 @@ fn record_rounds<R: Threads + Sync, W: World, I: Inlet, Q: Racer, G: Gate + Sync
             gate,
         )?;
         let mut core = core_of(alloc, state, results)?;
-        let squashed = commit_results(alloc, &mut core, &mut journal, world, &mut tally)?;
+        let squashed = commit_results(
+            alloc,
+            &mut core,
+            &mut journal,
+            world,
+            &mut tally,
+            options.mark,
+        )?;
         squashes = squashes_with(squashes, squashed);
         state = core.into_committed();
     }

@@ -8,7 +8,9 @@ ghost use Rattle.dp_base.specs.Journal.{IsBody, IsEpoch, epoch_body, frame};
 ghost use Rattle.epoch_record.specs.Epoch.{epoch_of};
 ghost use Rattle.recorder.specs.EpochLaws.{EpochLaws};
 ghost use Rattle.recorder.specs.Faults.{MetNoOther};
-ghost use Rattle.recorder.specs.Keeping.{GoesFewer, InRound, IsInRound, RoundSays, StartsHere, StepSays, Within};
+ghost use Rattle.checkpoint.specs.State.{IsEncodable};
+ghost use Rattle.commit_core.specs.Judging.{Core};
+ghost use Rattle.recorder.specs.Keeping.{GoesFewer, InRound, IsInRoundOf, IsMarkFrame, MarkSays, RoundSays, StartsHere, StepSays, Within};
 
 use crate::commit::commit_epoch;
 use crate::ready::Ready;
@@ -17,11 +19,11 @@ use crate::tally::{Next, Tally, next_first};
 use commit_core::{Core, Event, Verdict};
 use disk_model::World;
 use dp_base::OutOfMemory;
-use epoch_journal::Journal;
+use epoch_journal::{AppendFault, Journal};
 use epoch_record::{Epoch, encode};
 use epoch_runner::Ran;
 use guest_kernel::{State, laws};
-use journal_text::Frame;
+use journal_text::{Frame, MARK_KIND};
 use std::alloc::Global;
 
 // A core over the committed state that was told the results of all jobs, in order.
@@ -72,10 +74,11 @@ pub(crate) fn commit_results<W: World>(
     journal: &mut Journal,
     world: &mut W,
     tally: &mut Tally,
+    every: u32,
 ) -> Result<bool, RecordFault>
-    requires round { IsInRound (W.history world.old) core.old journal.old tally.old }
+    requires round { IsInRoundOf every (W.history world.old) core.old journal.old tally.old }
     requires fresh { core.old.judged ≡ 0 }
-    ensures says { (a : InRound) → Within a (W.history world.old) core.old journal.old tally.old →
+    ensures says { (a : InRound) → a.setting.options.mark ≡ every → Within true a (W.history world.old) core.old journal.old tally.old →
         RoundSays a (W.history world.new) core.new journal.new tally.new result }
     ensures others { (input : ℕ) → MetNoOther result (W.disk_faults world.old) (W.disk_faults world.new)
         (W.sink_faults world.old) (W.sink_faults world.new) input input }
@@ -89,7 +92,7 @@ pub(crate) fn commit_results<W: World>(
 {
     let mut is_first = true;
     'results: loop {
-        match commit_next(alloc, core, journal, world, tally, is_first)? {
+        match commit_next(alloc, core, journal, world, tally, every, is_first)? {
             Next::Committed => is_first = false,
             Next::Squashed => return Ok(true),
             Next::Over => return Ok(false),
@@ -97,18 +100,20 @@ pub(crate) fn commit_results<W: World>(
     }
 }
 
-// Judges the next result. Where it is to be committed its record is appended, and then its output is sent. All memory is taken before.
+// Judges the next result. Where it is to be committed its record is appended, then its output is sent, and then the mark is appended that
+// is due. All memory is taken before.
 fn commit_next<W: World>(
     alloc: Global,
     core: &mut Core,
     journal: &mut Journal,
     world: &mut W,
     tally: &mut Tally,
+    every: u32,
     is_first: bool,
 ) -> Result<Next, RecordFault>
-    requires round { IsInRound (W.history world.old) core.old journal.old tally.old }
+    requires round { IsInRoundOf every (W.history world.old) core.old journal.old tally.old }
     requires first { is_first ≡ true → core.old.judged ≡ 0 }
-    ensures says { (a : InRound) → Within a (W.history world.old) core.old journal.old tally.old →
+    ensures says { (a : InRound) → a.setting.options.mark ≡ every → Within true a (W.history world.old) core.old journal.old tally.old →
         StepSays a (W.history world.new) core.new journal.new tally.new result }
     ensures goes { IfOk result (λ next. GoesFewer core.old core.new next) }
     ensures others { (input : ℕ) → MetNoOther result (W.disk_faults world.old) (W.disk_faults world.new)
@@ -126,11 +131,15 @@ fn commit_next<W: World>(
     match judge_next(core, is_first) {
         Verdict::Commit { epoch, out } => {
             let frame = frame_of(alloc, &epoch)?;
+            let since = tally.since + 1;
+            let mark = mark_frame(alloc, core.committed(), every, since)?;
             let ready = Ready { frame, out };
             commit_epoch(journal, world, &ready)?;
             tally.first = next_first(tally.first, epoch.slices.as_slice());
             tally.epochs += 1;
+            tally.since = since;
             tally.sent += ready.out.len() as u64;
+            append_mark(journal, world, tally, mark)?;
             Ok(Next::Committed)
         }
         Verdict::Squash { .. } => Ok(Next::Squashed),
@@ -153,6 +162,64 @@ fn judge_next(core: &mut Core, is_first: bool) -> Verdict
     }
 }
 
+// The frame of the mark that is due so many epochs after the last one, if one is.
+fn mark_frame(
+    alloc: Global,
+    state: &State,
+    every: u32,
+    since: u32,
+) -> Result<Option<Frame>, OutOfMemory>
+    requires { IsEncodable state.now }
+    ensures { IfOk result (λ frame. IsMarkFrame every since state.now frame) }
+{
+    checkpoint::laws::an_encoding_is_short();
+    journal_text::laws::a_record_is_its_body();
+    if state.ended() || since != every {
+        return Ok(None);
+    }
+    let encoding = checkpoint::encode(alloc, state)?;
+    let mut body = Vec::new(alloc);
+    body.push(MARK_KIND)?;
+    body.extend_from_slice(&encoding)?;
+    Ok(Some(Frame::of(alloc, &body)?))
+}
+
+// Appends the mark that is due, if one is.
+fn append_mark<W: World>(
+    journal: &mut Journal,
+    world: &mut W,
+    tally: &mut Tally,
+    mark: Option<Frame>,
+) -> Result<(), RecordFault>
+    requires { journal.old.failed ≡ false }
+    ensures says { (a : InRound) (core : Core) → Within false a (W.history world.old) core journal.old tally.old →
+        IsMarkFrame a.setting.options.mark tally.old.since core.committed mark → MarkSays a (W.history world.new) core journal.new tally.new result }
+    ensures others { (input : ℕ) → MetNoOther result (W.disk_faults world.old) (W.disk_faults world.new)
+        (W.sink_faults world.old) (W.sink_faults world.new) input input }
+    ensures no_input { IsErrOf result RecordFault.InputFault → ⊥ }
+    ensures no_sink { IsErrOf result RecordFault.OutputFault → ⊥ }
+    ensures disk_cause { IsErrOf result RecordFault.DiskFault →
+        Rose (W.disk_faults world.old) (W.disk_faults world.new) }
+    ensures disk_count { W.disk_faults world.old ≤ W.disk_faults world.new }
+    ensures sink_count { W.sink_faults world.new ≡ W.sink_faults world.old }
+{
+    checkpoint::laws::an_encoding_is_short();
+    let frame = match mark {
+        Some(frame) => frame,
+        None => return Ok(()),
+    };
+    match journal.append(world, &frame) {
+        Ok(()) => {
+            tally.since = 0;
+            Ok(())
+        }
+        Err(AppendFault::DiskFault) => Err(RecordFault::DiskFault),
+        Err(AppendFault::Full { end, need }) => Err(RecordFault::JournalFull { end, need }),
+        // No append has failed before this one.
+        Err(AppendFault::Failed { .. }) => unreachable!(),
+    }
+}
+
 // What the laws of the crates below say of one epoch.
 fn epoch_laws()
     ensures { EpochLaws }
@@ -163,6 +230,7 @@ fn epoch_laws()
     laws::threads_are_few();
     epoch_runner::laws::an_epoch_ends_by_a_rule();
     epoch_runner::laws::an_epoch_is_supplied();
+    checkpoint::laws::a_run_keeps_a_state_encodable();
 }
 
 // The frame of an epoch's record.

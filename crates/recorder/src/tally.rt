@@ -5,12 +5,13 @@ ghost use Rattle.recorder.specs.Recording.{first_behind};
 
 use dp_base::Slice;
 
-/// What was committed so far: the number of epochs, the bytes of output that were sent, and the thread that is tried first in the next
-/// epoch.
+/// What was committed so far: the number of epochs, of those since the last mark, and the bytes of output that were sent; and the thread
+/// that is tried first in the next epoch.
 #[derive(Clone, Copy)]
 pub struct Tally {
     pub first: u16,
     pub epochs: u32,
+    pub since: u32,
     pub sent: u64,
 }
 

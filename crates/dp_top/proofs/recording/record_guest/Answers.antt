@@ -12,4 +12,4 @@ returns-then-is_err-clause-recorded g c = (
 )
 
 pub returns-then-is_err-clause-moments : goal.returns-then-is_err-clause-moments
-returns-then-is_err-clause-moments g c = not_begun c.args.guest.now c.args.start _ _ _ c.attach.ensures.history
+returns-then-is_err-clause-moments g c = not_begun c.args.guest.now c.args.options.mark c.args.start _ _ _ c.attach.ensures.history

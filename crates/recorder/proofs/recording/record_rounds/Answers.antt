@@ -10,7 +10,6 @@ use Rattle.guest_kernel.specs.declared.state.State.{State}
 use Rattle.guest_kernel.specs.State.{has_ended}
 use Rattle.guest_kernel.specs.Threads.{AreFew, is_running}
 use Rattle.journal_text.specs.Reading.{journal_of}
-use Rattle.recorder.specs.Drawing.{epochs_of}
 use Rattle.recorder.specs.Keeping.{SoFar}
 use Rattle.recorder.proofs.Begun.{begin_failed, begin_failed_moments, begun_so_far}
 use Rattle.recorder.proofs.Drawings.{take_laws}
@@ -41,10 +40,10 @@ returns-in_err-supply-clause-recorded g c =
     let going : has_ended c.args.start.end ≡ false = ap (λ (s : State). has_ended s.end) c.requires.starts in
     let guest = c.args.guest.now in
     let size : length (journal_of guest []) ≡ 10 + length guest = omega (arith, c.lengths.ensures.header guest, length_push (header guest) closed_gate) in
-    let begun = begun_so_far (record { guest = c.args.guest.now; tells = g.Q.Racer.tells c.args.racer.now; options = c.args.options; start = c.args.start; given = g.I.Inlet.input c.args.inlet.now; before = g.W.World.history c.args.world.now }) (g.W.World.history c.begin.new.world) c.in_ok-journal.journal (record { first = 1; epochs = 0; sent = 0 }) (is_guest c.args.guest.now (c.a_file_without_fault_has_segments.ensures.size c.args.guest.now c.requires.guest) (λ i. omega (arith, c.type_inv.guest i))) none_yet no_input (record {
+    let begun = begun_so_far (record { guest = c.args.guest.now; tells = g.Q.Racer.tells c.args.racer.now; options = c.args.options; start = c.args.start; given = g.I.Inlet.input c.args.inlet.now; before = g.W.World.history c.args.world.now }) (g.W.World.history c.begin.new.world) c.in_ok-journal.journal (record { first = 1; epochs = 0; since = 0; sent = 0 }) (is_guest c.args.guest.now (c.a_file_without_fault_has_segments.ensures.size c.args.guest.now c.requires.guest) (λ i. omega (arith, c.type_inv.guest i))) none_yet no_input (record {
       runs = λ going. subst (λ (s : State). list_any is_running s.threads ≡ true) (sym c.requires.starts) (c.a_guest_goes_on_while_a_thread_runs.ensures.start guest);
       few = subst (λ (s : State). AreFew s.threads) (sym c.requires.starts) (c.threads_are_few.ensures.start guest);
-    }) c.in_ok-journal.ensures.numbers size c.in_ok-journal.ensures.history refl refl refl in
+    }) (subst IsEncodable (sym c.requires.starts) (c.a_start_state_is_encodable.ensures c.args.guest.now c.requires.guest (λ i. omega (arith, c.type_inv.guest i)))) c.in_ok-journal.ensures.numbers size c.in_ok-journal.ensures.history refl refl refl refl in
     let p = err_from_is_err_and c.from_residual-in_err-supply.result c.from_residual-in_err-supply.ensures.1 in
     rw (p.1 ∙ ap (λ e. Err e) p.2) (no_supply _ _ _ _ c.args.start _ c.in_ok-journal.journal _ 0 begun going (omega (arith, none_yet, c.args.options.limit_range.0)))
 
@@ -55,10 +54,10 @@ returns-in_err-supply-clause-moments g c =
     let going : has_ended c.args.start.end ≡ false = ap (λ (s : State). has_ended s.end) c.requires.starts in
     let guest = c.args.guest.now in
     let size : length (journal_of guest []) ≡ 10 + length guest = omega (arith, c.lengths.ensures.header guest, length_push (header guest) closed_gate) in
-    let begun = begun_so_far (record { guest = c.args.guest.now; tells = g.Q.Racer.tells c.args.racer.now; options = c.args.options; start = c.args.start; given = g.I.Inlet.input c.args.inlet.now; before = g.W.World.history c.args.world.now }) (g.W.World.history c.begin.new.world) c.in_ok-journal.journal (record { first = 1; epochs = 0; sent = 0 }) (is_guest c.args.guest.now (c.a_file_without_fault_has_segments.ensures.size c.args.guest.now c.requires.guest) (λ i. omega (arith, c.type_inv.guest i))) none_yet no_input (record {
+    let begun = begun_so_far (record { guest = c.args.guest.now; tells = g.Q.Racer.tells c.args.racer.now; options = c.args.options; start = c.args.start; given = g.I.Inlet.input c.args.inlet.now; before = g.W.World.history c.args.world.now }) (g.W.World.history c.begin.new.world) c.in_ok-journal.journal (record { first = 1; epochs = 0; since = 0; sent = 0 }) (is_guest c.args.guest.now (c.a_file_without_fault_has_segments.ensures.size c.args.guest.now c.requires.guest) (λ i. omega (arith, c.type_inv.guest i))) none_yet no_input (record {
       runs = λ going. subst (λ (s : State). list_any is_running s.threads ≡ true) (sym c.requires.starts) (c.a_guest_goes_on_while_a_thread_runs.ensures.start guest);
       few = subst (λ (s : State). AreFew s.threads) (sym c.requires.starts) (c.threads_are_few.ensures.start guest);
-    }) c.in_ok-journal.ensures.numbers size c.in_ok-journal.ensures.history refl refl refl in
+    }) (subst IsEncodable (sym c.requires.starts) (c.a_start_state_is_encodable.ensures c.args.guest.now c.requires.guest (λ i. omega (arith, c.type_inv.guest i)))) c.in_ok-journal.ensures.numbers size c.in_ok-journal.ensures.history refl refl refl refl in
     still_moments _ _ _ _ c.args.start _ c.in_ok-journal.journal _ 0 begun _ refl
 
 pub rounds-init : goal.rounds-init
@@ -68,12 +67,12 @@ rounds-init g c =
     let going : has_ended c.args.start.end ≡ false = ap (λ (s : State). has_ended s.end) c.requires.starts in
     let guest = c.args.guest.now in
     let size : length (journal_of guest []) ≡ 10 + length guest = omega (arith, c.lengths.ensures.header guest, length_push (header guest) closed_gate) in
-    let begun = begun_so_far (record { guest = c.args.guest.now; tells = g.Q.Racer.tells c.args.racer.now; options = c.args.options; start = c.args.start; given = g.I.Inlet.input c.args.inlet.now; before = g.W.World.history c.args.world.now }) (g.W.World.history c.begin.new.world) c.in_ok-journal.journal (record { first = 1; epochs = 0; sent = 0 }) (is_guest c.args.guest.now (c.a_file_without_fault_has_segments.ensures.size c.args.guest.now c.requires.guest) (λ i. omega (arith, c.type_inv.guest i))) none_yet no_input (record {
+    let begun = begun_so_far (record { guest = c.args.guest.now; tells = g.Q.Racer.tells c.args.racer.now; options = c.args.options; start = c.args.start; given = g.I.Inlet.input c.args.inlet.now; before = g.W.World.history c.args.world.now }) (g.W.World.history c.begin.new.world) c.in_ok-journal.journal (record { first = 1; epochs = 0; since = 0; sent = 0 }) (is_guest c.args.guest.now (c.a_file_without_fault_has_segments.ensures.size c.args.guest.now c.requires.guest) (λ i. omega (arith, c.type_inv.guest i))) none_yet no_input (record {
       runs = λ going. subst (λ (s : State). list_any is_running s.threads ≡ true) (sym c.requires.starts) (c.a_guest_goes_on_while_a_thread_runs.ensures.start guest);
       few = subst (λ (s : State). AreFew s.threads) (sym c.requires.starts) (c.threads_are_few.ensures.start guest);
-    }) c.in_ok-journal.ensures.numbers size c.in_ok-journal.ensures.history refl refl refl in
+    }) (subst IsEncodable (sym c.requires.starts) (c.a_start_state_is_encodable.ensures c.args.guest.now c.requires.guest (λ i. omega (arith, c.type_inv.guest i)))) c.in_ok-journal.ensures.numbers size c.in_ok-journal.ensures.history refl refl refl refl in
     record {
-      so_far = subst (λ (w : Supplied). SoFar (record { guest = c.args.guest.now; tells = g.Q.Racer.tells c.args.racer.now; options = c.args.options; start = c.args.start; given = g.I.Inlet.input c.args.inlet.now; before = g.W.World.history c.args.world.now }) (g.I.Inlet.input c.args.inlet.now) (g.W.World.history c.begin.new.world) (g.Q.Racer.tells c.args.racer.now) c.args.start w c.in_ok-journal.journal (record { first = 1; epochs = 0; sent = 0 }) 0) (sym c.in_ok-supply.ensures) begun;
+      so_far = subst (λ (w : Supplied). SoFar (record { guest = c.args.guest.now; tells = g.Q.Racer.tells c.args.racer.now; options = c.args.options; start = c.args.start; given = g.I.Inlet.input c.args.inlet.now; before = g.W.World.history c.args.world.now }) (g.I.Inlet.input c.args.inlet.now) (g.W.World.history c.begin.new.world) (g.Q.Racer.tells c.args.racer.now) c.args.start w c.in_ok-journal.journal (record { first = 1; epochs = 0; since = 0; sent = 0 }) 0) (sym c.in_ok-supply.ensures) begun;
       no_disk_fault = c.in_ok-journal.ensures.none;
       no_sink_fault = c.begin.ensures.sink;
       no_input_fault = refl;
@@ -163,7 +162,7 @@ commit_results-requires-clause-round g c =
     let going : has_ended l.state.end ≡ false = sym c.ended.ensures ∙ c.rounds-test.true in
     let within = begins_by steps (record { guest = c.args.guest.now; tells = g.Q.Racer.tells c.args.racer.now; options = c.args.options; start = c.args.start; given = g.I.Inlet.input c.args.inlet.now; before = g.W.World.history c.args.world.now }) (g.I.Inlet.input l.inlet) (g.I.Inlet.input c.draw.new.inlet) (g.W.World.history l.world) (g.Q.Racer.tells l.racer) l.state l.supply c.draw.new.supply l.journal l.tally l.squashes so_far c.in_ok-draw.ensures.drew c.in_ok-draw.ensures.is_supply
     takes c.a_round_commits_what_joins_on.ensures.starts going c.if-state-options.false (g.Q.Racer.tells c.run_round.new.racer) c.in_ok-results.results.items c.in_ok-results.ensures.raced c.in_ok-core.core c.in_ok-core.ensures in
-    ((record { setting = (record { guest = c.args.guest.now; tells = g.Q.Racer.tells c.args.racer.now; options = c.args.options; start = c.args.start; given = g.I.Inlet.input c.args.inlet.now; before = g.W.World.history c.args.world.now }); later = g.I.Inlet.input c.draw.new.inlet; racer = g.Q.Racer.tells c.run_round.new.racer; supply = c.draw.new.supply; from = l.state; squashes = l.squashes }), within)
+    ((record { setting = (record { guest = c.args.guest.now; tells = g.Q.Racer.tells c.args.racer.now; options = c.args.options; start = c.args.start; given = g.I.Inlet.input c.args.inlet.now; before = g.W.World.history c.args.world.now }); later = g.I.Inlet.input c.draw.new.inlet; racer = g.Q.Racer.tells c.run_round.new.racer; supply = c.draw.new.supply; from = l.state; squashes = l.squashes }), refl, within)
 
 pub returns-in_err-squashed-clause-recorded : goal.returns-in_err-squashed-clause-recorded
 returns-in_err-squashed-clause-recorded g c =
@@ -175,7 +174,7 @@ returns-in_err-squashed-clause-recorded g c =
     let within = begins_by steps (record { guest = c.args.guest.now; tells = g.Q.Racer.tells c.args.racer.now; options = c.args.options; start = c.args.start; given = g.I.Inlet.input c.args.inlet.now; before = g.W.World.history c.args.world.now }) (g.I.Inlet.input l.inlet) (g.I.Inlet.input c.draw.new.inlet) (g.W.World.history l.world) (g.Q.Racer.tells l.racer) l.state l.supply c.draw.new.supply l.journal l.tally l.squashes so_far c.in_ok-draw.ensures.drew c.in_ok-draw.ensures.is_supply
     takes c.a_round_commits_what_joins_on.ensures.starts going c.if-state-options.false (g.Q.Racer.tells c.run_round.new.racer) c.in_ok-results.results.items c.in_ok-results.ensures.raced c.in_ok-core.core c.in_ok-core.ensures in
     let p = err_from_is_err_and c.from_residual-in_err-squashed.result c.from_residual-in_err-squashed.ensures.1 in
-    rw (p.1 ∙ ap (λ e. Err e) p.2) (c.in_err-squashed.ensures.says (record { setting = (record { guest = c.args.guest.now; tells = g.Q.Racer.tells c.args.racer.now; options = c.args.options; start = c.args.start; given = g.I.Inlet.input c.args.inlet.now; before = g.W.World.history c.args.world.now }); later = g.I.Inlet.input c.draw.new.inlet; racer = g.Q.Racer.tells c.run_round.new.racer; supply = c.draw.new.supply; from = l.state; squashes = l.squashes }) within).0
+    rw (p.1 ∙ ap (λ e. Err e) p.2) (c.in_err-squashed.ensures.says (record { setting = (record { guest = c.args.guest.now; tells = g.Q.Racer.tells c.args.racer.now; options = c.args.options; start = c.args.start; given = g.I.Inlet.input c.args.inlet.now; before = g.W.World.history c.args.world.now }); later = g.I.Inlet.input c.draw.new.inlet; racer = g.Q.Racer.tells c.run_round.new.racer; supply = c.draw.new.supply; from = l.state; squashes = l.squashes }) refl within).0
 
 pub returns-in_err-squashed-clause-moments : goal.returns-in_err-squashed-clause-moments
 returns-in_err-squashed-clause-moments g c =
@@ -186,7 +185,7 @@ returns-in_err-squashed-clause-moments g c =
     let going : has_ended l.state.end ≡ false = sym c.ended.ensures ∙ c.rounds-test.true in
     let within = begins_by steps (record { guest = c.args.guest.now; tells = g.Q.Racer.tells c.args.racer.now; options = c.args.options; start = c.args.start; given = g.I.Inlet.input c.args.inlet.now; before = g.W.World.history c.args.world.now }) (g.I.Inlet.input l.inlet) (g.I.Inlet.input c.draw.new.inlet) (g.W.World.history l.world) (g.Q.Racer.tells l.racer) l.state l.supply c.draw.new.supply l.journal l.tally l.squashes so_far c.in_ok-draw.ensures.drew c.in_ok-draw.ensures.is_supply
     takes c.a_round_commits_what_joins_on.ensures.starts going c.if-state-options.false (g.Q.Racer.tells c.run_round.new.racer) c.in_ok-results.results.items c.in_ok-results.ensures.raced c.in_ok-core.core c.in_ok-core.ensures in
-    (c.in_err-squashed.ensures.says (record { setting = (record { guest = c.args.guest.now; tells = g.Q.Racer.tells c.args.racer.now; options = c.args.options; start = c.args.start; given = g.I.Inlet.input c.args.inlet.now; before = g.W.World.history c.args.world.now }); later = g.I.Inlet.input c.draw.new.inlet; racer = g.Q.Racer.tells c.run_round.new.racer; supply = c.draw.new.supply; from = l.state; squashes = l.squashes }) within).1
+    (c.in_err-squashed.ensures.says (record { setting = (record { guest = c.args.guest.now; tells = g.Q.Racer.tells c.args.racer.now; options = c.args.options; start = c.args.start; given = g.I.Inlet.input c.args.inlet.now; before = g.W.World.history c.args.world.now }); later = g.I.Inlet.input c.draw.new.inlet; racer = g.Q.Racer.tells c.run_round.new.racer; supply = c.draw.new.supply; from = l.state; squashes = l.squashes }) refl within).1
 
 pub returns-in_err-squashed-clause-others : goal.returns-in_err-squashed-clause-others
 returns-in_err-squashed-clause-others g c =
@@ -212,7 +211,7 @@ rounds-smaller g c =
     let going : has_ended l.state.end ≡ false = sym c.ended.ensures ∙ c.rounds-test.true in
     let within = begins_by steps (record { guest = c.args.guest.now; tells = g.Q.Racer.tells c.args.racer.now; options = c.args.options; start = c.args.start; given = g.I.Inlet.input c.args.inlet.now; before = g.W.World.history c.args.world.now }) (g.I.Inlet.input l.inlet) (g.I.Inlet.input c.draw.new.inlet) (g.W.World.history l.world) (g.Q.Racer.tells l.racer) l.state l.supply c.draw.new.supply l.journal l.tally l.squashes so_far c.in_ok-draw.ensures.drew c.in_ok-draw.ensures.is_supply
     takes c.a_round_commits_what_joins_on.ensures.starts going c.if-state-options.false (g.Q.Racer.tells c.run_round.new.racer) c.in_ok-results.results.items c.in_ok-results.ensures.raced c.in_ok-core.core c.in_ok-core.ensures in
-    let over = over_by (record { setting = (record { guest = c.args.guest.now; tells = g.Q.Racer.tells c.args.racer.now; options = c.args.options; start = c.args.start; given = g.I.Inlet.input c.args.inlet.now; before = g.W.World.history c.args.world.now }); later = g.I.Inlet.input c.draw.new.inlet; racer = g.Q.Racer.tells c.run_round.new.racer; supply = c.draw.new.supply; from = l.state; squashes = l.squashes }) (g.W.World.history c.commit_results.new.world) c.commit_results.new.core c.commit_results.new.journal c.commit_results.new.tally c.in_ok-squashed.squashed (c.in_ok-squashed.ensures.says (record { setting = (record { guest = c.args.guest.now; tells = g.Q.Racer.tells c.args.racer.now; options = c.args.options; start = c.args.start; given = g.I.Inlet.input c.args.inlet.now; before = g.W.World.history c.args.world.now }); later = g.I.Inlet.input c.draw.new.inlet; racer = g.Q.Racer.tells c.run_round.new.racer; supply = c.draw.new.supply; from = l.state; squashes = l.squashes }) within) in
+    let over = over_by (record { setting = (record { guest = c.args.guest.now; tells = g.Q.Racer.tells c.args.racer.now; options = c.args.options; start = c.args.start; given = g.I.Inlet.input c.args.inlet.now; before = g.W.World.history c.args.world.now }); later = g.I.Inlet.input c.draw.new.inlet; racer = g.Q.Racer.tells c.run_round.new.racer; supply = c.draw.new.supply; from = l.state; squashes = l.squashes }) (g.W.World.history c.commit_results.new.world) c.commit_results.new.core c.commit_results.new.journal c.commit_results.new.tally c.in_ok-squashed.squashed (c.in_ok-squashed.ensures.says (record { setting = (record { guest = c.args.guest.now; tells = g.Q.Racer.tells c.args.racer.now; options = c.args.options; start = c.args.start; given = g.I.Inlet.input c.args.inlet.now; before = g.W.World.history c.args.world.now }); later = g.I.Inlet.input c.draw.new.inlet; racer = g.Q.Racer.tells c.run_round.new.racer; supply = c.draw.new.supply; from = l.state; squashes = l.squashes }) refl within) in
     omega (arith, over.1, c.if-state-options.false, ap (λ (s : State). s.steps) c.into_committed-state.ensures)
 
 pub rounds-preserved : goal.rounds-preserved
@@ -224,7 +223,7 @@ rounds-preserved g c =
     let going : has_ended l.state.end ≡ false = sym c.ended.ensures ∙ c.rounds-test.true in
     let within = begins_by steps (record { guest = c.args.guest.now; tells = g.Q.Racer.tells c.args.racer.now; options = c.args.options; start = c.args.start; given = g.I.Inlet.input c.args.inlet.now; before = g.W.World.history c.args.world.now }) (g.I.Inlet.input l.inlet) (g.I.Inlet.input c.draw.new.inlet) (g.W.World.history l.world) (g.Q.Racer.tells l.racer) l.state l.supply c.draw.new.supply l.journal l.tally l.squashes so_far c.in_ok-draw.ensures.drew c.in_ok-draw.ensures.is_supply
     takes c.a_round_commits_what_joins_on.ensures.starts going c.if-state-options.false (g.Q.Racer.tells c.run_round.new.racer) c.in_ok-results.results.items c.in_ok-results.ensures.raced c.in_ok-core.core c.in_ok-core.ensures in
-    let over = over_by (record { setting = (record { guest = c.args.guest.now; tells = g.Q.Racer.tells c.args.racer.now; options = c.args.options; start = c.args.start; given = g.I.Inlet.input c.args.inlet.now; before = g.W.World.history c.args.world.now }); later = g.I.Inlet.input c.draw.new.inlet; racer = g.Q.Racer.tells c.run_round.new.racer; supply = c.draw.new.supply; from = l.state; squashes = l.squashes }) (g.W.World.history c.commit_results.new.world) c.commit_results.new.core c.commit_results.new.journal c.commit_results.new.tally c.in_ok-squashed.squashed (c.in_ok-squashed.ensures.says (record { setting = (record { guest = c.args.guest.now; tells = g.Q.Racer.tells c.args.racer.now; options = c.args.options; start = c.args.start; given = g.I.Inlet.input c.args.inlet.now; before = g.W.World.history c.args.world.now }); later = g.I.Inlet.input c.draw.new.inlet; racer = g.Q.Racer.tells c.run_round.new.racer; supply = c.draw.new.supply; from = l.state; squashes = l.squashes }) within) in
+    let over = over_by (record { setting = (record { guest = c.args.guest.now; tells = g.Q.Racer.tells c.args.racer.now; options = c.args.options; start = c.args.start; given = g.I.Inlet.input c.args.inlet.now; before = g.W.World.history c.args.world.now }); later = g.I.Inlet.input c.draw.new.inlet; racer = g.Q.Racer.tells c.run_round.new.racer; supply = c.draw.new.supply; from = l.state; squashes = l.squashes }) (g.W.World.history c.commit_results.new.world) c.commit_results.new.core c.commit_results.new.journal c.commit_results.new.tally c.in_ok-squashed.squashed (c.in_ok-squashed.ensures.says (record { setting = (record { guest = c.args.guest.now; tells = g.Q.Racer.tells c.args.racer.now; options = c.args.options; start = c.args.start; given = g.I.Inlet.input c.args.inlet.now; before = g.W.World.history c.args.world.now }); later = g.I.Inlet.input c.draw.new.inlet; racer = g.Q.Racer.tells c.run_round.new.racer; supply = c.draw.new.supply; from = l.state; squashes = l.squashes }) refl within) in
     let both = subst (λ (s : State). SoFar (record { guest = c.args.guest.now; tells = g.Q.Racer.tells c.args.racer.now; options = c.args.options; start = c.args.start; given = g.I.Inlet.input c.args.inlet.now; before = g.W.World.history c.args.world.now }) (g.I.Inlet.input c.draw.new.inlet) (g.W.World.history c.commit_results.new.world) (g.Q.Racer.tells c.run_round.new.racer) s c.draw.new.supply c.commit_results.new.journal c.commit_results.new.tally (l.squashes + (if c.in_ok-squashed.squashed then 1 else 0))) (sym c.into_committed-state.ensures) over.0 in
     record {
       so_far = subst (λ (n : ℕ). SoFar (record { guest = c.args.guest.now; tells = g.Q.Racer.tells c.args.racer.now; options = c.args.options; start = c.args.start; given = g.I.Inlet.input c.args.inlet.now; before = g.W.World.history c.args.world.now }) (g.I.Inlet.input c.draw.new.inlet) (g.W.World.history c.commit_results.new.world) (g.Q.Racer.tells c.run_round.new.racer) c.into_committed-state.result c.draw.new.supply c.commit_results.new.journal c.commit_results.new.tally n) (sym c.squashes_with-squashes.ensures) both;
@@ -234,11 +233,7 @@ rounds-preserved g c =
     }
 
 pub tell-requires : goal.tell-requires
-tell-requires g c =
-    let l = c.rounds in
-    let kept = l.invariant.so_far.kept in
-    let first = subst IsEncodable (sym c.requires.starts) (c.a_start_state_is_encodable.ensures c.args.guest.now c.requires.guest (λ i. omega (arith, c.type_inv.guest i))) in
-    c.a_chain_keeps_a_state_encodable.ensures c.args.start (epochs_of l.invariant.so_far.rounds) l.state l.invariant.so_far.output first kept.are_answers kept.chained (omega (arith, kept.counted)) (omega (arith, kept.counted, kept.little_input, c.args.options.limit_range.1))
+tell-requires g c = c.rounds.invariant.so_far.kept.encodable
 
 pub returns-clause-recorded : goal.returns-clause-recorded
 returns-clause-recorded g c =

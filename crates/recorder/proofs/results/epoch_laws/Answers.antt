@@ -9,4 +9,5 @@ returns c = record {
   reads = c.a_run_is_as_long_as_its_slices.ensures.reads;
   goes_on = λ s slices log there ran on. record { runs = c.a_guest_goes_on_while_a_thread_runs.ensures.run s slices log there ran on.runs; few = c.threads_are_few.ensures.run s slices log there ran on.few };
   made = c.threads_are_few.ensures.made;
+  encodable = c.a_run_keeps_a_state_encodable.ensures;
 }
