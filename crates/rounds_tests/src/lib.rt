@@ -18,6 +18,12 @@ mod input_tests;
 #[cfg(test)]
 mod limit_tests;
 #[cfg(test)]
+mod mark_fault_tests;
+#[cfg(test)]
+mod mark_tests;
+#[cfg(test)]
+mod marked;
+#[cfg(test)]
 mod nonsense;
 #[cfg(test)]
 mod nonsense_tests;
