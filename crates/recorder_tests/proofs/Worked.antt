@@ -1,5 +1,5 @@
 -- What the worked examples of recordings rest on.
-use Rattle.std.proofs.Common.{◌≡◌, ℕ, true, false, List, [], ◌∷◌, ◌++◌, length, Option, Some, Result, Ok, Err, refl, sym, ap, ◌∙◌, arith}
+use Rattle.std.proofs.Common.{◌≡◌, ℕ, Bool, true, false, List, [], ◌∷◌, ◌++◌, length, Option, Some, Result, Ok, Err, refl, sym, ap, ◌∙◌, arith}
 use Rattle.std.proofs.lemmas.List.{length-append}
 use Rattle.std.proofs.lemmas.Option.{same_Some}
 use Rattle.dp_base.specs.declared.answer.Answer.{Answer}
@@ -10,7 +10,7 @@ use Rattle.guest_kernel.specs.Answers.{bytes_read}
 use Rattle.guest_kernel.specs.Slices.{chain}
 use Rattle.journal_text.specs.Reading.{Reading, ending, reads}
 use Rattle.journal_text.specs.Records.{Record, fitting_at, list_from, next_at}
-use Rattle.recorder.specs.Recording.{records_of}
+use Rattle.recorder.specs.Marking.{marked_from, records_with}
 
 -- ---- where an empty read is
 
@@ -45,10 +45,16 @@ output_in (Err count) = []
 abbrev records_in : Reading → List Record
 records_in r = r.records
 
+-- no epoch has no mark
+pub none_marked : (all : Bool) (every : ℕ) (start : State) → records_with all every start [] ≡ []
+unfolding marked_from
+none_marked all every start = refl
+
 -- no epoch has no output
-pub no_output : (start end : State) (epochs : List Epoch) (output : List ℕ) (place : ℕ) → reads (1 ∷ 68 ∷ 80 ∷ 74 ∷ 49 ∷ 1 ∷ 0 ∷ 0 ∷ 0 ∷ 170 ∷ 0 ∷ []) ≡ Some (ending (170 ∷ []) (records_of epochs) place)
+pub no_output : (all : Bool) (every : ℕ) (start end : State) (epochs : List Epoch) (output : List ℕ) (place : ℕ) → reads (1 ∷ 68 ∷ 80 ∷ 74 ∷ 49 ∷ 1 ∷ 0 ∷ 0 ∷ 0 ∷ 170 ∷ 0 ∷ []) ≡ Some (ending (170 ∷ []) (records_with all every start epochs) place)
     → chain start epochs ≡ Ok (end, output) → output ≡ []
-no_output start end [] output place is chained = sym (ap output_in chained) ∙ ap output_in (none_run start)
-no_output start end (e ∷ epochs) output place is chained =
-    let same : records_of (e ∷ epochs) ≡ [] = ap records_in (same_Some _ _ (sym is ∙ begun_reads)) in
+unfolding marked_from
+no_output all every start end [] output place is chained = sym (ap output_in chained) ∙ ap output_in (none_run start)
+no_output all every start end (e ∷ epochs) output place is chained =
+    let same : records_with all every start (e ∷ epochs) ≡ [] = ap records_in (same_Some _ _ (sym is ∙ begun_reads)) in
     absurd cc

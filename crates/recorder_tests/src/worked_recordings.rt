@@ -1,5 +1,5 @@
 // Worked examples of answers that are faithful to an input, and of what an image says of a recording.
-ghost use Rattle.std.specs.Prelude.{◌≡◌, ◌∷◌, [], true, false, None};
+ghost use Rattle.std.specs.Prelude.{◌≡◌, ◌∷◌, [], ℕ, true, false, None};
 ghost use Rattle.dp_base.specs.declared.answer.Answer.TheVariants.{Clock, Read};
 ghost use Rattle.guest_kernel.specs.declared.state.State.{State};
 ghost use Rattle.recorder.specs.Drawing.{IsHonest};
@@ -26,8 +26,8 @@ fn faithful_clocks()
 // The journal of a guest's file of one byte, AA, without a record.
 #[tactic(auto, unfolding(guest_kernel::specs::Slices::chain, journal_text::specs::Reading::reads, journal_text::specs::Records::list_from, journal_text::specs::Records::next_at, dp_base::specs::Journal::header_at))]
 fn images()
-    ensures begun { (start : State) → IsRecording (0xaa ∷ []) start None None (1 ∷ 0x44 ∷ 0x50 ∷ 0x4a ∷ 0x31 ∷ 1 ∷ 0 ∷ 0 ∷ 0 ∷ 0xaa ∷ 0 ∷ []) [] }
-    ensures sent_too_early { (start : State) → IsRecording (0xaa ∷ []) start None None (1 ∷ 0x44 ∷ 0x50 ∷ 0x4a ∷ 0x31 ∷ 1 ∷ 0 ∷ 0 ∷ 0 ∷ 0xaa ∷ 0 ∷ []) (7 ∷ []) → ⊥ }
-    ensures another_guest { (start : State) → IsRecording (0xbb ∷ []) start None None (1 ∷ 0x44 ∷ 0x50 ∷ 0x4a ∷ 0x31 ∷ 1 ∷ 0 ∷ 0 ∷ 0 ∷ 0xaa ∷ 0 ∷ []) [] → ⊥ }
-    ensures no_journal { (start : State) → IsRecording (0xaa ∷ []) start None None (0 ∷ 0x44 ∷ 0x50 ∷ 0x4a ∷ 0x31 ∷ 1 ∷ 0 ∷ 0 ∷ 0 ∷ 0xaa ∷ 0 ∷ []) [] → ⊥ }
+    ensures begun { (every : ℕ) (start : State) → IsRecording (0xaa ∷ []) every start None None (1 ∷ 0x44 ∷ 0x50 ∷ 0x4a ∷ 0x31 ∷ 1 ∷ 0 ∷ 0 ∷ 0 ∷ 0xaa ∷ 0 ∷ []) [] }
+    ensures sent_too_early { (every : ℕ) (start : State) → IsRecording (0xaa ∷ []) every start None None (1 ∷ 0x44 ∷ 0x50 ∷ 0x4a ∷ 0x31 ∷ 1 ∷ 0 ∷ 0 ∷ 0 ∷ 0xaa ∷ 0 ∷ []) (7 ∷ []) → ⊥ }
+    ensures another_guest { (every : ℕ) (start : State) → IsRecording (0xbb ∷ []) every start None None (1 ∷ 0x44 ∷ 0x50 ∷ 0x4a ∷ 0x31 ∷ 1 ∷ 0 ∷ 0 ∷ 0 ∷ 0xaa ∷ 0 ∷ []) [] → ⊥ }
+    ensures no_journal { (every : ℕ) (start : State) → IsRecording (0xaa ∷ []) every start None None (0 ∷ 0x44 ∷ 0x50 ∷ 0x4a ∷ 0x31 ∷ 1 ∷ 0 ∷ 0 ∷ 0 ∷ 0xaa ∷ 0 ∷ []) [] → ⊥ }
 {}
