@@ -59,7 +59,7 @@ fn ran<R: Threads + Sync>(
 // The steps of an epoch and of a slice at most, if no option says.
 pub(crate) const STEPS: (&str, &str) = ("20000", "1000");
 
-// A recording of a guest of these words, on an empty disk, with so many steps of an epoch and of a slice at most.
+// A recording without marks of a guest of these words, on an empty disk, with so many steps of an epoch and of a slice at most.
 pub(crate) fn record<R: Threads + Sync>(
     rt: &R,
     alloc: Global,
@@ -69,7 +69,7 @@ pub(crate) fn record<R: Threads + Sync>(
 ) -> Result<Seen, Fail> {
     let file = file_of(alloc, words)?;
     let asked = [
-        "dpcli", "record", "g", "j", "--epoch", steps.0, "--slice", steps.1,
+        "dpcli", "record", "g", "j", "--epoch", steps.0, "--slice", steps.1, "--mark", "0",
     ];
     ran(rt, alloc, &asked, &file, inlet, &[])
 }
