@@ -1,0 +1,7 @@
+use Rattle.std.proofs.Common.{◌<◌}
+use Rattle.shared_words.specs.Rule.{view_of}
+use Rattle.shared_words.specs.Words.{IsSeatAt}
+use Rattle.thread_racer.proofs.pass.take_parts.Given as goal
+
+abbrev pub invariant-loop-part : goal.invariant-loop-part
+invariant-loop-part g l = IsSeatAt g.J.Naming.table l.seat × (0 < (view_of l.seat).budget)

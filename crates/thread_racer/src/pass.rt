@@ -1,0 +1,165 @@
+// A pass: threads run side by side on shared words, each up to its quota.
+ghost use Rattle.std.specs.Prelude.{◌≡◌, ◌<◌, ◌≤◌, ◌^◌, IfOk};
+ghost use Rattle.shared_words.specs.Rule.{all_tickets, view_of};
+ghost use Rattle.shared_words.specs.Words.{IsSeatAt, table_of};
+
+use crate::course::Course;
+use crate::part::{Part, race_parts};
+use crate::thread_run::{ThreadRun, put_hart, running};
+use disk_model::Gate;
+use dp_base::OutOfMemory;
+use dp_base::limits::MAX_THREADS;
+use guest_kernel::State;
+use rv_step::Stepped;
+use shared_words::{Naming, RacingMem, Seat, SharedWords};
+use std::alloc::Global;
+use std::marker::Brand;
+use std::thread::Threads;
+
+// Lets the threads that may take steps race. The tickets count on.
+pub(crate) fn race_pass<R: Threads + Sync, G: Gate + Sync>(
+    rt: &R,
+    alloc: Global,
+    gate: &G,
+    workers: u32,
+    state: &mut State,
+    threads: &mut [ThreadRun],
+    course: &mut Course,
+) -> Result<(), OutOfMemory>
+    requires { 0 < workers }
+{
+    let (words, seat) = SharedWords::of_pages(alloc, &state.pages)?;
+    let (seat, taken) = race_on::<Brand, R, G>(
+        rt,
+        alloc,
+        gate,
+        workers,
+        &words,
+        seat,
+        state,
+        threads,
+        course.tickets,
+    )?;
+    state.pages = words.into_pages(alloc, seat)?;
+    course.tickets = course.tickets.saturating_add(taken);
+    Ok(())
+}
+
+// Lets the threads race on these words. Returns a seat, and how many tickets were taken.
+fn race_on<J: Naming + Send + Sync, R: Threads + Sync, G: Gate + Sync>(
+    rt: &R,
+    alloc: Global,
+    gate: &G,
+    workers: u32,
+    words: &SharedWords,
+    seat: Seat,
+    state: &mut State,
+    threads: &mut [ThreadRun],
+    base: u64,
+) -> Result<(Seat, u64), OutOfMemory>
+    requires some { 0 < workers }
+    requires named { table_of words.now ≡ J.table }
+    requires seat { IsSeatAt J.table seat }
+    requires budget { view_of seat ≡ all_tickets }
+    ensures { IfOk result (λ r. IsSeatAt J.table r.0) }
+{
+    let (mut parts, seat) = make_parts::<J>(alloc, words, seat, state, threads)?;
+    race_parts(rt, gate, workers, &mut parts);
+    let mut seat = take_parts(words, seat, state, threads, parts, base)?;
+    let taken = words.ticket(&mut seat);
+    Ok((seat, taken))
+}
+
+// Makes a part of each thread that may take steps. Returns the first seat too.
+fn make_parts<'a, J: Naming>(
+    alloc: Global,
+    words: &'a SharedWords,
+    mut seat: Seat,
+    state: &State,
+    threads: &[ThreadRun],
+) -> Result<(Vec<Part<'a, J>>, Seat), OutOfMemory>
+    requires named { table_of words.now ≡ J.table }
+    requires seat { IsSeatAt J.table seat }
+    requires budget { view_of seat ≡ all_tickets }
+    ensures seat { IfOk result (λ r. IsSeatAt J.table r.1) }
+    ensures budget { IfOk result (λ r. 0 < (view_of r.1).budget) }
+{
+    let mut parts = Vec::new(alloc);
+    for index in 0..threads.len().min(MAX_THREADS) {
+        let tid = threads[index].tid;
+        let quota = threads[index].quota;
+        if quota == 0 {
+            continue;
+        }
+        if let Some(hart) = running(state, tid) {
+            let (rest, new) = words.split(seat);
+            seat = rest;
+            parts.push(Part {
+                index,
+                tid,
+                worker: 1,
+                hart,
+                memory: RacingMem::new(alloc, words, new),
+                quota,
+                steps: 0,
+                stop: Ok(Stepped::Went),
+            })?;
+        }
+    }
+    Ok((parts, seat))
+}
+
+// Takes the parts' threads back, and joins their seats.
+fn take_parts<J: Naming>(
+    words: &SharedWords,
+    mut seat: Seat,
+    state: &mut State,
+    threads: &mut [ThreadRun],
+    parts: Vec<Part<'_, J>>,
+    base: u64,
+) -> Result<Seat, OutOfMemory>
+    requires named { table_of words.now ≡ J.table }
+    requires seat { IsSeatAt J.table seat }
+    requires budget { 0 < (view_of seat).budget }
+    ensures seat { IfOk result (λ r. IsSeatAt J.table r) }
+    ensures budget { IfOk result (λ r. 0 < (view_of r).budget) }
+{
+    for part in parts {
+        let other = take_part(state, threads, part, base)?;
+        seat = words.join(seat, other);
+    }
+    Ok(seat)
+}
+
+// Takes a part's thread back. Returns its seat.
+fn take_part<J: Naming>(
+    state: &mut State,
+    threads: &mut [ThreadRun],
+    part: Part<'_, J>,
+    base: u64,
+) -> Result<Seat, OutOfMemory>
+    ensures { IfOk result (λ r. IsSeatAt J.table r) }
+{
+    let Part {
+        index,
+        tid,
+        worker: _,
+        hart,
+        memory,
+        quota: _,
+        steps,
+        stop,
+    } = part;
+    let stop = stop?;
+    if memory.is_out_of_memory() {
+        return Err(OutOfMemory);
+    }
+    let (seat, log) = memory.into_parts();
+    put_hart(state, tid, hart);
+    state.steps = state.steps.saturating_add(u64::from(steps));
+    if let Some(thread) = threads.get_mut(index) {
+        thread.at_call = matches!(stop, Stepped::Ecall | Stepped::Trap { .. });
+        thread.note(steps, base, log.as_slice())?;
+    }
+    Ok(seat)
+}

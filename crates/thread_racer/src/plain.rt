@@ -1,0 +1,110 @@
+// Threads one after another on one processor, whose steps are noted as those of a pass are.
+ghost use Rattle.std.specs.Prelude.{◌≤◌};
+
+use crate::course::Course;
+use crate::noted_pages::NotedPages;
+use crate::part::run_hart;
+use crate::thread_run::{Share, ThreadRun, add_threads, grant, put_hart, running};
+use crate::turns::take_turn;
+use dp_base::OutOfMemory;
+use guest_kernel::State;
+use rv_step::Stepped;
+use std::alloc::Global;
+use std::mem;
+use supply::Supply;
+
+// Lets the threads go on, one after another, until their quotas are used or none can go on.
+pub(crate) fn use_quotas(
+    alloc: Global,
+    state: &mut State,
+    supply: &Supply,
+    threads: &mut [ThreadRun],
+    course: &mut Course,
+) -> Result<(), OutOfMemory> {
+    let mut memory = NotedPages::new(alloc)?;
+    for _ in 0..u32::MAX {
+        if !run_each(alloc, state, supply, threads, course, &mut memory)? {
+            return Ok(());
+        }
+    }
+    Ok(())
+}
+
+// Lets the threads go on, one after another, until the stretch is over or none can go on. Threads that wait leave their steps to others.
+pub(crate) fn run_to_end(
+    alloc: Global,
+    state: &mut State,
+    supply: &Supply,
+    threads: &mut Vec<ThreadRun>,
+    course: &mut Course,
+) -> Result<(), OutOfMemory> {
+    use_quotas(alloc, state, supply, threads, course)?;
+    for _ in 0..u32::MAX {
+        add_threads(alloc, state, threads)?;
+        if !grant(state, threads, course.left(state), Share::All) {
+            return Ok(());
+        }
+        let before = state.steps;
+        use_quotas(alloc, state, supply, threads, course)?;
+        if state.steps == before {
+            return Ok(());
+        }
+    }
+    Ok(())
+}
+
+// Lets each thread go on. Returns whether a step was taken.
+fn run_each(
+    alloc: Global,
+    state: &mut State,
+    supply: &Supply,
+    threads: &mut [ThreadRun],
+    course: &mut Course,
+    memory: &mut NotedPages,
+) -> Result<bool, OutOfMemory> {
+    let mut moved = false;
+    for index in 0..threads.len() {
+        if run_thread(alloc, state, supply, &mut threads[index], course, memory)? {
+            moved = true;
+        }
+    }
+    Ok(moved)
+}
+
+// Lets a thread go on until it has used its quota, the stretch is over, or it has done the call or trap at which it stops. Returns
+// whether a step was taken.
+fn run_thread(
+    alloc: Global,
+    state: &mut State,
+    supply: &Supply,
+    thread: &mut ThreadRun,
+    course: &mut Course,
+    memory: &mut NotedPages,
+) -> Result<bool, OutOfMemory> {
+    let limit = course.left(state).min(u64::from(thread.quota)) as u32;
+    if limit == 0 {
+        return Ok(false);
+    }
+    let Some(hart) = running(state, thread.tid) else {
+        return Ok(false);
+    };
+    memory.tickets = course.tickets;
+    let mut hart = hart;
+    mem::swap(&mut state.pages, &mut memory.pages);
+    let run = run_hart(&mut hart, memory, limit);
+    mem::swap(&mut state.pages, &mut memory.pages);
+    course.tickets = memory.tickets;
+    let stop = run.stop?;
+    if memory.is_out_of_memory {
+        return Err(OutOfMemory);
+    }
+    put_hart(state, thread.tid, hart);
+    state.steps = state.steps.saturating_add(u64::from(run.steps));
+    thread.note(run.steps, 0, &memory.entries)?;
+    memory.entries.clear();
+    if matches!(stop, Stepped::Went) {
+        return Ok(true);
+    }
+    let taken = take_turn(alloc, state, supply, thread, course)?;
+    Ok(taken || run.steps > 0)
+}

@@ -1,0 +1,100 @@
+// The calls and traps at which threads stop, one after another.
+ghost use Rattle.std.specs.Prelude.{◌≡◌};
+
+use crate::course::Course;
+use crate::thread_run::ThreadRun;
+use dp_base::{Answer, Bytes, OutOfMemory, Tid};
+use guest_kernel::{Peek, State, Turn};
+use std::alloc::Global;
+use supply::Supply;
+use sync_hints::Sc;
+
+// No turn is taken once the steps or the bytes of input are so many.
+const MOST: u64 = u64::MAX - 8192;
+
+// The answer that a turn takes.
+#[derive(Drop)]
+enum TurnAnswer {
+    None,
+    Known(Answer),
+    Unknown,
+}
+
+// The answer that a thread's next turn takes. It is unknown too if there is no turn.
+fn answer_to(
+    alloc: Global,
+    state: &State,
+    supply: &Supply,
+    tid: Tid,
+) -> Result<TurnAnswer, OutOfMemory> {
+    match state.peek(tid) {
+        Peek::NotRunnable => Ok(TurnAnswer::Unknown),
+        Peek::Plain => Ok(TurnAnswer::None),
+        Peek::Sync => Ok(TurnAnswer::None),
+        Peek::Sc => Ok(TurnAnswer::None),
+        Peek::Clock => Ok(TurnAnswer::Known(Answer::Clock(supply.stamp()))),
+        Peek::Read { place, max } => match supply.answer(place, max) {
+            Some(bytes) => {
+                let bytes = bytes.to_vec(alloc)?;
+                Ok(TurnAnswer::Known(Answer::Read(Bytes::from_vec(bytes))))
+            }
+            None => Ok(TurnAnswer::Unknown),
+        },
+    }
+}
+
+// Takes a thread's turn if its answer is known. Returns whether it was taken.
+fn turn(
+    alloc: Global,
+    state: &mut State,
+    supply: &Supply,
+    tid: Tid,
+    out: &mut Vec<u8>,
+) -> Result<bool, OutOfMemory> {
+    if state.steps >= MOST || state.input >= MOST {
+        return Ok(false);
+    }
+    let turned = match answer_to(alloc, state, supply, tid)? {
+        TurnAnswer::None => state.turn(alloc, tid, None, out)?,
+        TurnAnswer::Known(answer) => state.turn(alloc, tid, Some(&answer), out)?,
+        TurnAnswer::Unknown => return Ok(false),
+    };
+    Ok(matches!(turned, Turn::Stepped { .. }))
+}
+
+// Takes a thread's turn at a call or a trap, if the thread may take a step and the answer is known. The turn gets the next ticket.
+// Returns whether it was taken.
+pub(crate) fn take_turn(
+    alloc: Global,
+    state: &mut State,
+    supply: &Supply,
+    thread: &mut ThreadRun,
+    course: &mut Course,
+) -> Result<bool, OutOfMemory> {
+    if thread.quota == 0 || course.left(state) == 0 {
+        return Ok(false);
+    }
+    if !turn(alloc, state, supply, thread.tid, &mut course.out)? {
+        return Ok(false);
+    }
+    thread.note(1, course.tickets, &[(0, Sc::NotSc)])?;
+    course.tickets = course.tickets.saturating_add(1);
+    Ok(true)
+}
+
+// Takes the turns of the threads that stopped at a call or a trap, lowest number first.
+pub(crate) fn take_turns(
+    alloc: Global,
+    state: &mut State,
+    supply: &Supply,
+    threads: &mut [ThreadRun],
+    course: &mut Course,
+) -> Result<(), OutOfMemory> {
+    for index in 0..threads.len() {
+        if threads[index].at_call {
+            threads[index].at_call = false;
+            take_turn(alloc, state, supply, &mut threads[index], course)?;
+        }
+    }
+    Ok(())
+}
