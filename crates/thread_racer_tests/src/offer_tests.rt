@@ -5,9 +5,11 @@ use crate::cases::{
 };
 use crate::guests::*;
 use disk_mem::HoldGate;
+use disk_model::Gate;
 use racing_runner::{ChaosRacer, Gather, Offer};
 use state_compare::equal;
 use std::alloc::Global;
+use std::sync::atomic::{AtomicBool, Ordering};
 use std::test::Fail;
 use std::thread::Threads;
 use supply::Supply;
@@ -107,23 +109,48 @@ fn quotas(rt: HostRuntime) -> Result<(), Fail> {
     Ok(())
 }
 
-// The first offered state, and how many there are, with a gate that holds thread 1 until thread 2 has passed; and whether it ran out.
+// A gate that holds thread 1 until thread 2 has passed, and notes that worker 1 brought thread 1, and worker 2 thread 2.
+#[derive(Drop)]
+struct WatchedGate {
+    hold: HoldGate,
+    first: AtomicBool,
+    second: AtomicBool,
+}
+
+impl Gate for WatchedGate {
+    fn pass(&self, worker: u32, job: u32) {
+        if worker == 1 && job == 1 {
+            self.first.store(true, Ordering::SeqCst);
+        }
+        if worker == 2 && job == 2 {
+            self.second.store(true, Ordering::SeqCst);
+        }
+        self.hold.pass(worker, job);
+    }
+}
+
+// What is offered with such a gate; and whether both threads passed it, and thread 1 not before thread 2.
 fn held<R: Threads + Sync>(rt: &R, alloc: Global) -> Result<(Vec<Offer>, bool), Fail> {
     let supply = no_input(alloc)?;
     let start = start(alloc, &BOTH_EXIT, 5)?;
     let plan = plan_of(Case::of_two(5, 4, 2));
-    let gate = HoldGate::new();
+    let gate = WatchedGate {
+        hold: HoldGate::new(),
+        first: AtomicBool::new(false),
+        second: AtomicBool::new(false),
+    };
     let mut sink = Gather::new(alloc, 1)?;
     ThreadRacer::gated(2, &gate).race_through(rt, alloc, &start, &supply, &plan, &mut sink)?;
-    Ok((sink.into_offers(), gate.ran_out()))
+    let passed = gate.first.load(Ordering::SeqCst) && gate.second.load(Ordering::SeqCst);
+    Ok((sink.into_offers(), passed && !gate.hold.ran_out()))
 }
 
 // Two threads run at once.
 #[test]
 fn side_by_side(rt: HostRuntime) -> Result<(), Fail> {
     let alloc = rt.alloc();
-    let (offers, ran_out) = held(&rt, alloc)?;
-    assert!(rt; !ran_out);
+    let (offers, at_once) = held(&rt, alloc)?;
+    assert!(rt; at_once);
     assert_eq!(rt; offers.len(), 1);
     let mut state = start(alloc, &BOTH_EXIT, 5)?;
     run(alloc, &mut state, 1, 2)?;
