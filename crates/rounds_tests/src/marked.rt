@@ -14,16 +14,16 @@ use test_files::WRITES;
 use test_journals::{Kind, seen};
 use test_worlds::{Failing, inlet_of, world_of};
 
-/// Where the first record's gate is.
+// Where the first record's gate is.
 pub(crate) const FIRST_GATE: u64 = 133;
 
-/// How many records a journal here has at most.
+// How many records a journal here has at most.
 const MOST_RECORDS: u32 = 20;
 
-/// The bytes of the body of a mark here.
+// The bytes of the body of a mark here.
 const MARK_BYTES: usize = 69_880;
 
-/// The steps of an epoch, the epochs from one mark to the next, and the journal's room.
+// The steps of an epoch, the epochs from one mark to the next, and the journal's room.
 pub(crate) fn options(epoch: u32, mark: u32, room: u64) -> Options
     requires some_steps { 0 < epoch }
     requires few_steps { epoch ≤ 1000000 }
@@ -41,7 +41,7 @@ pub(crate) fn options(epoch: u32, mark: u32, room: u64) -> Options
     }
 }
 
-/// A recording with a `ChaosRacer` of this number, where some calls on the disk and some emits of one byte fail.
+// A recording with a `ChaosRacer` of this number, where some calls on the disk and some emits of one byte fail.
 pub(crate) fn left_by<R: Threads + Sync>(
     rt: &R,
     alloc: Global,
@@ -67,8 +67,8 @@ fn steps_at(journal: &[u8], gate: u64) -> u64 {
     steps
 }
 
-/// The records of a journal in their order, and then its end: `E` for an epoch, `M` and its step count for a mark that is as long as one
-/// here, and a dot where the journal ends. Anything else is a question mark.
+// The records of a journal in their order, and then its end: `E` for an epoch, `M` and its step count for a mark that is as long as one
+// here, and a dot where the journal ends. Anything else is a question mark.
 pub(crate) fn records_in(alloc: Global, journal: &[u8]) -> Result<String, Fail> {
     let mut text = String::new(alloc);
     let mut at = FIRST_GATE;
