@@ -21,6 +21,8 @@ mod filter_tests;
 #[cfg(test)]
 mod journal_tests;
 #[cfg(test)]
+mod mark_tests;
+#[cfg(test)]
 mod racing_tests;
 #[cfg(test)]
 mod read_tests;
