@@ -27,6 +27,7 @@ impl SharedWords {
         ensures words { IfOk result (λ r. HasWords (pages_of r.0) (start_of r.0) pages.now) }
     {
         let mapped = read_mapped(alloc, pages)?;
+        // Its clause bounds the number of pages.
         let _kept = pages.pages();
         let words = read_words(alloc, pages, mapped.len())?;
         let hints = make_hints(alloc, &mapped)?;

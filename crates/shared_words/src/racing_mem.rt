@@ -1,5 +1,5 @@
 // The memory that a racing hart sees.
-ghost use Rattle.std.specs.Prelude.{◌≡◌, ◌<◌, ◌≤◌, ◌^◌, None};
+ghost use Rattle.std.specs.Prelude.{◌≡◌, ◌<◌, ◌≤◌, ◌^◌, None, false};
 ghost use Rattle.shared_words.specs.Contended.{contention_of};
 ghost use Rattle.shared_words.specs.Logged.{AreInOrder};
 ghost use Rattle.shared_words.specs.Rule.{view_of};
@@ -58,6 +58,8 @@ impl<'a, J: Naming> RacingMem<'a, J> {
         requires named { table_of words.now ≡ J.table }
         requires seat { IsSeatAt J.table seat }
         requires budget { 2 ^ 32 ≤ (view_of seat).budget }
+        ensures memory { result.out_of_memory ≡ false }
+        ensures counts { (result.counts.busy ≡ 0) × (result.counts.lost ≡ 0) }
     {
         RacingMem {
             seat: RacingSeat::new(alloc, words, seat),
@@ -71,7 +73,9 @@ impl<'a, J: Naming> RacingMem<'a, J> {
     }
 
     /// Returns whether an access answered `Busy` because an allocation failed.
-    pub fn is_out_of_memory(&self) -> bool {
+    pub fn is_out_of_memory(&self) -> bool
+        ensures { result ≡ self.now.out_of_memory }
+    {
         self.out_of_memory
     }
 
