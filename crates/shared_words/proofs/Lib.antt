@@ -1,8 +1,10 @@
 pub mod Bytes
 pub mod Closed
+pub mod Copies
 pub mod Logs
 pub mod MappedPages
 pub mod PageIndexes
 pub mod PagesMade
 pub mod Ruled
+pub mod SameMapped
 pub mod Views

@@ -1,4 +1,5 @@
 pub mod Closing
+pub mod Copied
 pub mod Contended
 pub mod Layout
 pub mod Logged

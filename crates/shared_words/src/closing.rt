@@ -69,7 +69,7 @@ fn fill_bytes(bytes: &mut [u8], closed: &Closed<(), Global>, first: usize)
 }
 
 #[inline(always)]
-fn put_word(bytes: &mut [u8], at: usize, word: u64)
+pub(crate) fn put_word(bytes: &mut [u8], at: usize, word: u64)
     requires { at + 4 ≤ length bytes.old }
     ensures before { (k : ℕ) → k < at → slice_index bytes.new k ≡ slice_index bytes.old k }
     ensures word { (k : ℕ) → k < 4 → slice_index bytes.new (at + k) ≡ word_byte word k }

@@ -6,3 +6,9 @@ pub(crate) const FIRST_WORD: usize = 16;
 
 // Words of a page.
 pub(crate) const PAGE_WORDS: usize = 1024;
+
+// Words of a block.
+pub(crate) const BLOCK_WORDS: usize = 64;
+
+// Blocks of a page.
+pub(crate) const PAGE_BLOCKS: usize = 16;

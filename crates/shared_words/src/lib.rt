@@ -22,10 +22,12 @@
 #![tactic(auto)]
 
 mod closing;
+mod copying;
 mod counts;
 mod layout;
 mod lookup;
 mod mapped_page;
+mod marks;
 mod naming;
 mod opening;
 mod partial;
@@ -37,6 +39,7 @@ mod steps;
 mod view;
 
 pub use mapped_page::MappedPage;
+pub use marks::Marks;
 pub use naming::Naming;
 pub use racing_mem::RacingMem;
 pub use rule::WordRule;

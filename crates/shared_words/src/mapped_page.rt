@@ -3,7 +3,7 @@ ghost use Rattle.std.specs.Prelude.{◌≡◌, ◌<◌, IfSome, length, slice_ge
 ghost use Rattle.shared_words.specs.Layout.{has_number, page_index};
 
 /// The number and the flags of a page.
-#[derive(Clone, Copy)]
+#[derive(Clone, Copy, PartialEq, Eq)]
 pub struct MappedPage {
     /// Its address divided by 4,096.
     pub number: u32,

@@ -43,7 +43,7 @@ impl SharedWords {
     }
 }
 
-fn read_mapped(alloc: Global, pages: &Pages) -> Result<Vec<MappedPage>, OutOfMemory>
+pub(crate) fn read_mapped(alloc: Global, pages: &Pages) -> Result<Vec<MappedPage>, OutOfMemory>
     ensures { IfOk result (λ mapped. mapped.items ≡ map mapped_page pages.now) }
 {
     let mut mapped = Vec::new(alloc);
@@ -104,7 +104,7 @@ fn fill_page(words: &mut [u64], first: usize, bytes: &[u8])
 
 // The word at an offset of some bytes.
 #[inline(always)]
-fn word_in(bytes: &[u8], at: usize) -> u32
+pub(crate) fn word_in(bytes: &[u8], at: usize) -> u32
     requires { at + 4 ≤ length bytes.now }
     ensures { (k : ℕ) → k < 4 → slice_index bytes.now (at + k) ≡ word_byte result k }
 {

@@ -1,13 +1,15 @@
 // The memory that a racing hart sees.
-ghost use Rattle.std.specs.Prelude.{◌≡◌, ◌<◌, ◌≤◌, ◌^◌, None, false};
+ghost use Rattle.std.specs.Prelude.{◌≡◌, ◌+◌, ◌*◌, ◌<◌, ◌≤◌, ◌^◌, [], IfOk, None, false, vec_len};
 ghost use Rattle.shared_words.specs.Contended.{contention_of};
+ghost use Rattle.shared_words.specs.Copied.{AreMarked};
 ghost use Rattle.shared_words.specs.Logged.{AreInOrder};
 ghost use Rattle.shared_words.specs.Rule.{view_of};
 ghost use Rattle.shared_words.specs.Words.{IsSeatAt, table_of};
-ghost use Rattle.shared_words.specs.declared.layout.TheConstants.{FIRST_WORD};
+ghost use Rattle.shared_words.specs.declared.layout.TheConstants.{BLOCK_WORDS, FIRST_WORD};
 
 use crate::counts::Counts;
-use crate::layout::FIRST_WORD;
+use crate::layout::{BLOCK_WORDS, FIRST_WORD};
+use crate::marks::Marks;
 use crate::naming::Naming;
 use crate::partial::{load_part, low_word, mask_of, store_part};
 use crate::racing_seat::RacingSeat;
@@ -53,23 +55,32 @@ pub struct RacingMem<'a, J: Naming> {
 }
 
 impl<'a, J: Naming> RacingMem<'a, J> {
-    /// Makes the memory of a hart, with a seat that may take 2^32 tickets.
-    pub fn new(alloc: Global, words: &'a SharedWords, seat: Seat) -> RacingMem<'a, J>
+    /// Makes the memory of a hart, with a seat that may take 2^32 tickets and hasn't stored yet.
+    ///
+    /// # Errors
+    ///
+    /// `OutOfMemory` if an allocation fails.
+    pub fn new(
+        alloc: Global,
+        words: &'a SharedWords,
+        seat: Seat,
+    ) -> Result<RacingMem<'a, J>, OutOfMemory>
         requires named { table_of words.now ≡ J.table }
         requires seat { IsSeatAt J.table seat }
         requires budget { 2 ^ 32 ≤ (view_of seat).budget }
-        ensures memory { result.out_of_memory ≡ false }
-        ensures counts { (result.counts.busy ≡ 0) × (result.counts.lost ≡ 0) }
+        requires stored { (view_of seat).stored ≡ [] }
+        ensures memory { IfOk result (λ m. m.out_of_memory ≡ false) }
+        ensures counts { IfOk result (λ m. (m.counts.busy ≡ 0) × (m.counts.lost ≡ 0)) }
     {
-        RacingMem {
-            seat: RacingSeat::new(alloc, words, seat),
+        Ok(RacingMem {
+            seat: RacingSeat::new(alloc, words, seat)?,
             reservation: None,
             out_of_memory: false,
             // No page has this number.
             code_page: u32::MAX,
             code_first: FIRST_WORD,
             counts: Counts { busy: 0, lost: 0 },
-        }
+        })
     }
 
     /// Returns whether an access answered `Busy` because an allocation failed.
@@ -79,11 +90,13 @@ impl<'a, J: Naming> RacingMem<'a, J> {
         self.out_of_memory
     }
 
-    /// Returns the seat, and the log of the steps that synchronise: the ticket of each, and what the step is. The tickets don't fall. An
-    /// LR whose SC stored has the ticket of the SC if no other entry is between them.
-    pub fn into_parts(self) -> (Seat, Log<(u64, Sc)>)
+    /// Returns the seat, the log of the steps that synchronise, and marks of the blocks in which it stored. The log has the ticket of each
+    /// step, and what the step is. The tickets don't fall. An LR whose SC stored has the ticket of the SC if no other entry is between them.
+    pub fn into_parts(self) -> (Seat, Log<(u64, Sc)>, Marks)
         ensures seat { IsSeatAt J.table result.0 }
         ensures log { AreInOrder result.1 }
+        ensures sized { FIRST_WORD + BLOCK_WORDS * vec_len result.2.blocks ≡ J.table.words }
+        ensures marked { AreMarked result.2.blocks.items (view_of result.0).stored }
     {
         let RacingMem {
             seat,

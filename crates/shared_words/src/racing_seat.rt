@@ -1,10 +1,14 @@
 // A seat of a racing thread, and its log.
-ghost use Rattle.std.specs.Prelude.{◌≡◌, ◌<◌, ◌≤◌, ◌^◌, ℕ, IfSome, OnOk, vec_capacity, vec_len};
+ghost use Rattle.std.specs.Prelude.{◌≡◌, ◌+◌, ◌*◌, ◌<◌, ◌≤◌, ◌^◌, ℕ, [], IfSome, OnOk, vec_capacity, vec_len};
 ghost use Rattle.dp_base.specs.Memory.{amo_result};
+ghost use Rattle.shared_words.specs.Copied.{AreMarked};
 ghost use Rattle.shared_words.specs.Logged.{AreBelow, AreInOrder, IsLog, IsNext};
 ghost use Rattle.shared_words.specs.Rule.{view_of};
 ghost use Rattle.shared_words.specs.Words.{IsGuestWord, IsPageStart, IsSeatAt, table_of};
+ghost use Rattle.shared_words.specs.declared.layout.TheConstants.{BLOCK_WORDS, FIRST_WORD};
 
+use crate::layout::{BLOCK_WORDS, FIRST_WORD};
+use crate::marks::Marks;
 use crate::naming::Naming;
 use crate::shared_words::{Seat, SharedWords};
 use dp_base::{AmoOp, Log, OutOfMemory, is_below_signed};
@@ -23,41 +27,55 @@ pub(crate) struct RacingSeat<'a, J: Naming> {
     tickets_left: u32,
     // The ticket of each step that synchronises, and what the step is.
     entries: Vec<(u64, Sc)>,
+    // The blocks of the words that it stored.
+    marks: Marks,
     of: PhantomData<J>,
     ghost named: { table_of words.now ≡ J.table },
     ghost seated: { IsSeatAt J.table seat },
     ghost budget: { tickets_left ≤ (view_of seat).budget },
     ghost logged: { IsLog (view_of seat).tickets entries.items },
+    ghost sized: { FIRST_WORD + BLOCK_WORDS * vec_len marks.blocks ≡ J.table.words },
+    ghost marked: { AreMarked marks.blocks.items (view_of seat).stored },
 }
 
 impl<'a, J: Naming> RacingSeat<'a, J> {
     #[tactic(auto, using(crate::proofs::Logs::log_none))]
-    pub(crate) fn new(alloc: Global, words: &'a SharedWords, seat: Seat) -> RacingSeat<'a, J>
+    pub(crate) fn new(
+        alloc: Global,
+        words: &'a SharedWords,
+        seat: Seat,
+    ) -> Result<RacingSeat<'a, J>, OutOfMemory>
         requires named { table_of words.now ≡ J.table }
         requires seat { IsSeatAt J.table seat }
         requires budget { 2 ^ 32 ≤ (view_of seat).budget }
+        requires stored { (view_of seat).stored ≡ [] }
     {
-        RacingSeat {
+        let marks = words.no_marks(alloc)?;
+        Ok(RacingSeat {
             words,
             seat,
             tickets_left: u32::MAX,
             entries: Vec::new(alloc),
+            marks,
             of: PhantomData,
-        }
+        })
     }
 
-    pub(crate) fn into_parts(self) -> (Seat, Log<(u64, Sc)>)
+    pub(crate) fn into_parts(self) -> (Seat, Log<(u64, Sc)>, Marks)
         ensures seat { IsSeatAt J.table result.0 }
         ensures log { AreInOrder result.1 }
+        ensures sized { FIRST_WORD + BLOCK_WORDS * vec_len result.2.blocks ≡ J.table.words }
+        ensures marked { AreMarked result.2.blocks.items (view_of result.0).stored }
     {
         let RacingSeat {
             words: _,
             seat,
             tickets_left: _,
             entries,
+            marks,
             of: _,
         } = self;
-        (seat, Log::from_vec(entries))
+        (seat, Log::from_vec(entries), marks)
     }
 
     #[inline(always)]
@@ -98,6 +116,7 @@ impl<'a, J: Naming> RacingSeat<'a, J> {
         requires { IsGuestWord J.table index }
     {
         self.words.store_at(&mut self.seat, index, value);
+        self.marks.set(index);
     }
 
     // Tries once to change a word. Returns whether it found the one that is expected.
@@ -107,6 +126,7 @@ impl<'a, J: Naming> RacingSeat<'a, J> {
         ensures entries { self.new.entries ≡ self.old.entries }
         ensures tickets { (view_of self.new.seat).tickets ≡ (view_of self.old.seat).tickets }
     {
+        self.marks.set(index);
         self.words
             .compare_exchange_at(&mut self.seat, index, expected, new)
     }

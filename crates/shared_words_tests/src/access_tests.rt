@@ -1,5 +1,5 @@
 // Accesses of a racing hart that is alone.
-ghost use Rattle.std.specs.Prelude.{◌≡◌, ◌≤◌, ◌^◌, IfOk};
+ghost use Rattle.std.specs.Prelude.{◌≡◌, ◌≤◌, ◌^◌, [], IfOk};
 ghost use Rattle.shared_words.specs.Rule.{view_of};
 ghost use Rattle.shared_words.specs.Words.{IsSeatAt, table_of};
 
@@ -126,11 +126,12 @@ fn taken<J: Naming>(
     requires named { table_of words.now ≡ J.table }
     requires seat { IsSeatAt J.table seat }
     requires budget { 2 ^ 32 ≤ (view_of seat).budget }
+    requires stored { (view_of seat).stored ≡ [] }
     ensures { IfOk result (λ r. IsSeatAt J.table r.1) }
 {
-    let mut memory = RacingMem::<J>::new(alloc, words, seat);
+    let mut memory = RacingMem::<J>::new(alloc, words, seat)?;
     let answers = take_all(&mut memory, rows)?;
-    let (seat, log) = memory.into_parts();
+    let (seat, log, _marks) = memory.into_parts();
     Ok((answers, seat, log))
 }
 

@@ -1,5 +1,5 @@
 // Steps of a hart over shared words.
-ghost use Rattle.std.specs.Prelude.{◌≡◌, ◌≤◌, ◌^◌, IfOk};
+ghost use Rattle.std.specs.Prelude.{◌≡◌, ◌≤◌, ◌^◌, [], IfOk};
 ghost use Rattle.shared_words.specs.Rule.{view_of};
 ghost use Rattle.shared_words.specs.Words.{IsSeatAt, table_of};
 
@@ -72,11 +72,12 @@ fn run_at<J: Naming>(
     requires named { table_of words.now ≡ J.table }
     requires seat { IsSeatAt J.table seat }
     requires budget { 2 ^ 32 ≤ (view_of seat).budget }
+    requires stored { (view_of seat).stored ≡ [] }
     ensures { IfOk result (λ r. IsSeatAt J.table r.1) }
 {
-    let mut memory = RacingMem::<J>::new(alloc, words, seat);
+    let mut memory = RacingMem::<J>::new(alloc, words, seat)?;
     let seen = run(&mut memory)?;
-    let (seat, _log) = memory.into_parts();
+    let (seat, _log, _marks) = memory.into_parts();
     Ok((seen, seat))
 }
 

@@ -6,6 +6,8 @@
 #[cfg(test)]
 mod access_tests;
 #[cfg(test)]
+mod copy_tests;
+#[cfg(test)]
 mod flag_tests;
 #[cfg(test)]
 mod hart_tests;

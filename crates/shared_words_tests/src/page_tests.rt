@@ -7,7 +7,7 @@ use std::alloc::Global;
 use std::test::Fail;
 
 // A page, and a word that is stored at an address.
-type Row = (u32, u8, u32, u32);
+pub(crate) type Row = (u32, u8, u32, u32);
 
 // Maps a page of zeros, if that may be.
 pub(crate) fn map(pages: &mut Pages, number: u32, flags: u8) -> Result<(), OutOfMemory> {
@@ -51,7 +51,7 @@ fn is_same_at(left: &Pages, right: &Pages, index: usize) -> bool {
     }
 }
 
-fn rows() -> [Row; 6] {
+pub(crate) fn rows() -> [Row; 6] {
     [
         (0, 0, 0x0000_0000, 0x0403_0201),
         (0x10, 6, 0x0001_0ffc, 0x8877_6655),
@@ -63,7 +63,7 @@ fn rows() -> [Row; 6] {
 }
 
 // The pages of the rows. Their words are stored if the page may be written.
-fn pages_of(alloc: Global, rows: [Row; 6]) -> Result<Pages, OutOfMemory> {
+pub(crate) fn pages_of(alloc: Global, rows: [Row; 6]) -> Result<Pages, OutOfMemory> {
     let mut pages = Pages::new(alloc)?;
     for (number, flags, address, word) in rows {
         map(&mut pages, number, flags)?;

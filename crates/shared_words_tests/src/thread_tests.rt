@@ -1,5 +1,5 @@
 // Harts that race for one word in two threads.
-ghost use Rattle.std.specs.Prelude.{◌≡◌, ◌≤◌, ◌^◌, IfOk};
+ghost use Rattle.std.specs.Prelude.{◌≡◌, ◌≤◌, ◌^◌, [], IfOk};
 ghost use Rattle.shared_words.specs.Rule.{all_tickets, view_of};
 ghost use Rattle.shared_words.specs.Words.{IsSeatAt, IsSeatOf, table_of};
 
@@ -48,11 +48,11 @@ fn add_by_two<J: Naming + Send + Sync, R: Threads + Sync>(
     let (mut seat, second) = words.split(seat);
     let mut adders = Vec::new(alloc);
     adders.push(Adder {
-        memory: RacingMem::<J>::new(alloc, words, first),
+        memory: RacingMem::<J>::new(alloc, words, first)?,
         added: 0,
     })?;
     adders.push(Adder {
-        memory: RacingMem::<J>::new(alloc, words, second),
+        memory: RacingMem::<J>::new(alloc, words, second)?,
         added: 0,
     })?;
     race(rt, &mut adders);
@@ -60,7 +60,7 @@ fn add_by_two<J: Naming + Send + Sync, R: Threads + Sync>(
     let mut logged = 0usize;
     for adder in adders {
         added = added.saturating_add(adder.added);
-        let (other, log) = adder.memory.into_parts();
+        let (other, log, _marks) = adder.memory.into_parts();
         logged = logged.saturating_add(log.as_slice().len());
         seat = words.join(seat, other);
     }

@@ -20,6 +20,7 @@
 
 mod course;
 mod gated;
+mod kept_words;
 mod noted_pages;
 mod pace;
 mod part;

@@ -5,14 +5,17 @@ const LEAST_REST: u32 = 2;
 
 const MOST_REST: u32 = 32;
 
-// How many steps a pass costs: for its threads, and for each page of the guest.
-const PASS_STEPS: u64 = 8000;
+// How many steps a pass has to take so that it pays: for its threads, for each page of the guest, and for each block of words that is copied
+// back to its page.
+const PASS_STEPS: u64 = 30_000;
 
-const PAGE_STEPS: u64 = 1500;
+const PAGE_STEPS: u64 = 50;
 
-// How many steps a pass costs for a guest with this many pages.
-pub(crate) fn cost_of_pass(pages: u32) -> u64 {
-    PASS_STEPS + PAGE_STEPS * u64::from(pages)
+const BLOCK_STEPS: u64 = 50;
+
+// How many steps a pass costs for a guest with this many pages, if as many blocks are stored to as in the last pass.
+pub(crate) fn cost_of_pass(pages: u32, blocks: u32) -> u64 {
+    PASS_STEPS + PAGE_STEPS * u64::from(pages) + BLOCK_STEPS * u64::from(blocks)
 }
 
 // Which stretches race. The first one does. After a stretch that didn't pay the next ones don't race: 2, then 4, and so on up to 32.

@@ -1,9 +1,11 @@
 // A pass: threads run side by side on shared words, each up to its quota.
-ghost use Rattle.std.specs.Prelude.{◌≡◌, ◌<◌, ◌≤◌, ◌^◌, IfOk};
-ghost use Rattle.shared_words.specs.Rule.{all_tickets, view_of};
+ghost use Rattle.std.specs.Prelude.{◌≡◌, ◌+◌, ◌*◌, ◌<◌, ◌≤◌, ◌^◌, IfOk};
+ghost use Rattle.shared_words.specs.Copied.{AreMarksOf};
+ghost use Rattle.shared_words.specs.Rule.{view_of};
 ghost use Rattle.shared_words.specs.Words.{IsSeatAt, table_of};
 
 use crate::course::Course;
+use crate::kept_words::{KeptWords, words_of};
 use crate::part::{Part, race_parts};
 use crate::thread_run::{ThreadRun, put_hart, running};
 use disk_model::Gate;
@@ -11,7 +13,7 @@ use dp_base::OutOfMemory;
 use dp_base::limits::MAX_THREADS;
 use guest_kernel::State;
 use rv_step::Stepped;
-use shared_words::{Naming, RacingMem, Seat, SharedWords};
+use shared_words::{Marks, Naming, RacingMem, Seat, SharedWords};
 use std::alloc::Global;
 use std::marker::Brand;
 use std::thread::Threads;
@@ -25,27 +27,38 @@ pub(crate) fn race_pass<R: Threads + Sync, G: Gate + Sync>(
     state: &mut State,
     threads: &mut [ThreadRun],
     course: &mut Course,
+    kept: &mut Option<KeptWords>,
 ) -> Result<(), OutOfMemory>
     requires { 0 < workers }
 {
-    let (words, seat) = SharedWords::of_pages(alloc, &state.pages)?;
-    let (seat, taken) = race_on::<Brand, R, G>(
-        rt,
-        alloc,
-        gate,
-        workers,
-        &words,
-        seat,
-        state,
-        threads,
-        course.tickets,
+    let KeptWords {
+        words,
+        mut seat,
+        passes,
+        pages: _,
+        blocks: _,
+    } = words_of(alloc, kept.take(), &state.pages)?;
+    let first = words.ticket(&mut seat);
+    // The tickets of the words count on from pass to pass, and those of a stretch begin anew.
+    let base = course.tickets.wrapping_sub(first);
+    let (mut seat, marks) = race_on::<Brand, R, G>(
+        rt, alloc, gate, workers, &words, seat, state, threads, base,
     )?;
-    state.pages = words.into_pages(alloc, seat)?;
-    course.tickets = course.tickets.saturating_add(taken);
+    words.copy_to(&mut seat, &marks, &mut state.pages)?;
+    let last = words.ticket(&mut seat);
+    course.tickets = course.tickets.saturating_add(last.saturating_sub(first));
+    let pages = state.pages.share(alloc)?;
+    *kept = Some(KeptWords {
+        words,
+        seat,
+        passes: passes - 1,
+        pages,
+        blocks: marks.count().min(u32::MAX as usize) as u32,
+    });
     Ok(())
 }
 
-// Lets the threads race on these words. Returns a seat, and how many tickets were taken.
+// Lets the threads race on these words. Returns a seat, and marks of what was stored to.
 fn race_on<J: Naming + Send + Sync, R: Threads + Sync, G: Gate + Sync>(
     rt: &R,
     alloc: Global,
@@ -56,18 +69,20 @@ fn race_on<J: Naming + Send + Sync, R: Threads + Sync, G: Gate + Sync>(
     state: &mut State,
     threads: &mut [ThreadRun],
     base: u64,
-) -> Result<(Seat, u64), OutOfMemory>
+) -> Result<(Seat, Marks), OutOfMemory>
     requires some { 0 < workers }
     requires named { table_of words.now ≡ J.table }
     requires seat { IsSeatAt J.table seat }
-    requires budget { view_of seat ≡ all_tickets }
-    ensures { IfOk result (λ r. IsSeatAt J.table r.0) }
+    requires budget { 2 ^ 42 ≤ (view_of seat).budget }
+    ensures seat { IfOk result (λ r. IsSeatAt J.table r.0) }
+    ensures budget { IfOk result (λ r. (view_of seat).budget ≤ (view_of r.0).budget + 2 ^ 42) }
+    ensures marks { IfOk result (λ r. AreMarksOf words.now r.1) }
 {
+    let mut marks = words.no_marks(alloc)?;
     let (mut parts, seat) = make_parts::<J>(alloc, words, seat, state, threads)?;
     race_parts(rt, gate, workers, &mut parts);
-    let mut seat = take_parts(words, seat, state, threads, parts, base)?;
-    let taken = words.ticket(&mut seat);
-    Ok((seat, taken))
+    let seat = take_parts(words, seat, state, threads, parts, base, &mut marks)?;
+    Ok((seat, marks))
 }
 
 // Makes a part of each thread that may take steps. Returns the first seat too.
@@ -80,9 +95,9 @@ fn make_parts<'a, J: Naming>(
 ) -> Result<(Vec<Part<'a, J>>, Seat), OutOfMemory>
     requires named { table_of words.now ≡ J.table }
     requires seat { IsSeatAt J.table seat }
-    requires budget { view_of seat ≡ all_tickets }
+    requires budget { 2 ^ 42 ≤ (view_of seat).budget }
     ensures seat { IfOk result (λ r. IsSeatAt J.table r.1) }
-    ensures budget { IfOk result (λ r. 0 < (view_of r.1).budget) }
+    ensures budget { IfOk result (λ r. (view_of seat).budget ≤ (view_of r.1).budget + 2 ^ 42) }
 {
     let mut parts = Vec::new(alloc);
     for index in 0..threads.len().min(MAX_THREADS) {
@@ -99,7 +114,7 @@ fn make_parts<'a, J: Naming>(
                 tid,
                 worker: 1,
                 hart,
-                memory: RacingMem::new(alloc, words, new),
+                memory: RacingMem::new(alloc, words, new)?,
                 quota,
                 steps: 0,
                 stop: Ok(Stepped::Went),
@@ -109,7 +124,7 @@ fn make_parts<'a, J: Naming>(
     Ok((parts, seat))
 }
 
-// Takes the parts' threads back, and joins their seats.
+// Takes the parts' threads back, joins their seats, and adds their marks.
 fn take_parts<J: Naming>(
     words: &SharedWords,
     mut seat: Seat,
@@ -117,28 +132,31 @@ fn take_parts<J: Naming>(
     threads: &mut [ThreadRun],
     parts: Vec<Part<'_, J>>,
     base: u64,
+    marks: &mut Marks,
 ) -> Result<Seat, OutOfMemory>
     requires named { table_of words.now ≡ J.table }
     requires seat { IsSeatAt J.table seat }
-    requires budget { 0 < (view_of seat).budget }
+    requires marks { AreMarksOf words.now marks.old }
     ensures seat { IfOk result (λ r. IsSeatAt J.table r) }
-    ensures budget { IfOk result (λ r. 0 < (view_of r).budget) }
+    ensures budget { IfOk result (λ r. (view_of seat).budget ≤ (view_of r).budget) }
+    ensures marks { AreMarksOf words.now marks.new }
 {
     for part in parts {
-        let other = take_part(state, threads, part, base)?;
+        let (other, stored) = take_part(state, threads, part, base)?;
         seat = words.join(seat, other);
+        marks.add(&stored);
     }
     Ok(seat)
 }
 
-// Takes a part's thread back. Returns its seat.
+// Takes a part's thread back. Returns its seat, and marks of what it stored to.
 fn take_part<J: Naming>(
     state: &mut State,
     threads: &mut [ThreadRun],
     part: Part<'_, J>,
     base: u64,
-) -> Result<Seat, OutOfMemory>
-    ensures { IfOk result (λ r. IsSeatAt J.table r) }
+) -> Result<(Seat, Marks), OutOfMemory>
+    ensures { IfOk result (λ r. IsSeatAt J.table r.0) }
 {
     let Part {
         index,
@@ -154,12 +172,12 @@ fn take_part<J: Naming>(
     if memory.is_out_of_memory() {
         return Err(OutOfMemory);
     }
-    let (seat, log) = memory.into_parts();
+    let (seat, log, marks) = memory.into_parts();
     put_hart(state, tid, hart);
     state.steps = state.steps.saturating_add(u64::from(steps));
     if let Some(thread) = threads.get_mut(index) {
         thread.at_call = matches!(stop, Stepped::Ecall | Stepped::Trap { .. });
         thread.note(steps, base, log.as_slice())?;
     }
-    Ok(seat)
+    Ok((seat, marks))
 }

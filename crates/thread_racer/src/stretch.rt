@@ -2,6 +2,7 @@
 ghost use Rattle.std.specs.Prelude.{◌<◌};
 
 use crate::course::Course;
+use crate::kept_words::{KeptWords, blocks_of};
 use crate::pace::{Pace, cost_of_pass};
 use crate::pass::race_pass;
 use crate::plain::{run_to_end, use_quotas};
@@ -36,6 +37,7 @@ pub(crate) fn run_stretch<R: Threads + Sync, G: Gate + Sync>(
     gate: &G,
     workers: u32,
     pace: &mut Pace,
+    kept: &mut Option<KeptWords>,
     state: &mut State,
     supply: &Supply,
     steps: u32,
@@ -49,7 +51,10 @@ pub(crate) fn run_stretch<R: Threads + Sync, G: Gate + Sync>(
     if workers > 1
         && running > 1
         && running <= steps
-        && pace.races(u64::from(steps), cost_of_pass(state.pages.pages()))
+        && pace.races(
+            u64::from(steps),
+            cost_of_pass(state.pages.pages(), blocks_of(kept)),
+        )
     {
         let raced = race(
             rt,
@@ -60,6 +65,7 @@ pub(crate) fn run_stretch<R: Threads + Sync, G: Gate + Sync>(
             supply,
             &mut threads,
             &mut course,
+            kept,
         )?;
         pace.raced(raced.steps >= raced.cost);
     }
@@ -82,6 +88,7 @@ fn race<R: Threads + Sync, G: Gate + Sync>(
     supply: &Supply,
     threads: &mut Vec<ThreadRun>,
     course: &mut Course,
+    kept: &mut Option<KeptWords>,
 ) -> Result<Raced, OutOfMemory>
     requires { 0 < workers }
 {
@@ -94,12 +101,12 @@ fn race<R: Threads + Sync, G: Gate + Sync>(
         if !can_race(alloc, state, supply, threads, course)? {
             return Ok(raced);
         }
-        let cost = cost_of_pass(state.pages.pages());
+        let cost = cost_of_pass(state.pages.pages(), blocks_of(kept));
         if raced.passes > 0 && course.left(state) < cost {
             return Ok(raced);
         }
         let before = state.steps;
-        race_pass(rt, alloc, gate, workers, state, threads, course)?;
+        race_pass(rt, alloc, gate, workers, state, threads, course, kept)?;
         take_turns(alloc, state, supply, threads, course)?;
         let steps = state.steps.saturating_sub(before);
         raced = Raced {

@@ -3,6 +3,7 @@ ghost use Rattle.std.specs.Prelude.{◌≡◌, ◌<◌, ◌≤◌};
 ghost use Rattle.dp_base.specs.declared.limits.TheConstants.{MAX_WORKERS};
 
 use crate::gated::Gated;
+use crate::kept_words::KeptWords;
 use crate::pace::Pace;
 use crate::stretch::run_stretch;
 use disk_model::{Gate, OpenGate};
@@ -19,6 +20,7 @@ pub struct ThreadRacer<G> {
     workers: u32,
     gate: G,
     pace: Pace,
+    kept: Option<KeptWords>,
     ghost some: { 0 < workers },
     ghost few: { workers ≤ MAX_WORKERS },
 }
@@ -34,6 +36,7 @@ impl ThreadRacer<OpenGate> {
             workers,
             gate: OpenGate,
             pace: Pace::new(),
+            kept: None,
         }
     }
 }
@@ -50,6 +53,7 @@ impl<'a, G: Gate> ThreadRacer<Gated<'a, G>> {
             workers,
             gate: Gated { gate },
             pace: Pace::new(),
+            kept: None,
         }
     }
 }
@@ -110,6 +114,7 @@ impl<G: Gate + Sync> ThreadRacer<G> {
             &self.gate,
             workers,
             &mut self.pace,
+            &mut self.kept,
             state,
             supply,
             epoch,

@@ -37,7 +37,7 @@ impl ThreadRun {
         self.quota = self.quota.saturating_sub(steps);
         self.steps = self.steps.saturating_add(steps);
         for entry in entries {
-            self.entries.push((base.saturating_add(entry.0), entry.1))?;
+            self.entries.push((base.wrapping_add(entry.0), entry.1))?;
         }
         Ok(())
     }
