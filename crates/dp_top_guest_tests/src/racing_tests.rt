@@ -57,11 +57,13 @@ fn is_in_five_epochs(alloc: Global, world: &MemWorld, squashes: u8) -> Result<bo
         &[&TWO_STEPS, &TWO_STEPS, &TWO_STEPS, &TWO_STEPS, &ONE_STEP],
     )?;
     let note = world.sent(Stream::Note);
-    Ok(journal.len() == 234
-        && world.bytes() == journal.as_slice()
-        && world.sent(Stream::Out) == b"hi\n".as_slice()
-        && note.starts_with(b"epochs 5 squashes ")
-        && note.get(18).copied() == Some(squashes))
+    Ok(
+        journal.len() == 234
+            && world.bytes() == journal.as_slice()
+            && world.sent(Stream::Out) == b"hi\n".as_slice()
+            && note.starts_with(b"epochs 5 squashes ")
+            && note.get(18).copied() == Some(squashes),
+    )
 }
 
 // ChaosRacer 0 offers the states between the epochs: one round. ChaosRacer 1 spoils the first offer of each round: five rounds. ChaosRacer 2
@@ -131,7 +133,10 @@ fn without_squashes(alloc: Global, note: &[u8]) -> Result<(String, String), Fail
     let Some((_, rest)) = rest.split_once(" steps ") else {
         return Err("steps".into());
     };
-    Ok((String::from_str(alloc, epochs)?, String::from_str(alloc, rest)?))
+    Ok((
+        String::from_str(alloc, epochs)?,
+        String::from_str(alloc, rest)?,
+    ))
 }
 
 // Two threads that race, in epochs of so many steps, at most so many in a round, by so many workers, with a mark after so many epochs. How
@@ -147,8 +152,18 @@ fn a_race_is_replayed(rt: HostRuntime) -> Result<(), Fail> {
         ("50", "3", "2", "2"),
     ] {
         let words = [
-            "dpcli", "record", "g", "j", "--epoch", epoch, "--ahead", ahead, "--workers", workers,
-            "--mark", mark,
+            "dpcli",
+            "record",
+            "g",
+            "j",
+            "--epoch",
+            epoch,
+            "--ahead",
+            ahead,
+            "--workers",
+            workers,
+            "--mark",
+            mark,
         ];
         let mut racer = ThreadRacer::new(2);
         let (world, status) = ran_by(&rt, alloc, &words, &file, &mut racer, &OpenGate)?;
@@ -159,7 +174,8 @@ fn a_race_is_replayed(rt: HostRuntime) -> Result<(), Fail> {
         assert_eq!(rt; again.status, Status::Ok, "epoch {epoch}");
         assert!(rt; again.sent.as_slice() == sent, "epoch {epoch}");
         assert!(rt;
-            without_squashes(alloc, &again.noted)? == without_squashes(alloc, world.sent(Stream::Note))?,
+            without_squashes(alloc, &again.noted)?
+                == without_squashes(alloc, world.sent(Stream::Note))?,
             "epoch {epoch}"
         );
     }
