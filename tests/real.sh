@@ -75,6 +75,10 @@ is_output_of() {
 # Lines in order from 1 on, each of thread 1 or 2.
 is_of_lines() { awk '$0 != "line " NR " of thread 1" && $0 != "line " NR " of thread 2" { exit 1 }' "$1"; }
 
+bytes_of() { stat -c %s "$1"; }
+is_prefix() { cmp -s -n "$(bytes_of "$1")" "$1" "$2"; }
+is_prefix_either_way() { is_prefix "$1" "$2" || is_prefix "$2" "$1"; }
+
 # replays WHAT JOURNAL OUTPUT: a replay sends exactly this output, and leaves the journal as it is.
 replays() {
   cp "$2" before
@@ -126,6 +130,7 @@ example deadlock /dev/null "deadlock"
 # of_one_thread NAME INPUT: a guest of one thread ends in the same state each time, with whatever --ahead, --workers and --slice.
 of_one_thread() {
   local name=$1 input=$2 options
+  rm -f one.dpj
   run record "$guests/$name.elf" one.dpj --ahead 1 --epoch 1000 <"$input"
   cp note one.note
   for options in "--ahead 2" "--ahead 64" "--workers 1" "--workers 64" "--slice 1" "--slice 100000"; do
