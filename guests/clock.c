@@ -1,5 +1,5 @@
 // How long something took, by two readings of the guest's clock. It shows that a journal has the readings too: a replay prints the
-// same time. All readings of one epoch are the same, so what is measured has to take longer than an epoch.
+// same time. All readings of one round are the same, so what is measured has to take longer than a round.
 #include <stdio.h>
 #include <time.h>
 

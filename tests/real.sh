@@ -1,6 +1,10 @@
 #!/usr/bin/env bash
 # Runs the built program on real files, pipes and kills. Prints a line for each check that fails and ends with 1 if one did, or if
-# not all were made; else prints how many passed.
+# not all were made; else prints how many passed. Takes some minutes.
+#
+# A recording's threads race ahead of it on real threads. So where its epochs and slices end, how many squashes it has, and what a guest
+# writes whose output depends on the schedule, differ from run to run. What is recorded with --ahead 1 has nothing that races, and is the
+# same each time.
 #   tests/real.sh               crates/dpcli/out/dpcli
 #   DPCLI=PROGRAM tests/real.sh another program; not a script around it, which would be killed in its place
 set -u
@@ -13,7 +17,9 @@ if [[ ! -x $dpcli ]]; then
   exit 1
 fi
 work=$(mktemp -d) || exit 1
-trap 'rm -rf "$work"' EXIT
+# Where thousands of recordings are written: where a sync costs little, if there is such a place.
+many=$(mktemp -d -p /dev/shm 2>/dev/null || mktemp -d) || exit 1
+trap 'rm -rf "$work" "$many"' EXIT
 cd "$work" || exit 1
 
 checks=648 # how many there are below; one that isn't made must be missed
@@ -43,6 +49,32 @@ same() { cmp -s "$1" "$2"; }
 is_empty() { [[ ! -s $1 ]]; }
 is_missing() { [[ ! -e $1 ]]; }
 note_has() { grep -q -F -- "$1" note; }
+
+# report FILE: the report in it, without the squashes. last_of FILE: what it says of the guest's end.
+report() { sed -E 's/^(epochs [0-9]+) squashes [0-9]+ /\1 /' "$1"; }
+last_of() { sed -E 's/^epochs [0-9]+ squashes [0-9]+ //' "$1"; }
+same_report() { [[ -s $1 && $(report "$1") == "$(report "$2")" ]]; }
+same_last() { [[ -s $1 && $(last_of "$1") == "$(last_of "$2")" ]]; }
+
+# of_each_schedule NAME FILE: what of the output of an example is the same in each schedule.
+of_each_schedule() {
+  case $1 in
+    counter_racing) awk '{ if ($NF < 1 || $NF > 10000) print "another sum"; $NF = ""; print }' "$2" ;;
+    producer_consumer) awk '/ tested / { numbers += $4; $4 = "" } { print } END { print numbers }' "$2" ;;
+    deadlock) sort "$2" ;;
+    *) cat "$2" ;;
+  esac
+}
+is_output_of() {
+  case $1 in
+    clock) grep -q -x -E -f "$guests/clock.shape" "$2" && [[ $(wc -l <"$2") == 1 ]] ;;
+    *) cmp -s <(of_each_schedule "$1" "$2") <(of_each_schedule "$1" "$guests/$1.out") ;;
+  esac
+}
+
+# Lines in order from 1 on, each of thread 1 or 2.
+is_of_lines() { awk '$0 != "line " NR " of thread 1" && $0 != "line " NR " of thread 2" { exit 1 }' "$1"; }
+
 bytes_of() { stat -c %s "$1"; }
 is_prefix() { cmp -s -n "$(bytes_of "$1")" "$1" "$2"; }
 is_prefix_either_way() { is_prefix "$1" "$2" || is_prefix "$2" "$1"; }
@@ -58,21 +90,33 @@ replays() {
 
 # ---- the examples
 
-# example NAME INPUT END: recorded twice and replayed.
+# example NAME INPUT END: recorded and replayed, without a race and with one.
 example() {
-  local name=$1 input=$2 end=$3
+  local name=$1 input=$2 end=$3 workers
   check "$name: there is no $name.out" test -s "$guests/$name.out"
+  run record "$guests/$name.elf" "$name.alone" --ahead 1 <"$input"
+  check "$name, nothing races: the recording's status is $status" ended_with 0
+  check "$name, nothing races: another output than $name.out" same out "$guests/$name.out"
+  check "$name, nothing races: it doesn't end with $end" note_has " end $end state "
+  check "$name, nothing races: a squash" note_has " squashes 0 "
+  cp note alone.note
+  replays "$name, nothing races" "$name.alone" "$guests/$name.out"
+  check "$name, nothing races: the replay's report is another" same note alone.note
+  run record "$guests/$name.elf" "$name.again" --ahead 1 --workers 1 <"$input"
+  check "$name, nothing races: recorded again the journal is another" same "$name.alone" "$name.again"
   run record "$guests/$name.elf" "$name.dpj" <"$input"
   check "$name: the recording's status is $status" ended_with 0
-  check "$name: another output than $name.out" same out "$guests/$name.out"
+  check "$name: another output than any of its schedules has" is_output_of "$name" out
   check "$name: it doesn't end with $end" note_has " end $end state "
+  cp out recorded.out
   cp note recorded.note
-  replays "$name" "$name.dpj" "$guests/$name.out"
-  check "$name: the replay's report is another" same note recorded.note
-  run replay "$name.dpj" --workers 4 </dev/null
-  check "$name: with four workers the replay sends another output" same out "$guests/$name.out"
-  run record "$guests/$name.elf" "$name.again" <"$input"
-  check "$name: recorded again the journal is another" same "$name.dpj" "$name.again"
+  replays "$name" "$name.dpj" recorded.out
+  check "$name: the replay's report is another" same_report note recorded.note
+  for workers in 1 2 64; do
+    run replay "$name.dpj" --workers "$workers" </dev/null
+    check "$name: with $workers workers the replay sends another output" same out recorded.out
+    check "$name: with $workers workers the replay's report is another" same_report note recorded.note
+  done
 }
 
 example hello /dev/null "exit 0"
@@ -83,10 +127,27 @@ example counter_racing /dev/null "exit 0"
 example producer_consumer /dev/null "exit 0"
 example deadlock /dev/null "deadlock"
 
+# of_one_thread NAME INPUT: a guest of one thread ends in the same state each time, with whatever --ahead, --workers and --slice.
+of_one_thread() {
+  local name=$1 input=$2 options
+  rm -f one.dpj
+  run record "$guests/$name.elf" one.dpj --ahead 1 --epoch 1000 <"$input"
+  cp note one.note
+  for options in "--ahead 2" "--ahead 64" "--workers 1" "--workers 64" "--slice 1" "--slice 100000"; do
+    rm -f one.again
+    # shellcheck disable=SC2086
+    run record "$guests/$name.elf" one.again --epoch 1000 $options <"$input"
+    check "$name with $options: the status is $status" ended_with 0
+    check "$name with $options: another output" same out "$guests/$name.out"
+    check "$name with $options: another last state" same_last note one.note
+  done
+}
+of_one_thread hello /dev/null
+of_one_thread filter "$guests/filter.in"
+
 run record "$guests/clock.elf" clock.dpj </dev/null
 check "clock: the recording's status is $status" ended_with 0
-check "clock: an output of another shape than clock.shape" grep -q -x -E -f "$guests/clock.shape" out
-check "clock: more than a line" test "$(wc -l <out)" = 1
+check "clock: another output than one line of the shape of clock.shape" is_output_of clock out
 cp out clock.out
 replays "clock" clock.dpj clock.out
 
@@ -99,15 +160,23 @@ replays "without the guest's file" gone.dpj "$guests/hello.out"
 # In each schedule the race has a sum of its own, which the replay has too; under the lock it is always the same.
 : >sums
 for slice in 1 7 100 333 900 5000; do
+  run record "$guests/counter_racing.elf" "alone$slice.dpj" --slice "$slice" --epoch 7777 --ahead 1 </dev/null
+  check "counting in slices of $slice, nothing races: the status is $status" ended_with 0
+  cp out "alone$slice.out"
+  cat out >>sums
+  replays "counting in slices of $slice, nothing races" "alone$slice.dpj" "alone$slice.out"
   run record "$guests/counter_racing.elf" "race$slice.dpj" --slice "$slice" --epoch 7777 </dev/null
   check "racing in slices of $slice: the status is $status" ended_with 0
+  check "racing in slices of $slice: no sum of a schedule" is_output_of counter_racing out
   cp out "race$slice.out"
-  cat out >>sums
   replays "racing in slices of $slice" "race$slice.dpj" "race$slice.out"
-  run record "$guests/counter_locked.elf" "lock$slice.dpj" --slice "$slice" </dev/null
-  check "locked in slices of $slice: another sum" same out "$guests/counter_locked.out"
+  for ahead in 1 16; do
+    rm -f "lock$slice.dpj"
+    run record "$guests/counter_locked.elf" "lock$slice.dpj" --slice "$slice" --ahead "$ahead" </dev/null
+    check "locked in slices of $slice, $ahead ahead: another sum" same out "$guests/counter_locked.out"
+  done
 done
-check "racing: the sum is the same in every schedule" test "$(sort -u sums | wc -l)" -gt 1
+check "counting: the sum is the same in every schedule" test "$(sort -u sums | wc -l)" -gt 1
 
 # ---- the input
 
@@ -453,11 +522,11 @@ fi
 
 # Twenty epochs of 30,000 steps. With a mark after every so many of them the journal is longer by as many marks, of 28 pages each, and
 # replays the same by any number of workers.
-run record "$lines" unmarked.dpj --epoch 30000 --limit 600000 --mark 0 </dev/null
+run record "$lines" unmarked.dpj --epoch 30000 --limit 600000 --mark 0 --ahead 1 </dev/null
 check "without marks: the status is $status, not StepLimit" ended_with 11
 cp out unmarked.out
 for mark in 1 3 7 16 21; do
-  run record "$lines" "marked$mark.dpj" --epoch 30000 --limit 600000 --mark "$mark" </dev/null
+  run record "$lines" "marked$mark.dpj" --epoch 30000 --limit 600000 --mark "$mark" --ahead 1 </dev/null
   check "a mark after each $mark epochs: the status is $status, not StepLimit" ended_with 11
   check "a mark after each $mark epochs: another output" same out unmarked.out
   more=$(($(bytes_of "marked$mark.dpj") - $(bytes_of unmarked.dpj)))
@@ -469,14 +538,24 @@ for mark in 1 3 7 16 21; do
     check "a mark after each $mark epochs, replayed by $workers workers: another output" same out unmarked.out
     check "a mark after each $mark epochs, replayed by $workers workers: another report" note_has "epochs 20 squashes 0 steps 600000 sent $(bytes_of out) end none"
   done
+  run record "$lines" "raced$mark.dpj" --epoch 30000 --limit 600000 --mark "$mark" </dev/null
+  check "racing, a mark after each $mark epochs: the status is $status, not StepLimit" ended_with 11
+  check "racing, a mark after each $mark epochs: other lines" is_of_lines out
+  cp out raced.out
+  for workers in 1 2 4 64; do
+    run replay "raced$mark.dpj" --workers "$workers" </dev/null
+    check "racing, a mark after each $mark epochs, replayed by $workers workers: the status is $status" ended_with 0
+    check "racing, a mark after each $mark epochs, replayed by $workers workers: another output" same out raced.out
+    check "racing, a mark after each $mark epochs, replayed by $workers workers: another report" note_has " squashes 0 steps 600000 sent $(bytes_of out) end none"
+  done
 done
 
 # ---- a journal that is cut
 
-# After each of its ten epochs a recording with a limit there has the same records and has printed the same, so it tells what a
-# journal that is cut has to play to.
+# After each of its ten epochs a recording with a limit there, in which nothing races, has the same records and has printed the same, so
+# it tells what a journal that is cut has to play to.
 for epochs in {1..10}; do
-  run record "$lines" "limit$epochs.dpj" --epoch 30000 --limit "$((30000 * epochs))" </dev/null
+  run record "$lines" "limit$epochs.dpj" --epoch 30000 --limit "$((30000 * epochs))" --ahead 1 </dev/null
   check "a limit of $epochs epochs: the status is $status, not StepLimit" ended_with 11
   cp out "limit$epochs.out"
   replays "a limit of $epochs epochs" "limit$epochs.dpj" "limit$epochs.out"
@@ -517,12 +596,47 @@ for place in "${places[@]}"; do
   check "cut to $place of $length bytes" cut_is_right "$place"
 done
 
+# Of a recording that races the journal alone tells it: cut after each of its records it plays to more and more of what was sent, and cut
+# elsewhere to as much as after the last whole one.
+u32() { od -An -tu4 -j "$2" -N 4 "$1" | tr -d ' '; }
+record_ends_of() {
+  local at=$((9 + $(u32 "$1" 5)))
+  echo "$at"
+  while [[ $(od -An -tu1 -j "$at" -N 1 "$1") -eq 1 ]]; do
+    at=$((at + 5 + $(u32 "$1" $((at + 1)))))
+    echo "$at"
+  done
+}
+run record "$lines" raced.dpj --epoch 30000 --limit 300000 --mark 4 </dev/null
+check "racing: the status is $status, not StepLimit" ended_with 11
+cp out raced.out
+mapfile -t raced_ends < <(record_ends_of raced.dpj)
+check "racing: fewer than ten epochs" test "${#raced_ends[@]}" -gt 10
+check "racing: the journal doesn't end with its last record" test "$((raced_ends[-1] + 1))" = "$(bytes_of raced.dpj)"
+: >raced_part.out
+for end in "${raced_ends[@]}"; do
+  head -c "$end" raced.dpj >cut.dpj
+  run replay cut.dpj
+  grown=1
+  ended_with 0 && is_prefix raced_part.out out && is_prefix out raced.out || grown=0
+  cp out raced_part.out
+  for place in 1 2 5 9; do
+    head -c "$((end + place))" raced.dpj >cut.dpj
+    run replay cut.dpj
+    ended_with 0 && same out raced_part.out || grown=0
+  done
+  cuts+=("$grown")
+done
+check "racing, cut after each of the records: $((${#cuts[@]})) cuts, of which some play to something else" test "$(printf '%s\n' "${cuts[@]}" | sort -u)" = 1
+check "racing, cut after its last record: another output" same raced_part.out raced.out
+
 # ---- a recorder that is killed
 
-# What a recording prints that isn't killed, or the first of it.
-run record "$lines" whole.dpj --limit 6000000 </dev/null
+# What a recording prints that isn't killed and doesn't race, or the first of it.
+run record "$lines" whole.dpj --limit 6000000 --ahead 1 </dev/null
 check "what a recording prints that isn't killed: the status is $status" ended_with 11
 cp out whole.out
+check "what a recording prints that isn't killed: other lines" is_of_lines whole.out
 
 # has_counted NUMBER, has_printed BYTES: waits for the moment of a kill.
 has_counted() {
@@ -536,11 +650,13 @@ has_printed() {
   done
 }
 
-# kill_is_right MOMENT..: what was printed stands in the journal, so a replay sends it first.
+# kill_is_right AHEAD MOMENT..: what was printed stands in the journal, so a replay sends it first.
 kill_is_right() {
+  local ahead=$1
+  shift
   rm -f killed.dpj
   : >printed
-  "$dpcli" record "$lines" killed.dpj >printed 2>note </dev/null &
+  "$dpcli" record "$lines" killed.dpj --ahead "$ahead" >printed 2>note </dev/null &
   recorder=$!
   "$@"
   kill -9 "$recorder"
@@ -554,18 +670,95 @@ kill_is_right() {
   if ended_with 14; then
     is_empty printed && is_empty out
   else
-    ended_with 0 && is_prefix printed out && is_prefix_either_way out whole.out
+    ended_with 0 && is_prefix printed out && is_of_lines out && { ((ahead > 1)) || is_prefix_either_way out whole.out; }
   fi
 }
-# 20 moments from the program's start on, the first ones before something is printed, and 30 behind that.
-for number in {0..19}; do
-  check "killed at early moment $number" kill_is_right has_counted "$((200 * number))"
+# Each time 20 moments from the program's start on, the first ones before something is printed, and 30 behind that.
+for ahead in 1 16; do
+  for number in {0..19}; do
+    check "$ahead ahead, killed at early moment $number" kill_is_right "$ahead" has_counted "$((200 * number))"
+  done
+  for number in {0..29}; do
+    bytes=$((1 + 250 * number))
+    check "$ahead ahead, killed once it had printed $bytes bytes" kill_is_right "$ahead" has_printed "$bytes"
+    check "$ahead ahead, killed once it had printed $bytes bytes: it printed less" test "$(bytes_of printed)" -ge "$bytes"
+  done
 done
-for number in {0..29}; do
-  bytes=$((1 + 250 * number))
-  check "killed once it had printed $bytes bytes" kill_is_right has_printed "$bytes"
-  check "killed once it had printed $bytes bytes: it printed less" test "$(bytes_of printed)" -ge "$bytes"
+
+# ---- many recordings
+
+# record_many FOLDER NAME COUNT INPUT OPTIONS..: records a guest COUNT times, and replays each recording. Leaves in the folder's file `right`
+# how many were right, and how many squashes they had: recording and replay end with 0, send the same, and report the same but for the
+# squashes. Each output is right if the command in $is_right says so of its file. Leaves in `why` what was wrong with the first other one.
+record_many() {
+  local folder=$1 guest=$2 count=$3 input=$4 number right=0 squashes=0 recorded replayed line
+  shift 4
+  mkdir "$folder"
+  : >"$folder/why"
+  for ((number = 0; number < count; number++)); do
+    rm -f "$folder/journal"
+    timeout 60 "$dpcli" record "$guest" "$folder/journal" "$@" >"$folder/out" 2>"$folder/note" <"$input"
+    recorded=$?
+    timeout 60 "$dpcli" replay "$folder/journal" --workers "$((1 + number % 4))" >"$folder/replayed" 2>"$folder/again" </dev/null
+    replayed=$?
+    if ((recorded == 0 && replayed == 0)) && same "$folder/out" "$folder/replayed" && same_report "$folder/note" "$folder/again" && $is_right "$folder/out"; then
+      right=$((right + 1))
+      read -r _ _ _ line _ <"$folder/note"
+      squashes=$((squashes + line))
+    elif [[ ! -s $folder/why ]]; then
+      echo "statuses $recorded and $replayed, $(head -n 1 "$folder/note"), replayed $(head -n 1 "$folder/again")" >"$folder/why"
+    fi
+  done
+  echo "$right $squashes" >"$folder/right"
+}
+# Sums up the files `right` of some folders, in $right and $squashes. Leaves in $why what was wrong, if something was.
+sum_up() {
+  read -r right squashes < <(cat "${@/%//right}" | awk '{ right += $1; squashes += $2 } END { print right, squashes }')
+  why=$(cat "${@/%//why}" | head -n 1)
+}
+
+# The examples but the one that races, a hundred times each with epochs of each length, the four lengths at once. In each schedule an example
+# writes the same, as far as its output doesn't say who did what. They synchronise by AMOs and calls. So their hints can be followed to the end,
+# and no epoch is run in vain.
+each_time() {
+  local name=$1 input=$2 epoch folders=()
+  is_right="is_output_of $name"
+  for epoch in 500 3000 20000 1000000; do
+    folders+=("$many/$name$epoch")
+    record_many "$many/$name$epoch" "$guests/$name.elf" 100 "$input" --epoch "$epoch" &
+  done
+  wait
+  for epoch in 500 3000 20000 1000000; do
+    sum_up "$many/$name$epoch"
+    check "$name a hundred times in epochs of $epoch steps: $right were right; $why" test "$right" = 100
+    check "$name a hundred times in epochs of $epoch steps: $squashes squashes" test "$squashes" = 0
+  done
+  rm -rf "${folders[@]}"
+}
+each_time hello /dev/null
+each_time filter "$guests/filter.in"
+each_time clock /dev/null
+each_time words "$guests/words.in"
+each_time counter_locked /dev/null
+each_time producer_consumer /dev/null
+each_time deadlock /dev/null
+
+# A thousand recordings of guests that race, sixteen at once.
+is_of_crowd() {
+  awk '/^thread [0-9]+ came to [0-9]+$/ { threads++; next } /^24 threads counted 60 times each: [0-9]+$/ { sums++; next } { other++ }
+    END { exit !(threads == 24 && sums == 1 && other == 0) }' "$1"
+}
+folders=()
+for number in {1..8}; do
+  is_right="is_output_of counter_racing"
+  record_many "$many/racing$number" "$guests/counter_racing.elf" 63 /dev/null --epoch "$((500 * number * number))" --mark "$((number % 4))" &
+  is_right=is_of_crowd
+  record_many "$many/crowd$number" "$here/crowd.elf" 63 /dev/null --epoch "$((500 * number * number))" --mark "$((number % 4))" &
+  folders+=("$many/racing$number" "$many/crowd$number")
 done
+wait
+sum_up "${folders[@]}"
+check "a thousand recordings of guests that race: $right were right; $why" test "$right" = 1008
 
 if ((failed == 0 && passed != checks)); then
   failed=1

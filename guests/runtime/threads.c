@@ -153,7 +153,7 @@ static unsigned long long nanoseconds(const struct timespec *time) {
     return (unsigned long long)time->tv_sec * 1000000000u + (unsigned long long)time->tv_nsec;
 }
 
-// Nothing wakes a thread at a time, so it asks for the clock until then. The clock moves once an epoch.
+// Nothing wakes a thread at a time, so it asks for the clock until then. The clock moves once a round.
 int thrd_sleep(const struct timespec *duration, struct timespec *rest) {
     unsigned long long end = kernel_clock() + nanoseconds(duration);
     while (kernel_clock() < end) {

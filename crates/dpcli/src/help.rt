@@ -87,7 +87,7 @@ fn record<'a>(alloc: Global) -> Result<Command<'a>, AllocError> {
             1,
             MAX_WORKERS as u64,
             "4",
-            "Threads for the epochs of a round, 1 to 64: a round has one epoch yet",
+            "Threads for the epochs of a round, 1 to 64: the racing run has 4 of its own",
         ))?
         .arg(number(
             alloc,
@@ -95,7 +95,7 @@ fn record<'a>(alloc: Global) -> Result<Command<'a>, AllocError> {
             1,
             MAX_JOBS as u64,
             "16",
-            "Epochs of a round at most, 1 to 64: a round has one epoch yet",
+            "Epochs of a round at most, 1 to 64: with 1 nothing races, and the schedule is the same each time",
         ))
 }
 

@@ -10,10 +10,13 @@ use dp_real::{RealFiles, RealInlet, RealWorld};
 use dp_report::emit_fault;
 use dp_top::{Status, run};
 use explain::{explain_bytes, explain_fault, explain_words};
-use racing_runner::IdleRacer;
 use std::env;
 use std::io::{self, ErrorKind};
 use std::process::ExitCode;
+use thread_racer::ThreadRacer;
+
+// Threads of the racing run, whatever `--workers` says of the epochs of a round.
+const RACING_WORKERS: u32 = 4;
 
 fn main(rt: HostRuntime) -> ExitCode {
     let alloc = rt.alloc();
@@ -30,15 +33,9 @@ fn main(rt: HostRuntime) -> ExitCode {
     };
     let mut files = RealFiles::new(rt);
     let mut inlet = RealInlet::new(rt);
+    let mut racer = ThreadRacer::new(RACING_WORKERS);
     let (mut world, status) = run(
-        &rt,
-        alloc,
-        &words,
-        &mut files,
-        &mut inlet,
-        world,
-        &mut IdleRacer,
-        &OpenGate,
+        &rt, alloc, &words, &mut files, &mut inlet, world, &mut racer, &OpenGate,
     );
     // The status stays if there is no memory for a line, or if it can't be sent.
     let _ = match status {

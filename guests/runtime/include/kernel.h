@@ -75,7 +75,7 @@ static inline void kernel_yield(void) {
     kernel_call(CALL_YIELD, 0, 0, 0, 0);
 }
 
-// Returns the reading of the clock in nanoseconds. It is the same in a whole epoch, and may go back.
+// Returns the reading of the clock in nanoseconds. It is the same in a whole round, and may go back.
 static inline unsigned long long kernel_clock(void) {
     register unsigned low __asm__("a0");
     register unsigned high __asm__("a1");
