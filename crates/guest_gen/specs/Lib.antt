@@ -1,0 +1,3 @@
+pub mod Register
+pub mod Listing
+pub mod Guest
