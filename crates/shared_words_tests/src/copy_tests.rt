@@ -53,7 +53,7 @@ fn stored_at<J: Naming>(
 }
 
 // How many blocks are marked, and whether the pages to which they are copied are as if the hart had stored there.
-fn copied(alloc: Global) -> Result<(u32, bool), OutOfMemory> {
+fn copied(alloc: Global) -> Result<(usize, bool), OutOfMemory> {
     let mut pages = pages_of(alloc, rows())?;
     let (words, seat) = SharedWords::of_pages(alloc, &pages)?;
     let mut copies = pages.share(alloc)?;
