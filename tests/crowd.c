@@ -8,8 +8,17 @@
 
 static volatile unsigned counter;
 
+static mtx_t lock;
+static cnd_t begins;
+static int has_begun;
+
 static int count(void *unused) {
     (void)unused;
+    mtx_lock(&lock);
+    while (!has_begun) {
+        cnd_wait(&begins, &lock);
+    }
+    mtx_unlock(&lock);
     unsigned seen = 0;
     for (unsigned i = 0; i < ROUNDS; i++) {
         seen = counter;
@@ -24,11 +33,17 @@ static int count(void *unused) {
 
 int main(void) {
     thrd_t threads[THREADS];
+    mtx_init(&lock, mtx_plain);
+    cnd_init(&begins);
     for (unsigned i = 0; i < THREADS; i++) {
         if (thrd_create(&threads[i], count, NULL) != thrd_success) {
             return 1;
         }
     }
+    mtx_lock(&lock);
+    has_begun = 1;
+    cnd_broadcast(&begins);
+    mtx_unlock(&lock);
     for (unsigned i = 0; i < THREADS; i++) {
         thrd_join(threads[i], NULL);
     }
