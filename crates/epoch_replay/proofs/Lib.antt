@@ -7,3 +7,5 @@ mod Marks
 mod Epochs
 mod Starting
 mod Plays
+mod Counting
+mod Listing

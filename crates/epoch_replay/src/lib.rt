@@ -21,7 +21,10 @@
 //! ```
 #![tactic(auto)]
 
+mod counts;
 mod epoch;
+mod inspect_fault;
+mod inspecting;
 pub mod laws;
 mod mark;
 mod progress;
@@ -31,5 +34,7 @@ mod stretch;
 mod window;
 
 pub use dp_report::Report;
+pub use inspect_fault::InspectFault;
+pub use inspecting::inspect;
 pub use replay_fault::ReplayFault;
 pub use replaying::{replay, replay_through};

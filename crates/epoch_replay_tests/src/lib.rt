@@ -11,6 +11,8 @@ mod gate_tests;
 #[cfg(test)]
 mod head_tests;
 #[cfg(test)]
+mod inspect_tests;
+#[cfg(test)]
 mod journals;
 #[cfg(test)]
 mod replays;

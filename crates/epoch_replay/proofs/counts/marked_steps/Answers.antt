@@ -1,0 +1,7 @@
+use Rattle.std.proofs.Common.{ap, ◌∙◌}
+use Rattle.epoch_replay.specs.Counting.{marked_steps_at}
+use Rattle.epoch_replay.proofs.Counting.{marked}
+use Rattle.epoch_replay.proofs.counts.marked_steps.Goals as goal
+
+pub returns : goal.returns
+returns c = λ marked_state is body_is. c.read_marked_steps.ensures ∙ ap marked_steps_at body_is ∙ marked marked_state is

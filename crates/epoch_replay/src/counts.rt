@@ -1,0 +1,71 @@
+// What the lines of records say, read from their bodies without memory.
+ghost use Rattle.std.specs.Prelude.{◌≡◌, ◌∷◌, ℕ, List, Some, option_map};
+ghost use Rattle.dp_base.specs.Journal.{Epoch, IsEpoch, epoch_body, many_at, slice_at, steps_of};
+ghost use Rattle.guest_state.specs.Checkpoint.{Checkpoint, IsCheckpoint, checkpoint_bytes};
+ghost use Rattle.journal_text.specs.Records.{mark_kind};
+ghost use Rattle.epoch_replay.specs.Counting.{counts_at, counts_of, marked_steps_at};
+
+use dp_base::field::{read_u8, read_u32, read_u64};
+use dp_base::journal_reader::read_slice;
+
+/// What an epoch's record holds.
+#[derive(Clone, Copy)]
+pub struct EpochCounts {
+    pub slices: u32,
+    /// The steps of all slices.
+    pub steps: u64,
+    pub answers: u32,
+}
+
+/// Returns what the epoch with this body holds.
+pub fn epoch_counts(body: &[u8]) -> Option<EpochCounts>
+    ensures { (e : Epoch) → IsEpoch e → body.now ≡ epoch_body e → result ≡ Some (counts_of e) }
+{
+    count_epoch(body)
+}
+
+#[tactic(auto, unfolding(crate::specs::Counting::counts_at))]
+fn count_epoch(body: &[u8]) -> Option<EpochCounts>
+    ensures { result ≡ counts_at body.now }
+{
+    let (_kind, rest) = read_u8(body)?;
+    let (slices, rest) = read_u32(rest)?;
+    let (steps, rest) = skip_slices(slices, rest)?;
+    let (answers, _rest) = read_u32(rest)?;
+    Some(EpochCounts {
+        slices,
+        steps,
+        answers,
+    })
+}
+
+// The steps of the first `count` slices, and the bytes after them.
+fn skip_slices(count: u32, bytes: &[u8]) -> Option<(u64, &[u8])>
+    ensures { option_map {U = ℕ × List ℕ} (λ x. (x.0, x.1.now)) result
+        ≡ option_map (λ x. (steps_of x.0, x.1)) (many_at slice_at count bytes.now) }
+{
+    let mut steps = 0;
+    let mut rest = bytes;
+    'slices: for _index in 0..count {
+        let (slice, behind) = read_slice(rest)?;
+        steps += u64::from(slice.steps);
+        rest = behind;
+    }
+    Some((steps, rest))
+}
+
+/// Returns the step count of the state in the mark with this body.
+pub fn marked_steps(body: &[u8]) -> Option<u64>
+    ensures { (c : Checkpoint) → IsCheckpoint c → body.now ≡ mark_kind ∷ checkpoint_bytes c → result ≡ Some c.steps }
+{
+    read_marked_steps(body)
+}
+
+#[tactic(auto, unfolding(crate::specs::Counting::marked_steps_at))]
+fn read_marked_steps(body: &[u8]) -> Option<u64>
+    ensures { result ≡ marked_steps_at body.now }
+{
+    let (_kind, rest) = read_u8(body)?;
+    let (steps, _rest) = read_u64(rest)?;
+    Some(steps)
+}
