@@ -1,5 +1,5 @@
-// Recordings in five epochs of two steps with a mark after every second one, in which a call on the disk or an emit fails, or a record
-// doesn't fit. Each image that a crash may leave then is replayed.
+// Recordings in five epochs of two steps with marks, in which a call on the disk or an emit fails, or a record doesn't fit. Each image that
+// a crash may leave then is replayed.
 use crate::marked::{FIRST_GATE, left_by, options, records_in};
 use crate::recorded::{Left, replayed};
 use disk_model::Stream;
@@ -17,16 +17,13 @@ const NO_JOURNAL: u32 = 100;
 // That of one whose records aren't the first of the journal.
 const OTHERS: u32 = 101;
 
-// The epochs of the first records of a journal with a mark after every second epoch, and whether one of them is the third, which writes.
-fn epochs_in(records: u32) -> (u32, bool) {
-    match records {
-        0 => (0, false),
-        1 => (1, false),
-        2 | 3 => (2, false),
-        4 => (3, true),
-        5 | 6 => (4, true),
-        _ => (5, true),
-    }
+// The epochs of the first records of a journal with a mark after every so many epochs, and whether one of them is the third, which writes.
+fn epochs_in(every: u32, records: u32) -> (u32, bool) {
+    let row = every.clamp(1, 1000) + 1;
+    let epochs = (records / row)
+        .saturating_mul(row - 1)
+        .saturating_add((records % row).min(row - 1));
+    (epochs, epochs >= 3)
 }
 
 fn output_of(writes: bool) -> &'static [u8] {
@@ -60,6 +57,7 @@ fn held(image: &[u8], journal: &[u8]) -> u32 {
 fn held_by_all<R: Threads + Sync>(
     rt: &R,
     alloc: Global,
+    every: u32,
     left: &Left,
     journal: &[u8],
 ) -> Result<[u32; 3], Fail> {
@@ -70,7 +68,7 @@ fn held_by_all<R: Threads + Sync>(
         let (answer, output) = if records == NO_JOURNAL {
             (Err(ReplayFault::NoJournal), output_of(false))
         } else {
-            let (epochs, writes) = epochs_in(records);
+            let (epochs, writes) = epochs_in(every, records);
             (Ok(epochs), output_of(writes))
         };
         if replayed(rt, alloc, &image, 2, output)? != (answer, true) {
@@ -105,25 +103,64 @@ fn expected(number: u32) -> (u32, [u32; 3]) {
     }
 }
 
-// A recording with a mark after every second epoch.
+// A recording with a mark after every so many epochs.
 fn marked_by<R: Threads + Sync>(
     rt: &R,
     alloc: Global,
+    every: u32,
     number: u32,
     room: u64,
     disk: Failing,
     sink: Failing,
 ) -> Result<Left, Fail> {
-    let options = options(2, 2, room.min(1 << 30));
+    let options = options(2, every.min(1000), room.min(1 << 30));
     left_by(rt, alloc, number, options, disk, sink)
 }
 
-// The whole journal: 134 bytes, 20 for each epoch and 69,885 for each mark.
-fn journal<R: Threads + Sync>(rt: &R, alloc: Global) -> Result<Vec<u8>, Fail> {
-    let left = marked_by(rt, alloc, 0, 1 << 30, Failing::Never, Failing::Never)?;
+// A mark after every so many epochs, the whole journal's records, and their count: 134 bytes, 20 for each epoch and 69,885 for each mark.
+#[derive(Clone, Copy)]
+struct Marked {
+    every: u32,
+    records: &'static str,
+    count: u32,
+    bytes: usize,
+}
+
+const FIRST: Marked = Marked {
+    every: 1,
+    records: "EM2EM4EM6EM8E.",
+    count: 9,
+    bytes: 279_774,
+};
+
+const SECOND: Marked = Marked {
+    every: 2,
+    records: "EEM4EEM8E.",
+    count: 7,
+    bytes: 140_004,
+};
+
+const THIRD: Marked = Marked {
+    every: 3,
+    records: "EEEM6EE.",
+    count: 6,
+    bytes: 70_119,
+};
+
+const SIXTEENTH: Marked = Marked {
+    every: 16,
+    records: "EEEEE.",
+    count: 5,
+    bytes: 234,
+};
+
+// The whole journal.
+fn journal<R: Threads + Sync>(rt: &R, alloc: Global, marked: Marked) -> Result<Vec<u8>, Fail> {
+    let (disk, sink) = (Failing::Never, Failing::Never);
+    let left = marked_by(rt, alloc, marked.every, 0, 1 << 30, disk, sink)?;
     let journal = left.world.bytes();
     let records = records_in(alloc, journal)?;
-    if left.answer.is_err() || journal.len() != 140_004 || records.as_str() != "EEM4EEM8E." {
+    if left.answer.is_err() || journal.len() != marked.bytes || records.as_str() != marked.records {
         return Err("a recording where nothing fails".into());
     }
     Ok(journal.to_vec(alloc)?)
@@ -133,6 +170,7 @@ fn journal<R: Threads + Sync>(rt: &R, alloc: Global) -> Result<Vec<u8>, Fail> {
 fn faulted<R: Threads + Sync>(
     rt: &R,
     alloc: Global,
+    every: u32,
     left: &Left,
     fault: RecordFault,
     journal: &[u8],
@@ -143,26 +181,72 @@ fn faulted<R: Threads + Sync>(
         Err(other) => other == fault,
     };
     let same = left.world.sent(Stream::Out) == sent;
-    Ok((answers, same, held_by_all(rt, alloc, left, journal)?))
+    Ok((answers, same, held_by_all(rt, alloc, every, left, journal)?))
+}
+
+// Whether a recording whose calls fail answers so, has sent the output of its epochs, and leaves images with as many records as expected.
+fn fails_at<R: Threads + Sync>(
+    rt: &R,
+    alloc: Global,
+    every: u32,
+    number: u32,
+    racer: u32,
+    disk: Failing,
+    journal: &[u8],
+) -> Result<bool, Fail> {
+    let (before, held) = expected(number);
+    let sent = output_of(epochs_in(every, before).1);
+    let left = marked_by(rt, alloc, every, racer, 1 << 30, disk, Failing::Never)?;
+    let came = faulted(
+        rt,
+        alloc,
+        every,
+        &left,
+        RecordFault::DiskFault,
+        journal,
+        sent,
+    )?;
+    Ok(came == (true, true, held))
+}
+
+// Whether a recording with these marks does as expected at each call that fails: there are seven, and four for each record.
+fn fails_at_each<R: Threads + Sync>(rt: &R, alloc: Global, marked: Marked) -> Result<bool, Fail> {
+    let journal = journal(rt, alloc, marked)?;
+    for number in 1..=marked.count.min(9) * 4 + 7 {
+        let disk = Failing::At(u64::from(number));
+        if !fails_at(rt, alloc, marked.every, number, 0, disk, &journal)? {
+            return Ok(false);
+        }
+    }
+    Ok(true)
 }
 
 // Seven records make 35 calls. The racer's offers are good, or the third one of each round is spoilt.
 #[test]
 fn disk_calls_that_fail(rt: HostRuntime) -> Result<(), Fail> {
     let alloc = rt.alloc();
-    let journal = journal(&rt, alloc)?;
+    let journal = journal(&rt, alloc, SECOND)?;
     for number in 1..=35u32 {
-        let (before, held) = expected(number);
-        let sent = output_of(epochs_in(before).1);
         let disk = Failing::At(u64::from(number));
-        let left = marked_by(&rt, alloc, 0, 1 << 30, disk, Failing::Never)?;
-        let came = faulted(&rt, alloc, &left, RecordFault::DiskFault, &journal, sent)?;
-        assert_eq!(rt; came, (true, true, held), "call {number}");
+        let fails = fails_at(&rt, alloc, 2, number, 0, disk, &journal)?;
+        assert!(rt; fails, "call {number}");
         let disk = Failing::From(u64::from(number));
-        let left = marked_by(&rt, alloc, 9, 1 << 30, disk, Failing::Never)?;
-        let came = faulted(&rt, alloc, &left, RecordFault::DiskFault, &journal, sent)?;
-        assert_eq!(rt; came, (true, true, held), "calls from {number}");
+        let fails = fails_at(&rt, alloc, 2, number, 9, disk, &journal)?;
+        assert!(rt; fails, "calls from {number}");
     }
+    Ok(())
+}
+
+#[test]
+fn disk_calls_of_many_marks(rt: HostRuntime) -> Result<(), Fail> {
+    assert!(rt; fails_at_each(&rt, rt.alloc(), FIRST)?);
+    Ok(())
+}
+
+#[test]
+fn disk_calls_of_few_marks(rt: HostRuntime) -> Result<(), Fail> {
+    assert!(rt; fails_at_each(&rt, rt.alloc(), THIRD)?);
+    assert!(rt; fails_at_each(&rt, rt.alloc(), SIXTEENTH)?);
     Ok(())
 }
 
@@ -170,18 +254,34 @@ fn disk_calls_that_fail(rt: HostRuntime) -> Result<(), Fail> {
 #[test]
 fn emits_that_fail(rt: HostRuntime) -> Result<(), Fail> {
     let alloc = rt.alloc();
-    let journal = journal(&rt, alloc)?;
+    let journal = journal(&rt, alloc, SECOND)?;
     // the emit, how many records the images hold, and what was sent
     let cases: [(u64, u32, &[u8]); 4] = [(1, 4, b""), (2, 4, b"h"), (3, 4, b"hi"), (4, 7, b"hi\n")];
     for (number, records, sent) in cases {
         let held = [records, records, records];
         let sink = Failing::At(number);
-        let left = marked_by(&rt, alloc, 0, 1 << 30, Failing::Never, sink)?;
-        let came = faulted(&rt, alloc, &left, RecordFault::OutputFault, &journal, sent)?;
+        let left = marked_by(&rt, alloc, 2, 0, 1 << 30, Failing::Never, sink)?;
+        let came = faulted(
+            &rt,
+            alloc,
+            2,
+            &left,
+            RecordFault::OutputFault,
+            &journal,
+            sent,
+        )?;
         assert_eq!(rt; came, (true, true, held), "emit {number}");
         let sink = Failing::From(number);
-        let left = marked_by(&rt, alloc, 9, 1 << 30, Failing::Never, sink)?;
-        let came = faulted(&rt, alloc, &left, RecordFault::OutputFault, &journal, sent)?;
+        let left = marked_by(&rt, alloc, 2, 9, 1 << 30, Failing::Never, sink)?;
+        let came = faulted(
+            &rt,
+            alloc,
+            2,
+            &left,
+            RecordFault::OutputFault,
+            &journal,
+            sent,
+        )?;
         assert_eq!(rt; came, (true, true, held), "emits from {number}");
     }
     Ok(())
@@ -206,7 +306,7 @@ fn emits_before_a_mark(rt: HostRuntime) -> Result<(), Fail> {
 #[test]
 fn rooms_of_marks(rt: HostRuntime) -> Result<(), Fail> {
     let alloc = rt.alloc();
-    let journal = journal(&rt, alloc)?;
+    let journal = journal(&rt, alloc, SECOND)?;
     let full = |end, need| RecordFault::JournalFull { end, need };
     let cases = [
         // The second epoch doesn't fit, the first mark, the third epoch, the fourth, the second mark, and the fifth epoch.
@@ -222,10 +322,10 @@ fn rooms_of_marks(rt: HostRuntime) -> Result<(), Fail> {
         (140_003, full(139_984, 20), 6),
     ];
     for (room, fault, records) in cases {
-        let sent = output_of(epochs_in(records).1);
+        let sent = output_of(epochs_in(2, records).1);
         for number in [0u32, 9] {
-            let left = marked_by(&rt, alloc, number, room, Failing::Never, Failing::Never)?;
-            let came = faulted(&rt, alloc, &left, fault, &journal, sent)?;
+            let left = marked_by(&rt, alloc, 2, number, room, Failing::Never, Failing::Never)?;
+            let came = faulted(&rt, alloc, 2, &left, fault, &journal, sent)?;
             assert_eq!(rt;
                 came,
                 (true, true, [records, records, records]),
@@ -233,7 +333,7 @@ fn rooms_of_marks(rt: HostRuntime) -> Result<(), Fail> {
             );
         }
     }
-    let left = marked_by(&rt, alloc, 0, 140_004, Failing::Never, Failing::Never)?;
+    let left = marked_by(&rt, alloc, 2, 0, 140_004, Failing::Never, Failing::Never)?;
     assert_eq!(rt;
         (left.answer.is_ok(), left.world.bytes().len()),
         (true, 140_004)
