@@ -752,9 +752,9 @@ is_of_crowd() {
 folders=()
 for number in {1..8}; do
   is_right="is_output_of counter_racing"
-  record_many "$many/racing$number" "$guests/counter_racing.elf" 63 /dev/null --epoch "$((500 * number * number))" --mark "$((number % 4))" &
+  record_many "$many/racing$number" "$guests/counter_racing.elf" 63 /dev/null --epoch "$((500 * number * number))" --mark "$((16 * (number % 2)))" &
   is_right=is_of_crowd
-  record_many "$many/crowd$number" "$here/crowd.elf" 63 /dev/null --epoch "$((500 * number * number))" --mark "$((number % 4))" &
+  record_many "$many/crowd$number" "$here/crowd.elf" 63 /dev/null --epoch "$((500 * number * number))" --mark "$((16 * (number % 2)))" &
   folders+=("$many/racing$number" "$many/crowd$number")
 done
 wait
