@@ -718,10 +718,11 @@ sum_up() {
 }
 
 # The examples but the one that races, a hundred times each with epochs of each length, the four lengths at once. In each schedule an example
-# writes the same, as far as its output doesn't say who did what. They synchronise by AMOs and calls. So their hints can be followed to the end,
-# and no epoch is run in vain.
+# writes the same, as far as its output doesn't say who did what. They synchronise by AMOs and calls. So their hints can be followed
+# to the end, but where two AMOs on a word got their tickets in the other order. Of a guest of one thread no epoch is run in vain, and of the
+# others hardly one.
 each_time() {
-  local name=$1 input=$2 epoch folders=()
+  local name=$1 input=$2 most=$3 epoch folders=()
   is_right="is_output_of $name"
   for epoch in 500 3000 20000 1000000; do
     folders+=("$many/$name$epoch")
@@ -731,17 +732,17 @@ each_time() {
   for epoch in 500 3000 20000 1000000; do
     sum_up "$many/$name$epoch"
     check "$name a hundred times in epochs of $epoch steps: $right were right; $why" test "$right" = 100
-    check "$name a hundred times in epochs of $epoch steps: $squashes squashes" test "$squashes" = 0
+    check "$name a hundred times in epochs of $epoch steps: $squashes squashes" test "$squashes" -le "$most"
   done
   rm -rf "${folders[@]}"
 }
-each_time hello /dev/null
-each_time filter "$guests/filter.in"
-each_time clock /dev/null
-each_time words "$guests/words.in"
-each_time counter_locked /dev/null
-each_time producer_consumer /dev/null
-each_time deadlock /dev/null
+each_time hello /dev/null 0
+each_time filter "$guests/filter.in" 0
+each_time clock /dev/null 0
+each_time words "$guests/words.in" 20
+each_time counter_locked /dev/null 20
+each_time producer_consumer /dev/null 20
+each_time deadlock /dev/null 20
 
 # A thousand recordings of guests that race, sixteen at once.
 is_of_crowd() {
@@ -751,9 +752,9 @@ is_of_crowd() {
 folders=()
 for number in {1..8}; do
   is_right="is_output_of counter_racing"
-  record_many "$many/racing$number" "$guests/counter_racing.elf" 63 /dev/null --epoch "$((500 * number * number))" --mark "$((number % 4))" &
+  record_many "$many/racing$number" "$guests/counter_racing.elf" 63 /dev/null --epoch "$((500 * number * number))" --mark "$((16 * (number % 2)))" &
   is_right=is_of_crowd
-  record_many "$many/crowd$number" "$here/crowd.elf" 63 /dev/null --epoch "$((500 * number * number))" --mark "$((number % 4))" &
+  record_many "$many/crowd$number" "$here/crowd.elf" 63 /dev/null --epoch "$((500 * number * number))" --mark "$((16 * (number % 2)))" &
   folders+=("$many/racing$number" "$many/crowd$number")
 done
 wait
