@@ -8,6 +8,10 @@
 //! a prefix of that output was sent (clause `moments`). At `Ok` no call of the world failed, and the report's line was sent on Note.
 //! Otherwise nothing was, or a prefix of that line.
 //!
+//! `inspect` lists the records of a journal and runs none. Its contract goes by `specs/Inspection.antt`, which defines the text, and
+//! `specs/Inspecting.antt`: at `Ok` and at a malformed record exactly that text was sent on Out, after a fault of the output a prefix of
+//! it, and otherwise nothing.
+//!
 //! Stands on `epoch_journal`, `journal_text`, `epoch_record`, `guest_kernel`, `checkpoint`, `state_compare`, `device` and `dp_report`.
 //!
 //! ```text
@@ -18,6 +22,8 @@
 //!     Err(ReplayFault::BadEpoch(number)) => ..,
 //!     Err(fault) => ..,
 //! }
+//!
+//! let (world, answer) = inspect(alloc, world);
 //! ```
 #![tactic(auto)]
 

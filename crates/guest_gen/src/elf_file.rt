@@ -35,8 +35,7 @@ const PF_R: u32 = 4;
 /// time under a lock. The first thread waits for the others, writes the counter as 8 lower-case hexadecimal digits and a newline,
 /// and ends the guest with code 0. The guest reads no input and no clock.
 ///
-/// A thread takes or releases the lock only if its slice has room for LR, SC and a branch, so the guest never ends in slices of one
-/// or two steps.
+/// A thread takes the lock by three steps of one slice: LR, a branch and SC. So the guest never ends in slices of one or two steps.
 pub fn make(alloc: Global, n: u32) -> Result<Vec<u8>, OutOfMemory>
     ensures file { IfOk result (λ file. file.items ≡ guest_file n) }
     ensures accepted { IfOk result (λ file. image_fault file.items ≡ None) }

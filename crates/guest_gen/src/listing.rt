@@ -119,10 +119,11 @@ pub const CODE: [Instruction; CODE_LEN] = [
     Addi(S3, S3, 4),
     Addi(S2, S2, MINUS_1),
     Jal(Zero, SPAWN_NEXT),
-    // ALL_SPAWNED: It counts itself, and waits for the others.
+    // ALL_SPAWNED: it counts itself, and waits for the others.
     Jal(Ra, COUNT),
     Addi(S2, S0, CLEAR_WORDS),
-    // JOIN_NEXT: S2 is where the next clear word is. Waiting answers 0 to a thread that was woken; then the word is 0, and it is looked at again.
+    // JOIN_NEXT: S2 is where the next clear word is. A wait answers 0 once the thread was woken. Then it waits again, and is told
+    // at once that the word isn't 1.
     Beq(S2, S3, ALL_JOINED),
     Addi(A0, S2, 0),
     Addi(A1, Zero, 1),
@@ -131,11 +132,11 @@ pub const CODE: [Instruction; CODE_LEN] = [
     Beq(A0, Zero, JOIN_NEXT),
     Addi(S2, S2, 4),
     Jal(Zero, JOIN_NEXT),
-    // ALL_JOINED: It writes the counter, the highest digit first.
+    // ALL_JOINED: it writes the counter, the highest digit first.
     Lw(S2, S0, COUNTER),
     Addi(S3, S0, TEXT),
     Addi(S4, Zero, 28),
-    // DIGIT: The digit is S4 bits from the lowest one, and S3 is where it is written.
+    // DIGIT: the digit is S4 bits from the lowest one, and S3 is where it is written.
     Srl(T0, S2, S4),
     Andi(T0, T0, 15),
     Addi(T1, Zero, 10),
@@ -157,19 +158,19 @@ pub const CODE: [Instruction; CODE_LEN] = [
     Addi(A0, Zero, 0),
     Addi(A7, Zero, EXIT_ALL),
     Ecall,
-    // THREAD: A thread that was spawned counts, and exits.
+    // THREAD: a thread that was spawned counts, and exits.
     Lui(S0, SHARED_ADDRESS),
     Lui(S1, FILE_ADDRESS),
     Jal(Ra, COUNT),
     Addi(A0, Zero, 0),
     Addi(A7, Zero, EXIT_THREAD),
     Ecall,
-    // COUNT: Adds 1 to the counter in each round, under the lock. S0 and S1 are set, and Ra is where it returns to.
+    // COUNT: adds 1 to the counter in each round, under the lock. S0 and S1 are set, and it returns to Ra.
     Lw(S4, S1, ROUNDS),
     Addi(T1, Zero, 1),
     // ROUND: S4 rounds are left.
     Jal(Zero, ACQUIRE),
-    // LOST: The slice ended between LR and SC. A yield ends this one, so the next tries begin a slice.
+    // LOST: a slice ended between LR and SC. A yield ends this one, so the next try begins a slice.
     Addi(A7, Zero, YIELD),
     Ecall,
     // ACQUIRE
@@ -181,7 +182,7 @@ pub const CODE: [Instruction; CODE_LEN] = [
     Addi(T0, T0, 1),
     Sw(S0, T0, COUNTER),
     Jal(Zero, RELEASE),
-    // KEPT: As at LOST.
+    // KEPT: as at LOST.
     Addi(A7, Zero, YIELD),
     Ecall,
     // RELEASE
@@ -195,7 +196,7 @@ pub const CODE: [Instruction; CODE_LEN] = [
     Addi(S4, S4, MINUS_1),
     Bne(S4, Zero, ROUND),
     Jalr(Zero, Ra, 0),
-    // HELD: Waits while another thread holds the lock, and tries again. Each release wakes one of those that wait.
+    // HELD: waits while another thread holds the lock, and tries again. Each release wakes one of those that wait.
     Addi(A0, S0, LOCK),
     Addi(A1, Zero, 1),
     Addi(A7, Zero, FUTEX_WAIT),
