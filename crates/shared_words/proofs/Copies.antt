@@ -1,13 +1,16 @@
 -- Words and pages that are copied.
-use Rattle.std.proofs.Common.{◌≡◌, ⊎_elim, ℕ, suc, ◌+◌, ◌*◌, ◌%◌, ◌<◌, Bool, true, false, List, [], ◌∷◌, ◌++◌, get_or, length, set, sym, refl, ap, subst, ◌∙◌, arith, get_or-set_same, if◌then◌else◌, take, drop}
+use Rattle.std.proofs.Common.{◌≡◌, ⊎_elim, ℕ, suc, ◌+◌, ◌-◌, ◌*◌, ◌/◌, ◌%◌, ◌<◌, ◌≤◌, Bool, true, false, List, [], ◌∷◌, ◌++◌, get_or, length, set, sym, refl, ap, subst, ◌∙◌, arith, length-append, get_or-set_same, if◌then◌else◌, take, drop}
 use Rattle.std.specs.Prelude.{Some, is_some, slice_get}
 use Rattle.std.proofs.lemmas.List.{append_assoc, append-nil, get_or-drop, get_or-set_other, get_or-take}
+use Rattle.std.proofs.Math.ListN.{get_or-append}
+use Rattle.std.proofs.Math.Seq.{get_or-append_right}
 use Rattle.std.proofs.lemmas.List.Elements.{All-append, All-cons, All-nil}
 use Rattle.std.proofs.lemmas.Option.{get_or_from_slice_get}
-use Rattle.std.proofs.lemmas.Bool.{cases_eq}
+use Rattle.std.proofs.lemmas.Bool.{cases_eq, cases_lt}
 use Rattle.dp_base.specs.Memory.{bytes_with, put_bytes}
+use Rattle.dp_base.specs.declared.limits.TheConstants.{PAGE_BYTES}
 use Rattle.dp_base.specs.declared.page.Page.{Page}
-use Rattle.shared_words.specs.Copied.{AreCopied, AreMarked, IsStoredIn, IsWordOf, OnlyLoads, OnlyStores, block_address, block_of, is_marked, marked_below, overwritten}
+use Rattle.shared_words.specs.Copied.{AreCopied, AreMarked, Differs, HasChanges, HasChangesIn, HasEachWord, HasWord, IsStoredIn, IsWordOf, OnlyLoads, OnlyStores, block_address, block_of, bytes_at, is_marked, marked_below, overwritten}
 use Rattle.shared_words.specs.Rule.{after_load, after_store}
 use Rattle.shared_words.specs.declared.layout.TheConstants.{BLOCK_WORDS, FIRST_WORD, PAGE_BLOCKS, PAGE_WORDS}
 use Rattle.shared_words.specs.declared.mapped_page.MappedPage.{MappedPage}
@@ -25,24 +28,94 @@ loads_then u v w a b = record { tickets = b.tickets ∙ a.tickets; budget = b.bu
 pub loads_more : (u v w : View) (word found : ℕ) → OnlyLoads u v → w ≡ after_load v word found → OnlyLoads u w
 loads_more u v w word found a is = subst (OnlyLoads u) (sym is) (record { tickets = a.tickets; budget = a.budget; stored = a.stored })
 
-pub stores_none : (P : Stored → Type 0) (v : View) → OnlyStores P v v
-stores_none P v = record { tickets = refl; budget = refl; words = []; stored = sym (append-nil v.stored); are = All-nil P }
+pub stores_none : (P : Stored → Type 0) (Q : List Stored → Type 0) (v : View) → Q [] → OnlyStores P Q v v
+stores_none P Q v holds = record { tickets = refl; budget = refl; words = []; stored = sym (append-nil v.stored); each = All-nil P; all = holds }
 
-pub stores_then : (P : Stored → Type 0) (u v w : View) → OnlyStores P u v → OnlyStores P v w → OnlyStores P u w
-stores_then P u v w a b = record {
+pub stores_then : (P : Stored → Type 0) (Q R S : List Stored → Type 0) (u v w : View) → ((xs ys : List Stored) → Q xs → R ys → S (xs ++ ys)) → OnlyStores P Q u v → OnlyStores P R v w → OnlyStores P S u w
+stores_then P Q R S u v w both a b = record {
   tickets = b.tickets ∙ a.tickets;
   budget = b.budget ∙ a.budget;
   words = a.words ++ b.words;
   stored = b.stored ∙ (ap (λ (ss : List Stored). ss ++ b.words) a.stored ∙ append_assoc u.stored a.words b.words);
-  are = All-append P a.words b.words a.are b.are;
+  each = All-append P a.words b.words a.each b.each;
+  all = both a.words b.words a.all b.all;
 }
 
-pub stores_more : (P : Stored → Type 0) (u v w : View) (s : Stored) → OnlyStores P u v → w ≡ after_store v s.word s.value → P s → OnlyStores P u w
-stores_more P u v w s a is holds = stores_then P u v w a
-    (subst (OnlyStores P v) (sym is) (record { tickets = refl; budget = refl; words = s ∷ []; stored = refl; are = All-cons P s [] holds (All-nil P) }))
+pub stores_one : (P : Stored → Type 0) (v w : View) (s : Stored) → w ≡ after_store v s.word s.value → P s → OnlyStores P (HasWord s.word) v w
+stores_one P v w s is holds = subst (OnlyStores P (HasWord s.word) v) (sym is) (record {
+  tickets = refl;
+  budget = refl;
+  words = s ∷ [];
+  stored = refl;
+  each = All-cons P s [] holds (All-nil P);
+  all = record { index = 0; inside = omega arith; is = λ d. refl };
+})
 
-pub stores_weaker : (P Q : Stored → Type 0) (u v : View) → ((s : Stored) → P s → Q s) → OnlyStores P u v → OnlyStores Q u v
-stores_weaker P Q u v weaker a = record { tickets = a.tickets; budget = a.budget; words = a.words; stored = a.stored; are = λ k d lt. weaker _ (a.are k d lt) }
+pub stores_weaker : (P P' : Stored → Type 0) (Q Q' : List Stored → Type 0) (u v : View) → ((s : Stored) → P s → P' s) → ((ss : List Stored) → Q ss → Q' ss) → OnlyStores P Q u v → OnlyStores P' Q' u v
+stores_weaker P P' Q Q' u v each all a = record { tickets = a.tickets; budget = a.budget; words = a.words; stored = a.stored; each = λ k d lt. each _ (a.each k d lt); all = all a.words a.all }
+
+has_left : (word : ℕ) (xs ys : List Stored) → HasWord word xs → HasWord word (xs ++ ys)
+has_left word xs ys has = record {
+  index = has.index;
+  inside = (let i = has.inside in omega (arith, length-append xs ys));
+  is = λ d. ap (λ (s : Stored). s.word) (get_or-append xs ys d has.index has.inside) ∙ has.is d;
+}
+
+has_right : (word : ℕ) (xs ys : List Stored) → HasWord word ys → HasWord word (xs ++ ys)
+has_right word xs ys has =
+    let here : length xs + has.index - length xs ≡ has.index = omega arith in record {
+      index = length xs + has.index;
+      inside = (let i = has.inside in omega (arith, length-append xs ys));
+      is = λ d. ap (λ (s : Stored). s.word) (get_or-append_right xs ys (length xs + has.index) d (omega arith)) ∙ (ap (λ (i : ℕ). (get_or ys i d).word) here ∙ has.is d);
+    }
+
+has_at : (word other : ℕ) (xs : List Stored) → other ≡ word → HasWord other xs → HasWord word xs
+has_at word other xs is has = record { index = has.index; inside = has.inside; is = λ d. has.is d ∙ is }
+
+-- one word of a run more
+pub has_more : (first i : ℕ) (xs ys : List Stored) → HasEachWord first i xs → HasWord (first + i) ys → HasEachWord first (i + 1) (xs ++ ys)
+has_more first i xs ys each has k lt = ⊎_elim
+    (λ (low : k < i). has_left (first + k) xs ys (each k low))
+    (λ (high : i ≤ k). has_at (first + k) (first + i) (xs ++ ys) (omega arith) (has_right (first + i) xs ys has))
+    (cases_lt k i)
+
+-- the words of a block
+pub block_has : (block page : ℕ) (before bytes : List ℕ) (ss : List Stored) → HasEachWord (FIRST_WORD + BLOCK_WORDS * (PAGE_BLOCKS * page + block)) BLOCK_WORDS ss → HasChangesIn block page before bytes ss
+block_has block page before bytes ss each offset off inside differs =
+    has_at ((FIRST_WORD + PAGE_WORDS * page) + offset / 4) ((FIRST_WORD + BLOCK_WORDS * (PAGE_BLOCKS * page + block)) + (offset / 4 - BLOCK_WORDS * block)) ss (omega arith) (each (offset / 4 - BLOCK_WORDS * block) (omega arith))
+
+-- a block that is as it was before
+pub same_has : (block page : ℕ) (before bytes : List ℕ) → 256 * block + 256 ≤ length before
+    → ((k : ℕ) → k < 256 → get_or before (256 * block + k) 0 ≡ get_or bytes (256 * block + k) 0) → HasChangesIn block page before bytes []
+same_has block page before bytes long same offset off inside differs =
+    let at : 256 * block + (offset - 256 * block) ≡ offset = omega arith in
+    absurd (differs (omega arith, ap (λ (i : ℕ). get_or before i 0) (sym at) ∙ (same (offset - 256 * block) (omega arith) ∙ ap (λ (i : ℕ). get_or bytes i 0) at)))
+
+-- the changes of the blocks before one
+abbrev pub HasChangesBelow : (block page : ℕ) (before bytes : List ℕ) → List Stored → Type 0
+HasChangesBelow block page before bytes stored = (offset : ℕ) → offset < PAGE_BYTES → offset / 256 < block → Differs before bytes offset → HasWord ((FIRST_WORD + PAGE_WORDS * page) + offset / 4) stored
+
+pub below_more : (block page : ℕ) (before bytes : List ℕ) (xs ys : List Stored) → HasChangesBelow block page before bytes xs → HasChangesIn block page before bytes ys → HasChangesBelow (block + 1) page before bytes (xs ++ ys)
+below_more block page before bytes xs ys below here offset off lt differs = ⊎_elim
+    (λ (low : offset / 256 < block). has_left ((FIRST_WORD + PAGE_WORDS * page) + offset / 4) xs ys (below offset off low differs))
+    (λ (high : block ≤ offset / 256). has_right ((FIRST_WORD + PAGE_WORDS * page) + offset / 4) xs ys (here offset off (omega arith) differs))
+    (cases_lt (offset / 256) block)
+
+-- the changes of the pages before one
+abbrev pub HasPagesBelow : (end : ℕ) (before pages : List Page) → List Stored → Type 0
+HasPagesBelow end before pages stored = (index : ℕ) → index < end → HasChanges index (bytes_at before index) (bytes_at pages index) stored
+
+pub pages_more : (end : ℕ) (before pages : List Page) (old bytes : List ℕ) (xs ys : List Stored) → old ≡ bytes_at before end → bytes ≡ bytes_at pages end
+    → HasPagesBelow end before pages xs → HasChanges end old bytes ys → HasPagesBelow (end + 1) before pages (xs ++ ys)
+pages_more end before pages old bytes xs ys old_is bytes_are below here index lt offset off differs = ⊎_elim
+    (λ (low : index < end). has_left ((FIRST_WORD + PAGE_WORDS * index) + offset / 4) xs ys (below index low offset off differs))
+    (λ (high : end ≤ index).
+    let is : end ≡ index = omega arith in
+    has_at ((FIRST_WORD + PAGE_WORDS * index) + offset / 4) ((FIRST_WORD + PAGE_WORDS * end) + offset / 4) (xs ++ ys) (omega arith)
+    (has_right ((FIRST_WORD + PAGE_WORDS * end) + offset / 4) xs ys
+    (here offset off (λ same. differs (subst (λ (bs : List ℕ). (offset < length bs) × (get_or bs offset 0 ≡ get_or (bytes_at pages index) offset 0)) (old_is ∙ ap (bytes_at before) is)
+    (same.0, same.1 ∙ ap (λ (bs : List ℕ). get_or bs offset 0) (bytes_are ∙ ap (bytes_at pages) is)))))))
+    (cases_lt index end)
 
 -- ---- words of blocks and pages
 

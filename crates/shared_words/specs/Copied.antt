@@ -1,5 +1,6 @@
 -- What is copied between shared words and pages. This project's own.
-use Rattle.std.specs.Prelude.{◌≡◌, ◌+◌, ◌-◌, ◌*◌, ◌/◌, ◌%◌, ◌<◌, ◌++◌, ℕ, zero, suc, Bool, true, false, List, [], ◌∷◌, All, length, map, slice_index, slice_index_or, is_some, if◌then◌else◌}
+use Rattle.std.specs.Prelude.{◌≡◌, ◌+◌, ◌-◌, ◌*◌, ◌/◌, ◌%◌, ◌<◌, ◌++◌, ℕ, zero, suc, Bool, true, false, List, [], ◌∷◌, All, length, map, slice_get, slice_index, slice_index_or, is_some, unwrap_or, if◌then◌else◌}
+use Rattle.std.specs.Option.{option_map}
 use Rattle.dp_base.specs.Memory.{bytes_with, put_bytes}
 use Rattle.dp_base.specs.declared.limits.TheConstants.{PAGE_BYTES}
 use Rattle.dp_base.specs.declared.page.Page.{Page}
@@ -75,10 +76,42 @@ pub record IsStoredIn (first count : ℕ) (bytes : List ℕ) (s : Stored) : Type
 abbrev pub IsWordOf : List Page → Stored → Type 0
 IsWordOf pages s = (index offset : ℕ) (d : Page) → index < length pages → offset < PAGE_BYTES → s.word ≡ (FIRST_WORD + PAGE_WORDS * index) + offset / 4 → slice_index (slice_index_or pages index d).bytes offset ≡ word_byte s.value (offset % 4)
 
--- a seat that has stored words of which this holds: it has the same tickets and the same budget
-pub record OnlyStores (P : Stored → Type 0) (before after : View) : Type 0 where
+-- this word is among those that were stored
+pub record HasWord (word : ℕ) (stored : List Stored) : Type 0 where
+  pub index : ℕ
+  pub inside : index < length stored
+  pub is : (d : Stored) → (slice_index_or stored index d).word ≡ word
+
+-- the bytes of the page at an index
+abbrev pub bytes_at : List Page → (index : ℕ) → List ℕ
+bytes_at pages index = unwrap_or (option_map (λ p. p.bytes) (slice_get pages index)) []
+
+-- an offset at which these bytes aren't as they were before
+abbrev pub Differs : (before bytes : List ℕ) (offset : ℕ) → Type 0
+Differs before bytes offset = (offset < length before) × (slice_index before offset ≡ slice_index bytes offset) → ⊥
+
+-- each word of a page in which a byte differs was stored
+abbrev pub HasChanges : (page : ℕ) (before bytes : List ℕ) → List Stored → Type 0
+HasChanges page before bytes stored = (offset : ℕ) → offset < PAGE_BYTES → Differs before bytes offset → HasWord ((FIRST_WORD + PAGE_WORDS * page) + offset / 4) stored
+
+-- the same of one block of the page
+abbrev pub HasChangesIn : (block page : ℕ) (before bytes : List ℕ) → List Stored → Type 0
+HasChangesIn block page before bytes stored =
+    (offset : ℕ) → offset < PAGE_BYTES → offset / (4 * BLOCK_WORDS) ≡ block → Differs before bytes offset → HasWord ((FIRST_WORD + PAGE_WORDS * page) + offset / 4) stored
+
+-- each of a run of words was stored
+abbrev pub HasEachWord : (first count : ℕ) → List Stored → Type 0
+HasEachWord first count stored = (i : ℕ) → i < count → HasWord (first + i) stored
+
+-- each word of these pages in which a byte differs was stored
+abbrev pub HasAllChanges : (before pages : List Page) → List Stored → Type 0
+HasAllChanges before pages stored = (index : ℕ) → index < length pages → HasChanges index (bytes_at before index) (bytes_at pages index) stored
+
+-- a seat that has stored words: this holds of each, and that of all of them. It has the same tickets and the same budget
+pub record OnlyStores (P : Stored → Type 0) (Q : List Stored → Type 0) (before after : View) : Type 0 where
   pub tickets : after.tickets ≡ before.tickets
   pub budget : after.budget ≡ before.budget
   pub words : List Stored
   pub stored : after.stored ≡ before.stored ++ words
-  pub are : All P words
+  pub each : All P words
+  pub all : Q words

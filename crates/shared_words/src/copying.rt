@@ -2,7 +2,7 @@
 ghost use Rattle.std.specs.Prelude.{◌≡◌, ◌↔◌, ◌+◌, ◌*◌, ◌<◌, ◌≤◌, All, IfOk, IsTrue, List, OnOk, false, length, map, vec_len};
 ghost use Rattle.dp_base.specs.declared.limits.TheConstants.{PAGE_BYTES};
 ghost use Rattle.dp_base.specs.declared.page.Page.{Page};
-ghost use Rattle.shared_words.specs.Copied.{AreCopied, AreMarksOf, IsStoredIn, IsWordOf, OnlyLoads, OnlyStores, block_address};
+ghost use Rattle.shared_words.specs.Copied.{AreCopied, AreMarksOf, HasAllChanges, HasChanges, HasChangesIn, HasEachWord, IsStoredIn, IsWordOf, OnlyLoads, OnlyStores, block_address, bytes_at};
 ghost use Rattle.shared_words.specs.Layout.{mapped_page};
 ghost use Rattle.shared_words.specs.Rule.{view_of};
 ghost use Rattle.shared_words.specs.Words.{IsSeatOf, pages_of, table_of};
@@ -14,7 +14,7 @@ use crate::marks::Marks;
 use crate::opening::{read_mapped, word_in};
 use crate::shared_words::{Seat, SharedWords};
 use cow_pages::Pages;
-use dp_base::{OutOfMemory, PageView};
+use dp_base::OutOfMemory;
 use std::alloc::Global;
 
 // Bytes of a block.
@@ -122,34 +122,24 @@ impl SharedWords {
         requires seat { IsSeatOf self.now seat.old }
         requires fits { map mapped_page pages.now ≡ pages_of self.now }
         ensures seat { IsSeatOf self.now seat.new }
-        ensures view { OnlyStores (IsWordOf pages.now) (view_of seat.old) (view_of seat.new) }
+        ensures view { OnlyStores (IsWordOf pages.now) (HasAllChanges before.now pages.now) (view_of seat.old) (view_of seat.new) }
     {
         for index in 0..self.pages.len() {
             let Some(page) = pages.at(index) else {
                 return;
             };
-            self.store_changes(seat, index, before.at(index), page.bytes);
+            self.store_changes(seat, index, bytes_at(before, index), page.bytes);
         }
     }
 
     // Stores the blocks of a page, but for those that are as they were before.
-    fn store_changes(
-        &self,
-        seat: &mut Seat,
-        page: usize,
-        before: Option<PageView<'_>>,
-        bytes: &[u8],
-    )
+    fn store_changes(&self, seat: &mut Seat, page: usize, before: &[u8], bytes: &[u8])
         requires seat { IsSeatOf self.now seat.old }
         requires inside { page < vec_len self.now.pages }
         requires whole { length bytes.now ≡ PAGE_BYTES }
         ensures seat { IsSeatOf self.now seat.new }
-        ensures view { OnlyStores (IsStoredIn (FIRST_WORD + PAGE_WORDS * page) PAGE_WORDS bytes.now) (view_of seat.old) (view_of seat.new) }
+        ensures view { OnlyStores (IsStoredIn (FIRST_WORD + PAGE_WORDS * page) PAGE_WORDS bytes.now) (HasChanges page before.now bytes.now) (view_of seat.old) (view_of seat.new) }
     {
-        let before = match before {
-            Some(page) => page.bytes,
-            None => &[],
-        };
         if before == bytes {
             return;
         }
@@ -165,7 +155,7 @@ impl SharedWords {
         requires block { block < PAGE_BLOCKS }
         requires whole { length bytes.now ≡ PAGE_BYTES }
         ensures seat { IsSeatOf self.now seat.new }
-        ensures view { OnlyStores (IsStoredIn (FIRST_WORD + PAGE_WORDS * page) PAGE_WORDS bytes.now) (view_of seat.old) (view_of seat.new) }
+        ensures view { OnlyStores (IsStoredIn (FIRST_WORD + PAGE_WORDS * page) PAGE_WORDS bytes.now) (HasChangesIn block page before.now bytes.now) (view_of seat.old) (view_of seat.new) }
     {
         let start = BLOCK_BYTES * block;
         let end = start + BLOCK_BYTES;
@@ -182,7 +172,7 @@ impl SharedWords {
         requires inside { block < PAGE_BLOCKS * vec_len self.now.pages }
         requires whole { length bytes.now ≡ 4 * BLOCK_WORDS }
         ensures seat { IsSeatOf self.now seat.new }
-        ensures view { OnlyStores (IsStoredIn (FIRST_WORD + BLOCK_WORDS * block) BLOCK_WORDS bytes.now) (view_of seat.old) (view_of seat.new) }
+        ensures view { OnlyStores (IsStoredIn (FIRST_WORD + BLOCK_WORDS * block) BLOCK_WORDS bytes.now) (HasEachWord (FIRST_WORD + BLOCK_WORDS * block) BLOCK_WORDS) (view_of seat.old) (view_of seat.new) }
     {
         for index in 0..BLOCK_WORDS {
             self.store_at(
@@ -191,5 +181,15 @@ impl SharedWords {
                 word_in(bytes, 4 * index),
             );
         }
+    }
+}
+
+// The bytes of the page at an index. None if there is no such page.
+fn bytes_at(pages: &Pages, index: usize) -> &[u8]
+    ensures { result.now ≡ bytes_at pages.now index }
+{
+    match pages.at(index) {
+        Some(page) => page.bytes,
+        None => &[],
     }
 }
