@@ -2,4 +2,5 @@ mod Marked
 pub mod Statuses
 mod Halves
 mod Replays
+mod Inspections
 mod Moments

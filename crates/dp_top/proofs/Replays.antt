@@ -12,7 +12,7 @@ use Rattle.epoch_replay.specs.declared.replay_fault.ReplayFault.TheVariants as f
 use Rattle.epoch_replay.specs.Faults.{MetNoOther}
 use Rattle.epoch_replay.specs.Replaying.{EachMoment, OnDisk, Replayed, output_of}
 use Rattle.epoch_replay.specs.Play.{plays_to}
-use Rattle.epoch_replay.proofs.Moments.{noted_moments, quiet}
+use Rattle.epoch_replay.proofs.Moments.{Moments, noted_moments, quiet}
 use Rattle.journal_text.specs.Reading.{reads}
 use Rattle.dp_top.specs.Answer.{status_of_replay}
 use Rattle.dp_top.specs.Running.{ReplayedTo}
@@ -34,23 +34,30 @@ attached before there after answer status same is replayed = (answer, is, subst 
 pub attached_moments : (before there after : Option History) → there ≡ before → OnDisk (known_disk there) (λ bytes. EachMoment (reads bytes) there after) → OnDisk (known_disk before) (λ bytes. EachMoment (reads bytes) before after)
 attached_moments before there after same each = subst (λ (h : Option History). OnDisk (known_disk h) (λ bytes. EachMoment (reads bytes) h after)) same each
 
-quiet_on : (known : Option (List ℕ)) (before after : Option History) → after ≡ before → OnDisk known (λ bytes. EachMoment (reads bytes) before after)
-quiet_on None before after same = ([], quiet (output_of (plays_to (reads []))) before after same)
-quiet_on (Some disk) before after same = quiet (output_of (plays_to (reads disk))) before after same
+-- at every moment the disk is as it was, and a prefix of the text that the disk's bytes say was sent
+abbrev pub Sends : (says : List ℕ → List ℕ) → (known : Option (List ℕ)) → (before after : Option History) → Type 0
+Sends says known before after = OnDisk known (λ bytes. Moments (says bytes) before after)
+
+pub quiet_on : (says : List ℕ → List ℕ) (known : Option (List ℕ)) (before after : Option History) → after ≡ before → Sends says known before after
+quiet_on says None before after same = ([], quiet (says []) before after same)
+quiet_on says (Some disk) before after same = quiet (says disk) before after same
+
+abbrev replayed_text : List ℕ → List ℕ
+replayed_text bytes = output_of (plays_to (reads bytes))
 
 -- nothing was done
 pub quiet_moments : (before after : Option History) → after ≡ before → OnDisk (known_disk before) (λ bytes. EachMoment (reads bytes) before after)
-quiet_moments before after same = quiet_on (known_disk before) before after same
+quiet_moments before after same = quiet_on replayed_text (known_disk before) before after same
 
-told_on : (known : Option (List ℕ)) (before mid after : Option History) (text : List ℕ) (ok : Bool) → OnDisk known (λ bytes. EachMoment (reads bytes) before mid) → IfKnown (Sent Note text ok) mid after
-    → OnDisk known (λ bytes. EachMoment (reads bytes) before after)
-told_on None before mid after text ok each line = (each.0, noted_moments (output_of (plays_to (reads each.0))) text ok before mid after each.1 line)
-told_on (Some disk) before mid after text ok each line = noted_moments (output_of (plays_to (reads disk))) text ok before mid after each line
+pub told_on : (says : List ℕ → List ℕ) (known : Option (List ℕ)) (before mid after : Option History) (text : List ℕ) (ok : Bool) → Sends says known before mid → IfKnown (Sent Note text ok) mid after
+    → Sends says known before after
+told_on says None before mid after text ok each line = (each.0, noted_moments (says each.0) text ok before mid after each.1 line)
+told_on says (Some disk) before mid after text ok each line = noted_moments (says disk) text ok before mid after each line
 
 -- and then the status's line is sent
 pub told_moments : (before mid after : Option History) (text : List ℕ) (ok : Bool) → OnDisk (known_disk before) (λ bytes. EachMoment (reads bytes) before mid) → IfKnown (Sent Note text ok) mid after
     → OnDisk (known_disk before) (λ bytes. EachMoment (reads bytes) before after)
-told_moments before mid after text ok each line = told_on (known_disk before) before mid after text ok each line
+told_moments before mid after text ok each line = told_on replayed_text (known_disk before) before mid after text ok each line
 
 -- ---- the counts of faults at Ok
 

@@ -26,9 +26,9 @@ use Rattle.recorder.proofs.Moments.{nothing_left, nothing_synced}
 use Rattle.dp_report.specs.declared.status.Status.{Status}
 use Rattle.dp_report.specs.declared.status.Status.TheVariants as statuses
 use Rattle.dp_words.specs.declared.command.Command.{Command}
-use Rattle.dp_words.specs.declared.command.Command.TheVariants.{Record, Replay}
+use Rattle.dp_words.specs.declared.command.Command.TheVariants.{Inspect, Record, Replay}
 use Rattle.dp_top.specs.Answer.{status_of}
-use Rattle.dp_top.specs.Asking.{Asked, AskedReplay}
+use Rattle.dp_top.specs.Asking.{Asked, AskedInspection, AskedReplay}
 use Rattle.dp_top.specs.Running.{RecordedAs, CameTo, Did, NamesGuest, IsKnownEmpty, IsNoFault}
 
 -- a disk that could not be attached
@@ -71,6 +71,7 @@ record_met_none (Err faults.OutOfMemory) disk disk_after sink sink_after input i
 abbrev guest_named : Option Command → List ℕ
 guest_named (Some (Record guest journal workers epoch slice ahead mark limit)) = guest
 guest_named (Some (Replay journal workers)) = []
+guest_named (Some (Inspect journal)) = []
 guest_named None = []
 
 -- words ask for one guest
@@ -80,6 +81,7 @@ same_name words a b = ap guest_named (sym a.said ∙ b.said)
 abbrev mark_named : Option Command → ℕ
 mark_named (Some (Record guest journal workers epoch slice ahead mark limit)) = mark
 mark_named (Some (Replay journal workers)) = 0
+mark_named (Some (Inspect journal)) = 0
 mark_named None = 0
 
 -- and for one count of epochs from mark to mark
@@ -89,11 +91,24 @@ same_mark words a b = ap mark_named (sym a.said ∙ b.said)
 abbrev asks_to_record : Option Command → Bool
 asks_to_record (Some (Record guest journal workers epoch slice ahead mark limit)) = true
 asks_to_record (Some (Replay journal workers)) = false
+asks_to_record (Some (Inspect journal)) = false
 asks_to_record None = false
 
 -- words ask for one command
 pub not_both : (words : List (String Global)) → Asked words → AskedReplay words → ⊥
 not_both words record_ replay = let same : true ≡ false = ap asks_to_record (sym record_.said ∙ replay.said) in cc
+
+pub not_recorded : (words : List (String Global)) → Asked words → AskedInspection words → ⊥
+not_recorded words record_ inspect = let same : true ≡ false = ap asks_to_record (sym record_.said ∙ inspect.said) in cc
+
+abbrev asks_to_replay : Option Command → Bool
+asks_to_replay (Some (Record guest journal workers epoch slice ahead mark limit)) = false
+asks_to_replay (Some (Replay journal workers)) = true
+asks_to_replay (Some (Inspect journal)) = false
+asks_to_replay None = false
+
+pub not_replayed : (words : List (String Global)) → AskedReplay words → AskedInspection words → ⊥
+not_replayed words replay inspect = let same : true ≡ false = ap asks_to_replay (sym replay.said ∙ inspect.said) in cc
 
 -- a name has one file
 same_guest : (files : Option (List File)) (name bytes : List ℕ) → NamesGuest name files → IsFetched files name bytes → IsGuestFile bytes
@@ -135,7 +150,8 @@ complete tells words files i j before there status (inl refused) asked names emp
 complete tells words files i j before there status (inr (inl memory)) asked names empty file input disk sink = subst IsNoFault (sym memory.0) tt
 complete tells words files i j before there status (inr (inr (inl did))) asked names empty file input disk sink =
     complete_by tells did.0.guest did.0.options files i j before there status did.1 (subst (λ (n : List ℕ). NamesGuest n files) (same_name words asked did.0) names) empty file input disk sink
-complete tells words files i j before there status (inr (inr (inr did))) asked names empty file input disk sink = absurd (not_both words asked did.0)
+complete tells words files i j before there status (inr (inr (inr (inl did)))) asked names empty file input disk sink = absurd (not_both words asked did.0)
+complete tells words files i j before there status (inr (inr (inr (inr did)))) asked names empty file input disk sink = absurd (not_recorded words asked did.0)
 
 -- a count that rose has risen later too
 pub rose_before : (a b c : ℕ) → a ≤ b → b ≤ c → Rose a b → Rose a c

@@ -3,6 +3,8 @@ use Rattle.std.specs.Prelude.{ℕ, Option, Some, None, Result, Ok, Err}
 use Rattle.dp_report.specs.declared.report.Report.{Report}
 use Rattle.recorder.specs.declared.record_fault.RecordFault.{RecordFault}
 use Rattle.recorder.specs.declared.record_fault.RecordFault.TheVariants as faults
+use Rattle.epoch_replay.specs.declared.inspect_fault.InspectFault.{InspectFault}
+use Rattle.epoch_replay.specs.declared.inspect_fault.InspectFault.TheVariants as inspections
 use Rattle.epoch_replay.specs.declared.replay_fault.ReplayFault.{ReplayFault}
 use Rattle.epoch_replay.specs.declared.replay_fault.ReplayFault.TheVariants as replays
 use Rattle.dp_report.specs.declared.status.Status.{Status}
@@ -35,3 +37,12 @@ status_of_replay (Err (replays.BadMark number)) = statuses.BadMark number
 status_of_replay (Err replays.DiskFault) = statuses.DiskFault
 status_of_replay (Err replays.OutputFault) = statuses.OutputFault
 status_of_replay (Err replays.OutOfMemory) = statuses.OutOfMemory
+
+-- of an inspection
+abbrev pub status_of_inspection : Result (Unit {0}) InspectFault → Status
+status_of_inspection (Ok done) = statuses.Ok
+status_of_inspection (Err inspections.NoJournal) = statuses.NoJournal
+status_of_inspection (Err (inspections.BadJournal number)) = statuses.BadJournal number
+status_of_inspection (Err inspections.DiskFault) = statuses.DiskFault
+status_of_inspection (Err inspections.OutputFault) = statuses.OutputFault
+status_of_inspection (Err inspections.OutOfMemory) = statuses.OutOfMemory

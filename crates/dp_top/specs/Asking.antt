@@ -4,7 +4,7 @@ use Rattle.std.specs.declared.alloc.Global.{Global}
 use Rattle.dp_base.specs.declared.limits.TheConstants.{MAX_JOURNAL_BYTES}
 use Rattle.dp_words.specs.Commands.{are_taken, command_of}
 use Rattle.dp_words.specs.declared.command.Command.{Command}
-use Rattle.dp_words.specs.declared.command.Command.TheVariants.{Record, Replay}
+use Rattle.dp_words.specs.declared.command.Command.TheVariants.{Inspect, Record, Replay}
 use Rattle.recorder.specs.declared.options.Options.{Options}
 
 -- a recording of this guest into this journal with these options
@@ -26,3 +26,9 @@ pub record AskedReplay (words : List (String Global)) : Type 0 where
   pub workers : ℕ
   pub taken : are_taken words ≡ true
   pub said : command_of words ≡ Some (Replay journal workers)
+
+-- the words ask for an inspection of this journal
+pub record AskedInspection (words : List (String Global)) : Type 0 where
+  pub journal : List ℕ
+  pub taken : are_taken words ≡ true
+  pub said : command_of words ≡ Some (Inspect journal)

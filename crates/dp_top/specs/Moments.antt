@@ -1,11 +1,13 @@
--- What a crash leaves at every moment of a record command. This project's own.
-use Rattle.std.specs.Prelude.{◌≡◌, ◌⊎◌, ◌<◌, ℕ, List, [], ◌++◌, length, Option, None}
+-- What a crash leaves at every moment of a command. This project's own.
+use Rattle.std.specs.Prelude.{◌≡◌, ◌⊎◌, ◌<◌, ℕ, List, [], ◌++◌, length, Option, None, Some}
 use Rattle.disk_model.specs.Directory.{File, IsFetched}
 use Rattle.disk_model.specs.History.{History, IsImage, IsSynced}
 use Rattle.disk_model.specs.Input.{Input}
 use Rattle.disk_model.specs.Moments.{Always}
 use Rattle.guest_kernel.specs.Start.{IsGuestFile, start_state}
-use Rattle.journal_text.specs.Reading.{reads}
+use Rattle.epoch_replay.specs.Inspecting.{SendsInOrder}
+use Rattle.epoch_replay.specs.Inspection.{inspection}
+use Rattle.journal_text.specs.Reading.{Reading, reads}
 use Rattle.recorder.specs.Moments.{IsRecording}
 
 -- The image is a recording of the guest whose file has this name, from its start, with a mark after every so many epochs, and what was said is
@@ -32,3 +34,12 @@ EveryMoment name every files i j s t = (s.disk ≡ [] → IsSynced s → Always 
 -- at every moment all is still
 abbrev pub StillThroughout : History → History → Type 0
 StillThroughout s t = Always (IsStill s) s t
+
+-- what an inspection lists: nothing where there is no journal
+abbrev pub listing_of : Option Reading → List ℕ
+listing_of None = []
+listing_of (Some r) = inspection r
+
+-- at every moment of an inspection the disk is as it was, and a prefix of the listing was sent
+abbrev pub EachListingMoment : Option Reading → (before after : Option History) → Type 0
+EachListingMoment reading before after = SendsInOrder (listing_of reading) before after

@@ -20,11 +20,13 @@ use Rattle.recorder.specs.declared.record_fault.RecordFault.{RecordFault}
 use Rattle.recorder.specs.Moments.{EachMoment}
 use Rattle.recorder.specs.Recording.{Recorded}
 use Rattle.dp_words.specs.Commands.{are_taken}
+use Rattle.epoch_replay.specs.declared.inspect_fault.InspectFault.{InspectFault}
 use Rattle.epoch_replay.specs.declared.replay_fault.ReplayFault.{ReplayFault}
+use Rattle.epoch_replay.specs.Inspecting.{Inspected}
 use Rattle.epoch_replay.specs.Replaying.{OnDisk, Replayed}
-use Rattle.journal_text.specs.Reading.{reads}
-use Rattle.dp_top.specs.Answer.{status_of, status_of_replay}
-use Rattle.dp_top.specs.Asking.{Asked, AskedReplay}
+use Rattle.journal_text.specs.Reading.{Reading, end as ends_at, reads}
+use Rattle.dp_top.specs.Answer.{status_of, status_of_inspection, status_of_replay}
+use Rattle.dp_top.specs.Asking.{Asked, AskedInspection, AskedReplay}
 
 -- The file of this name, which is of bytes, is a guest, and its recording with these options came to this, by a racer that told this at first.
 pub record RecordedAs (tells : Tells) (name : List ℕ) (options : Options) (files : Option (List File)) (i j : Option Input) (before after : Option History) (answer : Result Report RecordFault) : Type 0 where
@@ -48,17 +50,23 @@ abbrev pub ReplayedTo : Option History → Option History → Status → Type 0
 ReplayedTo before after status = (answer : Result Report ReplayFault) × (status ≡ status_of_replay answer)
     × OnDisk (known_disk before) (λ bytes. Replayed (reads bytes) before after answer)
 
--- The words aren't taken, or ask for a recording or for a replay that came to this. Only a recording takes from the input or reads
--- the clock.
+-- What an inspection comes to, before its status is told on Note: a listing of the bytes that the disk reads as.
+abbrev pub InspectedTo : Option History → Option History → Status → Type 0
+InspectedTo before after status = (answer : Result (Unit {0}) InspectFault) × (status ≡ status_of_inspection answer)
+    × OnDisk (known_disk before) (λ bytes. Inspected (reads bytes) before after answer)
+
+-- The words aren't taken, or ask for a recording, a replay or an inspection that came to this. Only a recording takes from the input or
+-- reads the clock.
 abbrev pub Did : Tells → List (String Global) → Option (List File) → (i j : Option Input) → (before after : Option History) → Status → Type 0
 Did tells words files i j before after status =
     ((status ≡ statuses.Usage) × (are_taken words ≡ false) × (j ≡ i) × (after ≡ before))
     ⊎ ((status ≡ statuses.OutOfMemory) × (j ≡ i) × (after ≡ before))
     ⊎ ((a : Asked words) × CameTo tells a.guest a.options files i j before after status)
     ⊎ (AskedReplay words × (j ≡ i) × ReplayedTo before after status)
+    ⊎ (AskedInspection words × (j ≡ i) × InspectedTo before after status)
 
 -- The command came to this, and then the status's line was sent on Note: all of it, or a prefix. At Ok it has no line: the
--- report's has been sent by then.
+-- report's has been sent by then, and an inspection has none.
 abbrev pub Ran : Tells → List (String Global) → Option (List File) → (i j : Option Input) → (before after : Option History) → Status → (told : Bool) → Type 0
 Ran tells words files i j before after status told = (done : Option History) × Did tells words files i j before done status × IfKnown (Sent Note (status_line status) told) done after
 
@@ -77,6 +85,11 @@ NamesGuest name (Some files) = (bytes : List ℕ) × IsFetched (Some files) name
 abbrev pub IsKnownEmpty : Option History → Type 0
 IsKnownEmpty None = ⊥
 IsKnownEmpty (Some h) = h.disk ≡ []
+
+-- it is known that the disk has a journal of which no record is malformed
+abbrev pub IsKnownListed : Option (List ℕ) → Type 0
+IsKnownListed None = ⊥
+IsKnownListed (Some disk) = (r : Reading) × (place : ℕ) × (reads disk ≡ Some r) × (r.tail ≡ ends_at place)
 
 -- the answers of a recording in which nothing failed
 abbrev pub IsNoFault : Status → Type 0

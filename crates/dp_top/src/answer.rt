@@ -1,9 +1,9 @@
 // The status of an answer.
 ghost use Rattle.std.specs.Prelude.{◌≡◌};
-ghost use Rattle.dp_top.specs.Answer.{status_of, status_of_replay};
+ghost use Rattle.dp_top.specs.Answer.{status_of, status_of_inspection, status_of_replay};
 
 use dp_report::{Report, Status};
-use epoch_replay::ReplayFault;
+use epoch_replay::{InspectFault, ReplayFault};
 use recorder::RecordFault;
 
 /// The status of a recording's answer.
@@ -36,5 +36,19 @@ pub fn status_of_replayed(answer: Result<Report, ReplayFault>) -> Status
         Err(ReplayFault::DiskFault) => Status::DiskFault,
         Err(ReplayFault::OutputFault) => Status::OutputFault,
         Err(ReplayFault::OutOfMemory) => Status::OutOfMemory,
+    }
+}
+
+/// The status of an inspection's answer.
+pub fn status_of_inspected(answer: Result<(), InspectFault>) -> Status
+    ensures { result ≡ status_of_inspection answer }
+{
+    match answer {
+        Ok(()) => Status::Ok,
+        Err(InspectFault::NoJournal) => Status::NoJournal,
+        Err(InspectFault::BadJournal(number)) => Status::BadJournal(number),
+        Err(InspectFault::DiskFault) => Status::DiskFault,
+        Err(InspectFault::OutputFault) => Status::OutputFault,
+        Err(InspectFault::OutOfMemory) => Status::OutOfMemory,
     }
 }

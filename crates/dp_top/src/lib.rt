@@ -5,8 +5,9 @@
 //! moment a recording is stopped, what a crash leaves is no journal, and nothing was sent; or whole epochs in order that are one
 //! execution on the guest's input, of whose output a prefix was sent (`every_moment`), and plays to just that execution
 //! (`laws::a_crash_plays_to_its_run`). A replay
-//! answers what its journal plays to, sends exactly that output, and doesn't write the disk. After each other status what
-//! stands is named, and each comes only for its own cause. On Note goes the report's line at `Ok`, and else the status's line:
+//! answers what its journal plays to, sends exactly that output, and doesn't write the disk. An inspection sends exactly the listing of
+//! its journal, and doesn't write the disk. After each other status what
+//! stands is named, and each comes only for its own cause. On Note goes the report's line at `Ok`, which an inspection doesn't have, and else the status's line:
 //! all of it, or a prefix where the stream failed. Where the report's line was cut off, its prefix stands before the line of
 //! that status. The two halves meet in `laws`. Stands on `dp_words`, `recorder`, `epoch_replay`, `dp_report`, `guest_kernel`
 //! and `disk_model`.
@@ -20,6 +21,7 @@
 #![tactic(auto)]
 
 mod answer;
+mod inspecting;
 pub mod laws;
 mod recording;
 mod replaying;

@@ -7,10 +7,11 @@ ghost use Rattle.journal_text.specs.Reading.{reads};
 ghost use Rattle.dp_words.specs.Commands.{are_taken};
 ghost use Rattle.elf_image.specs.Faults.{number_of};
 ghost use Rattle.dp_top.specs.Answer.{status_of_image};
-ghost use Rattle.dp_top.specs.Asking.{Asked, AskedReplay};
-ghost use Rattle.dp_top.specs.Moments.{EveryMoment, StillThroughout};
-ghost use Rattle.dp_top.specs.Running.{CameTo, Did, IsBadImage, IsKnownEmpty, IsNoFault, NamesGuest, Ran};
+ghost use Rattle.dp_top.specs.Asking.{Asked, AskedInspection, AskedReplay};
+ghost use Rattle.dp_top.specs.Moments.{EachListingMoment, EveryMoment, StillThroughout};
+ghost use Rattle.dp_top.specs.Running.{CameTo, Did, IsBadImage, IsKnownEmpty, IsKnownListed, IsNoFault, NamesGuest, Ran};
 
+use crate::inspecting::inspect_journal;
 use crate::recording::record_guest;
 use crate::replaying::replay_journal;
 use disk_model::{FetchFault, Files, Gate, Inlet, World};
@@ -26,12 +27,13 @@ use std::thread::Threads;
 /// Does what the words say. `NAME record GUEST JOURNAL` with its options records the guest whose file GUEST names, with the input
 /// and the clock of the inlet, into the journal JOURNAL of the world, which is made if there is none, and sends the guest's output
 /// on Out. `NAME replay JOURNAL`
-/// replays the journal, which isn't written, from itself alone, and sends the output of its epochs on Out. On Note goes the report's line at
-/// `Ok`, and the status's line else. The world comes back whatever happens.
+/// replays the journal, which isn't written, from itself alone, and sends the output of its epochs on Out. `NAME inspect JOURNAL` sends on Out
+/// a line for each record of the journal, runs none of them, and doesn't write the journal. On Note goes the report's line at
+/// `Ok`, which an inspection doesn't have, and the status's line else. The world comes back whatever happens.
 ///
 /// The words are looked at first. For a recording then come the guest's file, its image, and the disk: after `Usage`,
 /// `GuestFault` and a recording's `BadImage` the disk is as it was, and has met no fault. For a replay then come the disk, the
-/// journal's guest and its records. A status's line that can't be sent changes no status. A recording's jobs run on threads of the runtime
+/// journal's guest and its records, and for an inspection the disk and the journal's records. A status's line that can't be sent changes no status. A recording's jobs run on threads of the runtime
 /// `rt`, at most as many as the words' `--workers`. They start in states that the racer offers, at most `--ahead` in a round, and before each
 /// of them its worker passes the gate. The parts of a journal between marks are replayed on as many threads as the words of a replay say.
 pub fn run<R: Threads + Sync, F: Files, I: Inlet, W: World, Q: Racer, G: Gate + Sync>(
@@ -65,6 +67,10 @@ pub fn run<R: Threads + Sync, F: Files, I: Inlet, W: World, Q: Racer, G: Gate + 
     ensures every_replay_moment { AskedReplay words.now → OnDisk (known_disk (W.history world))
         (λ bytes. EachMoment (reads bytes) (W.history world) (W.history result.0)) }
 
+    // At every moment of an inspection the disk is as it was, and a prefix of its journal's listing was sent.
+    ensures every_listing_moment { AskedInspection words.now → OnDisk (known_disk (W.history world))
+        (λ bytes. EachListingMoment (reads bytes) (W.history world) (W.history result.0)) }
+
     // At `Ok` no take and no emit failed.
     ensures none { result.1 ≡ Status.Ok → (I.input_faults inlet.new ≡ I.input_faults inlet.old)
         × (W.sink_faults result.0 ≡ W.sink_faults world) }
@@ -95,6 +101,12 @@ pub fn run<R: Threads + Sync, F: Files, I: Inlet, W: World, Q: Racer, G: Gate + 
 
     // With a journal that plays to its end and no fault a replay answers Ok or OutOfMemory.
     ensures complete_replay { AskedReplay words.now → IsKnownToEnd (known_disk (W.history world)) →
+        (Rose (W.disk_faults world) (W.disk_faults result.0) → ⊥) →
+        (Rose (W.sink_faults world) (W.sink_faults result.0) → ⊥) →
+        (result.1 ≡ Status.Ok) ⊎ (result.1 ≡ Status.OutOfMemory) }
+
+    // With a journal of which no record is malformed and no fault an inspection answers Ok or OutOfMemory.
+    ensures complete_inspection { AskedInspection words.now → IsKnownListed (known_disk (W.history world)) →
         (Rose (W.disk_faults world) (W.disk_faults result.0) → ⊥) →
         (Rose (W.sink_faults world) (W.sink_faults result.0) → ⊥) →
         (result.1 ≡ Status.Ok) ⊎ (result.1 ≡ Status.OutOfMemory) }
@@ -173,6 +185,7 @@ fn do_command<R: Threads + Sync, F: Files, I: Inlet, W: World, Q: Racer, G: Gate
         Ok(Command::Replay { journal, workers }) => {
             replay_journal(rt, alloc, world, journal.as_str(), workers)
         }
+        Ok(Command::Inspect { journal }) => inspect_journal(alloc, world, journal.as_str()),
         Err(WordsFault::Usage) => (world, Status::Usage),
         Err(WordsFault::OutOfMemory) => (world, Status::OutOfMemory),
     }

@@ -37,11 +37,17 @@ replay_words =
     ∷ number (codes "workers") 1 64 (codes "4")
     ∷ []
 
+abbrev pub inspect_words : List Rule
+inspect_words = text (codes "journal") ∷ []
+
 abbrev pub record_line : App
 record_line = fold with_rule (new_app (codes "record")) record_words
 
 abbrev pub replay_line : App
 replay_line = fold with_rule (new_app (codes "replay")) replay_words
+
+abbrev pub inspect_line : App
+inspect_line = fold with_rule (new_app (codes "inspect")) inspect_words
 
 -- one of the subcommands must be there, and `help` is none of them
 abbrev pub no_words : App
@@ -50,4 +56,4 @@ no_words =
     (new_app (codes "dpcli"))
 
 abbrev pub command_line : App
-command_line = with_subcommand (with_subcommand no_words record_line.top) replay_line.top
+command_line = with_subcommand (with_subcommand (with_subcommand no_words record_line.top) replay_line.top) inspect_line.top

@@ -1,12 +1,12 @@
 -- The command that the words of a command line say, by what clap finds in them.
-use Rattle.std.specs.Prelude.{◌≤◌, ℕ, Bool, List, [], Option, Some, None, codes, if◌then◌else◌, unwrap_or, map, String, string_bytes}
+use Rattle.std.specs.Prelude.{◌≤◌, ⊤, ℕ, Bool, List, [], Option, Some, None, codes, if◌then◌else◌, unwrap_or, map, String, string_bytes}
 use Rattle.std.specs.Str.{bytes_eq}
 use Rattle.std.specs.Str.Parse.{digits_value, without_leading_plus}
 use Rattle.std.specs.declared.alloc.Global.{Global}
 use Rattle.clap.specs.Words.{Row, Text, first_of, subcommand_of, takes}
 use Rattle.dp_words.specs.CommandLine.{command_line}
 use Rattle.dp_words.specs.declared.command.Command.{Command}
-use Rattle.dp_words.specs.declared.command.Command.TheVariants.{Record, Replay}
+use Rattle.dp_words.specs.declared.command.Command.TheVariants.{Inspect, Record, Replay}
 
 -- the text of this name: words that are taken have one, so that the empty text never stands for it
 abbrev pub text_of : Text → List Row → Text
@@ -25,11 +25,15 @@ record_of rows = Record (text_of (codes "guest") rows) (text_of (codes "journal"
 abbrev pub replay_of : List Row → Command
 replay_of rows = Replay (text_of (codes "journal") rows) (number_of (codes "workers") rows)
 
+abbrev pub inspect_of : List Row → Command
+inspect_of rows = Inspect (text_of (codes "journal") rows)
+
 -- which subcommand it is, a row for each
 abbrev pub named_command : Text → List Row → Option Command
 named_command name rows =
     if bytes_eq name (codes "record") then Some (record_of rows)
     else if bytes_eq name (codes "replay") then Some (replay_of rows)
+    else if bytes_eq name (codes "inspect") then Some (inspect_of rows)
     else None
 
 abbrev pub command_found : Option (Text × List Row) → Option Command
@@ -51,3 +55,4 @@ IsInRange (Record guest journal workers epoch slice ahead mark limit) =
     × (1 ≤ slice) × (slice ≤ 100000) × (1 ≤ ahead) × (ahead ≤ 64)
     × (mark ≤ 1000) × (1 ≤ limit) × (limit ≤ 1000000000000)
 IsInRange (Replay journal workers) = (1 ≤ workers) × (workers ≤ 64)
+IsInRange (Inspect journal) = ⊤

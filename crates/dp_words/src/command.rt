@@ -30,4 +30,9 @@ pub enum Command {
         /// How many workers, 1 to 64.
         workers: u32,
     },
+    /// List the records of a journal.
+    Inspect {
+        /// The name of the journal's file.
+        journal: Text,
+    },
 }

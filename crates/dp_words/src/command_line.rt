@@ -2,7 +2,7 @@
 ghost use Rattle.std.specs.Prelude.{◌≡◌, IfOk, false};
 ghost use Rattle.clap.specs.Words.{app_of, with_rule};
 ghost use Rattle.clap.specs.declared.builder.command.Command.TheViews.{out-Command as fields_of};
-ghost use Rattle.dp_words.specs.CommandLine.{command_line, number, record_line, replay_line, text};
+ghost use Rattle.dp_words.specs.CommandLine.{command_line, inspect_line, number, record_line, replay_line, text};
 
 use clap::builder::ValueParser;
 use clap::{Arg, ArgAction, Command};
@@ -17,7 +17,8 @@ pub fn command_line<'a>(alloc: Global) -> Result<Command<'a>, AllocError>
         .subcommand_required(true)
         .disable_help_subcommand(true)
         .subcommand(record(alloc)?)?
-        .subcommand(replay(alloc)?)
+        .subcommand(replay(alloc)?)?
+        .subcommand(inspect(alloc)?)
 }
 
 // `record GUEST JOURNAL` and its options.
@@ -42,6 +43,13 @@ fn replay<'a>(alloc: Global) -> Result<Command<'a>, AllocError>
     let replay = Command::new(alloc, "replay");
     let replay = with_text(alloc, replay, "journal")?;
     with_number(alloc, replay, "workers", 1, MAX_WORKERS as u64, "4")
+}
+
+// `inspect JOURNAL`.
+fn inspect<'a>(alloc: Global) -> Result<Command<'a>, AllocError>
+    ensures { IfOk result (λ line. (app_of line ≡ inspect_line) × ((fields_of line).has_globals ≡ false)) }
+{
+    with_text(alloc, Command::new(alloc, "inspect"), "journal")
 }
 
 // The line with one more text, which must be there.

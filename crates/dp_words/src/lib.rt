@@ -1,4 +1,5 @@
-//! The words of a command line become a command: `record GUEST JOURNAL` with its options, or `replay JOURNAL`.
+//! The words of a command line become a command: `record GUEST JOURNAL` and `replay JOURNAL` with their options, or
+//! `inspect JOURNAL`.
 //!
 //! Promises (the contract of `parse`): it answers `Usage` only at words that the command line doesn't take, and a command
 //! only at words that it takes; the command is the one that the words say, and each number is in its range. Stands on
@@ -8,6 +9,7 @@
 //! match parse(alloc, &words) {
 //!     Ok(Command::Record { guest, journal, workers, .. }) => record(guest.as_str(), journal.as_str(), workers),
 //!     Ok(Command::Replay { journal, workers }) => replay(journal.as_str(), workers),
+//!     Ok(Command::Inspect { journal }) => inspect(journal.as_str()),
 //!     Err(fault) => Err(fault),
 //! }
 //! ```

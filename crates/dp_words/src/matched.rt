@@ -1,8 +1,8 @@
 // What a parse found, as the values of a command.
 ghost use Rattle.std.specs.Prelude.{◌≡◌, ◌<◌, ◌^◌, IfOk};
 ghost use Rattle.clap.specs.Words.{found_of, rows_of};
-ghost use Rattle.dp_words.specs.CommandLine.{record_words, replay_words};
-ghost use Rattle.dp_words.specs.Commands.{IsInRange, number_of, record_of, replay_of, text_of};
+ghost use Rattle.dp_words.specs.CommandLine.{inspect_words, record_words, replay_words};
+ghost use Rattle.dp_words.specs.Commands.{IsInRange, inspect_of, number_of, record_of, replay_of, text_of};
 ghost use Rattle.dp_words.specs.Found.{HasNumber, HasText, HasValues};
 
 use crate::command::Command;
@@ -40,6 +40,17 @@ pub fn replay(alloc: Global, matches: &ArgMatches<'_>) -> Result<Command, AllocE
     Ok(Command::Replay {
         journal: text(alloc, matches, "journal")?,
         workers,
+    })
+}
+
+/// The command of `inspect`. It fails only if an allocation does.
+pub fn inspect(alloc: Global, matches: &ArgMatches<'_>) -> Result<Command, AllocError>
+    requires { HasValues inspect_words (rows_of (found_of matches.now)) }
+    ensures command { IfOk result (λ command. command ≡ inspect_of (rows_of (found_of matches.now))) }
+    ensures ranges { IfOk result IsInRange }
+{
+    Ok(Command::Inspect {
+        journal: text(alloc, matches, "journal")?,
     })
 }
 

@@ -57,6 +57,7 @@ fn found(alloc: Global, matches: &ArgMatches<'_>) -> Result<Command, AllocError>
     match matches.subcommand().unwrap() {
         ("record", matches) => matched::record(alloc, matches),
         ("replay", matches) => matched::replay(alloc, matches),
+        ("inspect", matches) => matched::inspect(alloc, matches),
         _ => unreachable!(),
     }
 }

@@ -4,7 +4,7 @@ use std::test::Fail;
 
 #[test]
 fn words_that_are_taken(rt: HostRuntime) -> Result<(), Fail> {
-    let cases: [(&str, &str, [u64; 6]); 6] = [
+    let cases: [(&str, &str, [u64; 6]); 8] = [
         ("dpcli replay j", "j", [4, 0, 0, 0, 0, 0]),
         (
             "dpcli record g j",
@@ -27,6 +27,8 @@ fn words_that_are_taken(rt: HostRuntime) -> Result<(), Fail> {
             [4, 20_000, 1000, 16, 16, 1_000_000_000],
         ),
         ("x replay --workers 2 j", "j", [2, 0, 0, 0, 0, 0]),
+        ("dpcli inspect j", "inspect j", [0; 6]),
+        ("x inspect -- --j", "inspect --j", [0; 6]),
     ];
     for (line, said, values) in cases {
         let (texts, numbers) = said_by(&rt, line)?;
@@ -36,7 +38,8 @@ fn words_that_are_taken(rt: HostRuntime) -> Result<(), Fail> {
     Ok(())
 }
 
-// The texts of the command that a line says, and its numbers; a replay has zeros for those that it lacks.
+// The texts of the command that a line says, and its numbers, with zeros for those that it lacks. The texts of an inspection begin
+// with its name.
 fn said_by(rt: &HostRuntime, line: &str) -> Result<(String, [u64; 6]), Fail> {
     let alloc = rt.alloc();
     let words = words_of(rt, line)?;
@@ -68,6 +71,10 @@ fn said_by(rt: &HostRuntime, line: &str) -> Result<(String, [u64; 6]), Fail> {
             journal.into_string(),
             [u64::from(workers), 0, 0, 0, 0, 0],
         )),
+        Ok(Command::Inspect { journal }) => Ok((
+            format!(in alloc; "inspect {}", journal.as_str())?,
+            [0; 6],
+        )),
         Err(_) => Err(Fail::from("refused")),
     }
 }
@@ -93,7 +100,11 @@ fn words_that_are_refused(rt: HostRuntime) -> Result<(), Fail> {
         "dpcli record g",
         "dpcli record g j k",
         "dpcli replay",
-        "dpcli inspect j",
+        "dpcli inspect",
+        "dpcli inspect j k",
+        "dpcli inspect j --workers 4",
+        "dpcli inspect --help",
+        "dpcli inspects j",
         "dpcli record g j --epoch x",
         "dpcli record g j --limit 1000000000001",
     ];

@@ -1,5 +1,5 @@
 use Rattle.std.proofs.Common.{Some, inl, inr, refl, ◌∙◌, ap}
-use Rattle.dp_top.specs.Asking.{Asked, AskedReplay}
+use Rattle.dp_top.specs.Asking.{Asked, AskedInspection, AskedReplay}
 use Rattle.dp_top.proofs.Replays.{quiet_moments}
 use Rattle.dp_top.proofs.top.do_command.Goals as goal
 
@@ -41,7 +41,17 @@ returns-in-Ok-Replay-clause-did g c =
       taken = w.ensures.taken;
       said = w.ensures.command ∙ ap Some w.field-0-is;
     } in
-    inr (inr (inr (asked, refl {a = g.I.Inlet.input c.args.inlet.now}, c.replay_journal.ensures.replayed)))
+    inr (inr (inr (inl (asked, refl {a = g.I.Inlet.input c.args.inlet.now}, c.replay_journal.ensures.replayed))))
+
+pub returns-in-Ok-Inspect-clause-did : goal.returns-in-Ok-Inspect-clause-did
+returns-in-Ok-Inspect-clause-did g c =
+    let w = c.in-Ok-Inspect in
+    let asked : AskedInspection c.args.words.now = record {
+      journal = w.journal;
+      taken = w.ensures.taken;
+      said = w.ensures.command ∙ ap Some w.field-0-is;
+    } in
+    inr (inr (inr (inr (asked, refl {a = g.I.Inlet.input c.args.inlet.now}, c.inspect_journal.ensures.inspected))))
 
 pub returns-in-Err-OutOfMemory-clause-replay_moments : goal.returns-in-Err-OutOfMemory-clause-replay_moments
 returns-in-Err-OutOfMemory-clause-replay_moments g c = λ asked. quiet_moments _ _ refl

@@ -1,4 +1,5 @@
 use Rattle.std.proofs.Common.{ap, ◌∙◌}
+use Rattle.dp_top.proofs.Inspections.{command_listing, complete_listing}
 use Rattle.dp_top.proofs.Replays.{told_moments}
 use Rattle.std.specs.Prelude.{is_ok}
 use Rattle.dp_top.proofs.Moments.{command_moments, still_throughout}
@@ -35,6 +36,17 @@ returns-clause-still g c = λ why. still_throughout _ _ _ c.do_command-world.res
 
 pub returns-clause-every_replay_moment : goal.returns-clause-every_replay_moment
 returns-clause-every_replay_moment g c = λ asked. told_moments _ _ _ _ _ (c.do_command-world.ensures.replay_moments asked) c.emit_fault.ensures.history
+
+pub returns-clause-every_listing_moment : goal.returns-clause-every_listing_moment
+returns-clause-every_listing_moment g c = λ asked.
+    command_listing (g.Q.Racer.tells c.args.racer.now) c.args.words.now _ _ _ _ _ _ c.do_command-world.result.1 _ _ c.do_command-world.ensures.did asked c.emit_fault.ensures.history
+
+pub returns-clause-complete_inspection : goal.returns-clause-complete_inspection
+returns-clause-complete_inspection g c = λ asked whole disk sink.
+    let did = c.do_command-world.ensures in
+    complete_listing (g.Q.Racer.tells c.args.racer.now) c.args.words.now _ _ _ _ _ c.do_command-world.result.1 did.did asked whole
+    (λ is. disk (rose_same _ _ _ c.emit_fault.ensures.disk (did.disk_fault is)))
+    (λ is. sink (rose_before _ _ _ did.sink_count c.emit_fault.ensures.count (did.output_fault is)))
 
 pub returns-clause-no_disk_call : goal.returns-clause-no_disk_call
 returns-clause-no_disk_call g c = λ why. c.emit_fault.ensures.disk ∙ ap g.W.World.disk_faults (c.do_command-world.ensures.no_call why)
