@@ -23,6 +23,8 @@ mod guest_emit_tests;
 #[cfg(test)]
 mod image_tests;
 #[cfg(test)]
+mod inspect_tests;
+#[cfg(test)]
 mod mark_tests;
 #[cfg(test)]
 mod replay_tests;

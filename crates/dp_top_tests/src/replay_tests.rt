@@ -34,7 +34,7 @@ fn are_reads(calls: &[Call]) -> bool {
 }
 
 // A world some of whose calls fail, which has this journal on its disk, and takes so many bytes at most at an emit.
-fn world_with(
+pub(crate) fn world_with(
     alloc: Global,
     journal: &[u8],
     disk: Failing,
@@ -62,7 +62,7 @@ fn is_right(world: &MemWorld, journal: &[u8], sent: &[u8], noted: &[u8]) -> Resu
 
 // The status of a replay in this world, and its number, where it sent these bytes on Out and on Note, and did no more than read the
 // disk, which has this journal.
-fn replays_as<R: Threads + Sync>(
+pub(crate) fn replays_as<R: Threads + Sync>(
     rt: &R,
     alloc: Global,
     words: &[&str],

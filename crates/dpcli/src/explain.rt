@@ -43,7 +43,7 @@ fn file_of(status: Status, command: &Command) -> Option<&str> {
             Status::DiskFault => Some(journal.as_str()),
             _ => None,
         },
-        Command::Replay { journal, .. } => match status {
+        Command::Replay { journal, .. } | Command::Inspect { journal } => match status {
             Status::DiskFault => Some(journal.as_str()),
             _ => None,
         },

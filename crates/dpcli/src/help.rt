@@ -18,7 +18,8 @@ pub(crate) fn command_line<'a>(alloc: Global) -> Result<Command<'a>, AllocError>
         )
         .subcommand_required(true)
         .subcommand(record(alloc)?)?
-        .subcommand(replay(alloc)?)
+        .subcommand(replay(alloc)?)?
+        .subcommand(inspect(alloc)?)
 }
 
 /// What each command does, and what it takes: the help of all of them. It fails only if an allocation does.
@@ -28,6 +29,8 @@ pub(crate) fn help(alloc: Global) -> Result<String, AllocError> {
     text.push_str(record(alloc)?.render_help()?.as_str())?;
     text.push_str("\n")?;
     text.push_str(replay(alloc)?.render_help()?.as_str())?;
+    text.push_str("\n")?;
+    text.push_str(inspect(alloc)?.render_help()?.as_str())?;
     Ok(text)
 }
 
@@ -112,6 +115,13 @@ fn replay<'a>(alloc: Global) -> Result<Command<'a>, AllocError> {
             "4",
             "Threads for the parts of a journal between marks, 1 to 64",
         ))
+}
+
+fn inspect<'a>(alloc: Global) -> Result<Command<'a>, AllocError> {
+    Command::new(alloc, "inspect")
+        .bin_name("dpcli inspect")?
+        .about("Lists the records of a journal on standard output, and runs nothing.")
+        .arg(text(alloc, "journal", "JOURNAL", "The journal's file"))
 }
 
 // A text that must be there.
