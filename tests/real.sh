@@ -22,7 +22,7 @@ many=$(mktemp -d -p /dev/shm 2>/dev/null || mktemp -d) || exit 1
 trap 'rm -rf "$work" "$many"' EXIT
 cd "$work" || exit 1
 
-checks=1023 # how many there are below; one that isn't made must be missed
+checks=1039 # how many there are below; one that isn't made must be missed
 passed=0
 failed=0
 
@@ -549,6 +549,33 @@ for mark in 1 3 7 16 21; do
     check "racing, a mark after each $mark epochs, replayed by $workers workers: another report" note_has " squashes 0 steps 600000 sent $(bytes_of out) end none"
   done
 done
+
+# ---- what a journal holds
+
+# lists NAME INPUT: a line for the guest, one for each record in order, with the steps of the report in all, and one for the list's end.
+lists() {
+  local name=$1 input=$2 steps
+  rm -f listed.dpj
+  run record "$guests/$name.elf" listed.dpj --epoch 3000 --mark 2 <"$input"
+  read -r _ _ _ _ _ steps _ <note
+  run inspect listed.dpj
+  check "$name listed: the status is $status" ended_with 0
+  check "$name listed: another first line" test "$(head -n 1 out)" = "guest $(bytes_of "$guests/$name.elf")"
+  check "$name listed: another last line" test "$(tail -n 1 out)" = "end $(($(bytes_of listed.dpj) - 1))"
+  check "$name listed: records out of order" awk '/ (epoch|mark) /{ if ($1 != ++number) exit 1 } END { exit number < 2 }' out
+  check "$name listed: other steps" test "$(awk '$2 == "epoch" { steps += $6 } END { print steps }' out)" = "$steps"
+  check "$name listed: something on standard error" is_empty note
+}
+lists filter "$guests/filter.in"
+lists producer_consumer /dev/null
+: >nothing.dpj
+run inspect nothing.dpj
+check "nothing listed: the status is $status" ended_with 14
+check "nothing listed: another line" note_has "dpcli: no journal"
+printf '\1DPJ1\0\0\0\0\1\1\0\0\0?\0' >bad.dpj
+run inspect bad.dpj
+check "a malformed record listed: the status is $status" ended_with 9
+check "a malformed record listed: another listing" test "$(cat out)" = "guest 0"
 
 # ---- a journal that is cut
 
