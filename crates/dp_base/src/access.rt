@@ -1,3 +1,9 @@
+// What an access to memory asks for, and what it comes to.
+ghost use Rattle.std.specs.Prelude.{◌≡◌};
+ghost use Rattle.dp_base.specs.Memory.{amo_result};
+
+use crate::is_below_signed;
+
 /// How many bytes a load or a store has.
 #[derive(Clone, Copy, Debug, PartialEq, Eq)]
 pub enum Width {
@@ -29,4 +35,26 @@ pub enum AmoOp {
     Max,
     MinU,
     MaxU,
+}
+
+impl AmoOp {
+    /// Returns the word that an AMO stores where it found this old word.
+    #[inline(always)]
+    pub fn result(self, old: u32, value: u32) -> u32
+        ensures { result ≡ amo_result self old value }
+    {
+        match self {
+            AmoOp::Swap => value,
+            AmoOp::Add => old.wrapping_add(value),
+            AmoOp::Xor => old ^ value,
+            AmoOp::And => old & value,
+            AmoOp::Or => old | value,
+            AmoOp::Min if is_below_signed(old, value) => old,
+            AmoOp::Min => value,
+            AmoOp::Max if is_below_signed(old, value) => value,
+            AmoOp::Max => old,
+            AmoOp::MinU => old.min(value),
+            AmoOp::MaxU => old.max(value),
+        }
+    }
 }

@@ -93,8 +93,9 @@ fn skip_epoch_body(bytes: &[u8]) -> Option<&[u8]>
     }
 }
 
-// How many steps so many slices have together, and the bytes behind them.
-fn skip_slices(count: u32, bytes: &[u8]) -> Option<(u64, &[u8])>
+/// How many steps the first `count` slices have together, and the bytes behind these. `None`: one of them isn't there
+/// whole, or its thread or number of steps is 0.
+pub fn skip_slices(count: u32, bytes: &[u8]) -> Option<(u64, &[u8])>
     ensures { option_map {U = ℕ × List ℕ} (λ x. (x.0, x.1.now)) result
         ≡ option_map (λ x. (steps_of x.0, x.1)) (many_at slice_at count bytes.now) }
 {

@@ -1,12 +1,12 @@
 // What the lines of records say, read from their bodies without memory.
-ghost use Rattle.std.specs.Prelude.{◌≡◌, ◌∷◌, ℕ, List, Some, option_map};
-ghost use Rattle.dp_base.specs.Journal.{Epoch, IsEpoch, epoch_body, many_at, slice_at, steps_of};
+ghost use Rattle.std.specs.Prelude.{◌≡◌, ◌∷◌, Some};
+ghost use Rattle.dp_base.specs.Journal.{Epoch, IsEpoch, epoch_body};
 ghost use Rattle.guest_state.specs.Checkpoint.{Checkpoint, IsCheckpoint, checkpoint_bytes};
 ghost use Rattle.journal_text.specs.Records.{mark_kind};
 ghost use Rattle.epoch_replay.specs.Counting.{counts_at, counts_of, marked_steps_at};
 
 use dp_base::field::{read_u8, read_u32, read_u64};
-use dp_base::journal_reader::read_slice;
+use dp_base::journal_reader::skip_slices;
 
 /// What an epoch's record holds.
 #[derive(Clone, Copy)]
@@ -37,21 +37,6 @@ fn count_epoch(body: &[u8]) -> Option<EpochCounts>
         steps,
         answers,
     })
-}
-
-// The steps of the first `count` slices, and the bytes after them.
-fn skip_slices(count: u32, bytes: &[u8]) -> Option<(u64, &[u8])>
-    ensures { option_map {U = ℕ × List ℕ} (λ x. (x.0, x.1.now)) result
-        ≡ option_map (λ x. (steps_of x.0, x.1)) (many_at slice_at count bytes.now) }
-{
-    let mut steps = 0;
-    let mut rest = bytes;
-    'slices: for _index in 0..count {
-        let (slice, behind) = read_slice(rest)?;
-        steps += u64::from(slice.steps);
-        rest = behind;
-    }
-    Some((steps, rest))
 }
 
 /// Returns the step count of the state in the mark with this body.

@@ -1,6 +1,5 @@
 // A seat of a racing thread, and its log.
 ghost use Rattle.std.specs.Prelude.{◌≡◌, ◌+◌, ◌*◌, ◌<◌, ◌≤◌, ◌^◌, ℕ, [], IfSome, OnOk, vec_capacity, vec_len};
-ghost use Rattle.dp_base.specs.Memory.{amo_result};
 ghost use Rattle.shared_words.specs.Copied.{AreMarked};
 ghost use Rattle.shared_words.specs.Logged.{AreBelow, AreInOrder, IsLog, IsNext};
 ghost use Rattle.shared_words.specs.Rule.{view_of};
@@ -11,7 +10,7 @@ use crate::layout::{BLOCK_WORDS, FIRST_WORD};
 use crate::marks::Marks;
 use crate::naming::Naming;
 use crate::shared_words::{Seat, SharedWords};
-use dp_base::{AmoOp, Log, OutOfMemory, is_below_signed};
+use dp_base::{AmoOp, Log, OutOfMemory};
 use std::alloc::Global;
 use std::marker::PhantomData;
 use sync_hints::Sc;
@@ -201,7 +200,7 @@ impl<'a, J: Naming> RacingSeat<'a, J> {
         for _ in 0..TRIES {
             let old = self.load(index);
             let ticket = self.ticket()?;
-            if self.compare_exchange(index, old, amo_result(op, old, value)) {
+            if self.compare_exchange(index, old, op.result(old, value)) {
                 self.note(ticket, Sc::NotSc);
                 return Some(old);
             }
@@ -220,25 +219,5 @@ fn move_entry(entries: &mut [(u64, Sc)], index: usize, ticket: u64)
 {
     if index.saturating_add(1) == entries.len() {
         entries[index].0 = ticket;
-    }
-}
-
-// The word that an AMO stores.
-#[inline(always)]
-fn amo_result(op: AmoOp, old: u32, value: u32) -> u32
-    ensures { result ≡ amo_result op old value }
-{
-    match op {
-        AmoOp::Swap => value,
-        AmoOp::Add => old.wrapping_add(value),
-        AmoOp::Xor => old ^ value,
-        AmoOp::And => old & value,
-        AmoOp::Or => old | value,
-        AmoOp::Min if is_below_signed(old, value) => old,
-        AmoOp::Min => value,
-        AmoOp::Max if is_below_signed(old, value) => value,
-        AmoOp::Max => old,
-        AmoOp::MinU => old.min(value),
-        AmoOp::MaxU => old.max(value),
     }
 }

@@ -41,6 +41,10 @@ refilled bytes s = record s { window = bytes; place = end_of s; ended = length b
 abbrev pub unfilled : Supplied → Supplied
 unfilled s = record s { window = []; place = end_of s }
 
+-- All that they answer is the same: only their rooms may differ.
+abbrev pub IsSame : Supplied → Supplied → Type 0
+IsSame s t = record s { room = t.room } ≡ t
+
 -- ---- answers
 
 -- the window has a byte at this place of the input

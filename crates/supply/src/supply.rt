@@ -1,9 +1,9 @@
 // A window of an input, and the stamp of a round.
-ghost use Rattle.std.specs.Prelude.{◌≡◌, ◌<◌, ◌≤◌, ◌^◌, false, IfOk, OnOk, OnErr, IsErr};
+ghost use Rattle.std.specs.Prelude.{◌≡◌, ◌<◌, ◌≤◌, ◌^◌, ◌↔◌, false, IfOk, OnOk, OnErr, IsErr, IsTrue};
 ghost use Rattle.std.specs.Option.{option_copied};
 ghost use Rattle.disk_model.specs.Counts.{Rose};
 ghost use Rattle.disk_model.specs.Input.{IfInput, Took, Gave};
-ghost use Rattle.supply.specs.Supplied.{IsSupply, answer_at, empty, end_of, refilled, unfilled};
+ghost use Rattle.supply.specs.Supplied.{IsSame, IsSupply, answer_at, empty, end_of, refilled, unfilled};
 
 use crate::MAX_ROOM;
 use disk_model::{Failed, Inlet};
@@ -102,6 +102,16 @@ impl Supply {
             return Some(&self.buffer[..0]);
         }
         None
+    }
+
+    /// Returns `true` if both have the same window at the same place, with the same end and stamp. Their rooms may differ.
+    pub fn same(&self, other: &Supply) -> bool
+        ensures { IsTrue result ↔ IsSame self.now other.now }
+    {
+        self.place == other.place
+            && self.ended == other.ended
+            && self.stamp == other.stamp
+            && self.buffer[..self.count] == other.buffer[..other.count]
     }
 
     /// Returns `true` if the end of the input was seen.
