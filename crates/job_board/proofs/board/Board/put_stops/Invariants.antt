@@ -1,0 +1,14 @@
+use Rattle.std.proofs.Common.{◌≡◌, ◌+◌, ◌≤◌, []}
+use Rattle.crossbeam_queue.specs.Passes.{view, IsPassOf}
+use Rattle.job_board.specs.Items.{jobs_of}
+use Rattle.job_board.specs.Passes.{IsFirst, job_capacity}
+use Rattle.job_board.proofs.board.Board.put_stops.Given as goal
+
+abbrev pub invariant-stops : goal.invariant-stops
+invariant-stops g l = record {
+  pass : IsPassOf l.self.jobs l.jobs;
+  first : IsFirst (view l.jobs) (l.self.workers + 1) [];
+  capacity : (view l.jobs).capacity ≡ job_capacity l.self;
+  space : l.self.workers ≤ (view l.jobs).items_left + l.stops;
+  same : jobs_of (view l.jobs).put ≡ jobs_of (view l.fn.jobs).put;
+}

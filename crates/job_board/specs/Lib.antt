@@ -1,0 +1,5 @@
+pub mod Queue
+pub mod Items
+pub mod Passes
+pub mod Answers
+pub mod Opening

@@ -1,0 +1,113 @@
+-- Each step on a stop word keeps its rule.
+use Rattle.std.proofs.Common.{◌≡◌, ◌≢◌, ℕ, zero, suc, ◌==◌, ⊎_elim, Bool, true, false, true≢false, List, [], ◌∷◌, set, length, sym, refl, ap, ◌∙◌, arith}
+use Rattle.std.proofs.lemmas.List.{length-set}
+use Rattle.std.specs.Prelude.{slice_index, if◌then◌else◌}
+use mathlib.Core.Option.{some, some-injective, some-ne-none}
+use lib.ListN.{get_elem?}
+use Rattle.atomic_table.specs.Table.{State, Step, Allows, Splits, Joins, opening, keeps}
+use Rattle.atomic_table.proofs.Lists.{at_set, at_snoc}
+use Rattle.stop_word.specs.Stops.{first_view, watcher_view, after_stop, after_load, joined, word_of, Stops}
+use Rattle.stop_word.specs.declared.rule.View.{View}
+
+begins_at : (k : ℕ) (v : View) → get_elem? (first_view ∷ []) k ≡ some v → (k ≡ 0) × (v ≡ first_view)
+begins_at zero v e = (refl, sym (some-injective first_view v e))
+begins_at (suc j) v e = absurd (some-ne-none v (sym e))
+
+pub begins : Stops (0 ∷ []) (first_view ∷ [])
+begins = record {
+  seat = 0;
+  stopped = false;
+  one = refl;
+  word = refl;
+  stopper = λ k v at t. let b = begins_at k v at in (b.0, ap (λ (v : View). v.stopped) b.1);
+  seen = λ k v at t. absurd (true≢false (sym t ∙ ap (λ (v : View). v.seen) (begins_at k v at).1));
+}
+
+-- a step that leaves the word, who the stopper is and whether it has stopped
+stays : (words words' : List ℕ) (views : List View) (o : Stops words views) (k : ℕ) (v w : View) → get_elem? views k ≡ some v
+    → length words' ≡ length words → slice_index words' 0 ≡ slice_index words 0 → w.stopper ≡ v.stopper → w.stopped ≡ v.stopped → (w.seen ≡ true → o.stopped ≡ true) → Stops words' (set views k w)
+stays words words' views o k v w at long word stopper stopped seen = record {
+  seat = o.seat;
+  stopped = o.stopped;
+  one = long ∙ o.one;
+  word = word ∙ o.word;
+  stopper = λ j u here t. ⊎_elim (λ (x : (j ≡ k) × (w ≡ u)). let was = o.stopper k v at (sym stopper ∙ ap (λ (v : View). v.stopper) x.1 ∙ t) in (x.0 ∙ was.0, ap (λ (v : View). v.stopped) (sym x.1) ∙ stopped ∙ was.1))
+      (λ (x : (j ≢ k) × (get_elem? views j ≡ some u)). o.stopper j u x.1 t) (at_set views k j w u here);
+  seen = λ j u here t. ⊎_elim (λ (x : (j ≡ k) × (w ≡ u)). seen (ap (λ (v : View). v.seen) x.1 ∙ t)) (λ (x : (j ≢ k) × (get_elem? views j ≡ some u)). o.seen j u x.1 t) (at_set views k j w u here);
+}
+
+stored : (words : List ℕ) (n : ℕ) → length words ≡ 1 → slice_index (set words 0 n) 0 ≡ n
+stored [] n e = absurd (omega (arith, e))
+stored (x ∷ xs) n e = refl
+
+kept : (words : List ℕ) → length words ≡ 1 → slice_index (set words 0 (slice_index words 0)) 0 ≡ slice_index words 0
+kept words e = stored words (slice_index words 0) e
+
+pub stores : {S : Type 0} (slots id : ℕ) (me : Rattle.atomic_table.specs.Table.Me S View) → me.0.stopper ≡ true
+    → Allows {S = S} {V = View} (λ s. Stops s.words s.views) slots id me 0 (λ _. 1) (λ _ w. (w.0 ≡ after_stop me.0) × (w.1 ≡ me.1))
+stores slots id me t s o len at small = let w = after_stop me.0 in let mine = o.stopper id me.0 at t in (
+  w,
+  keeps,
+  tt,
+  record {
+    seat = o.seat;
+    stopped = true;
+    one = length-set s.words 0 1 ∙ o.one;
+    word = stored s.words 1 o.one;
+    stopper = λ j u here k. ⊎_elim (λ (x : (j ≡ id) × (w ≡ u)). (x.0 ∙ mine.0, ap (λ (v : View). v.stopped) (sym x.1)))
+        (λ (x : (j ≢ id) × (get_elem? s.views j ≡ some u)). absurd (x.0 ((o.stopper j u x.1 k).0 ∙ sym mine.0))) (at_set s.views id j w u here);
+    seen = λ j u here k. refl;
+  },
+  (refl, refl),
+)
+
+-- a word that isn't 0 was found only if the stopper has stopped
+found : (stopped seen : Bool) (n : ℕ) → n ≡ word_of stopped → (seen ≡ true → stopped ≡ true) → (if n == 0 then seen else true) ≡ true → stopped ≡ true
+found true seen n is old k = refl
+found false seen n is old k = old (sym (ap (λ (m : ℕ). if m == 0 then seen else true) is) ∙ k)
+
+pub loads : {S : Type 0} (slots id : ℕ) (me : Rattle.atomic_table.specs.Table.Me S View)
+    → Allows {S = S} {V = View} (λ s. Stops s.words s.views) slots id me 0 (λ n. n) (λ n w. (w.0 ≡ after_load me.0 n) × (w.1 ≡ me.1))
+loads slots id me s o len at small = let n = slice_index s.words 0 in let w = after_load me.0 n in (
+  w,
+  keeps,
+  tt,
+  stays s.words (set s.words 0 n) s.views o id me.0 w at (length-set s.words 0 n) (kept s.words o.one) refl refl (λ k. found o.stopped me.0.seen n o.word (λ h. o.seen id me.0 at h) k),
+  (refl, refl),
+)
+
+pub compares : {S : Type 0} (slots id : ℕ) (me : Rattle.atomic_table.specs.Table.Me S View)
+    → Allows {S = S} {V = View} (λ s. Stops s.words s.views) slots id me 0 (λ n. n) (λ n w. (w.0 ≡ me.0) × (w.1 ≡ me.1) × (me.0.stopper ≡ true → me.0.seen ≡ true → me.0.stopped ≡ true))
+compares slots id me s o len at small = let n = slice_index s.words 0 in (
+  me.0,
+  keeps,
+  tt,
+  stays s.words (set s.words 0 n) s.views o id me.0 me.0 at (length-set s.words 0 n) (kept s.words o.one) refl refl (λ k. o.seen id me.0 at k),
+  (refl, refl, λ t k. (o.stopper id me.0 at t).1 ∙ o.seen id me.0 at k),
+)
+
+pub splits : {S : Type 0} (id : ℕ) (v : View) → Splits {S = S} {V = View} (λ s. Stops s.words s.views) id v v watcher_view
+splits id v s o at = let same = stays s.words s.words s.views o id v v at refl refl refl refl (λ k. o.seen id v at k) in record {
+  seat = same.seat;
+  stopped = same.stopped;
+  one = same.one;
+  word = same.word;
+  stopper = λ j u here k. ⊎_elim (λ x. same.stopper j u x k) (λ (x : watcher_view ≡ u). absurd (true≢false (sym k ∙ ap (λ (v : View). v.stopper) (sym x)))) (at_snoc (set s.views id v) watcher_view u j here);
+  seen = λ j u here k. ⊎_elim (λ x. same.seen j u x k) (λ (x : watcher_view ≡ u). absurd (true≢false (sym k ∙ ap (λ (v : View). v.seen) (sym x)))) (at_snoc (set s.views id v) watcher_view u j here);
+}
+
+either_seen : (b c : Bool) (A : Type 0) → (b ≡ true → A) → (c ≡ true → A) → (if b then true else c) ≡ true → A
+either_seen true c A x y k = x refl
+either_seen false c A x y k = y k
+
+pub joins : {S : Type 0} (id : ℕ) (v : View) (other : ℕ) (w : View) → Joins {S = S} {V = View} (λ s. Stops s.words s.views) id v other w (joined v w) watcher_view
+joins id v other w s o at ne at' = let both = joined v w in
+    let was : get_elem? s.views other ≡ some w = ⊎_elim (λ (x : (other ≡ id) × (both ≡ w)). absurd (ne x.0)) (λ (x : (other ≢ id) × (get_elem? s.views other ≡ some w)). x.1) (at_set s.views id other both w at') in
+    let one = stays s.words s.words s.views o id v both at refl refl refl refl (λ k. either_seen v.seen w.seen (o.stopped ≡ true) (λ h. o.seen id v at h) (λ h. o.seen other w was h) k) in record {
+      seat = one.seat;
+      stopped = one.stopped;
+      one = one.one;
+      word = one.word;
+      stopper = λ j u here k. ⊎_elim (λ (x : (j ≡ other) × (watcher_view ≡ u)). absurd (true≢false (sym k ∙ ap (λ (v : View). v.stopper) (sym x.1)))) (λ (x : (j ≢ other) × (get_elem? (set s.views id both) j ≡ some u)). one.stopper j u x.1 k) (at_set (set s.views id both) other j watcher_view u here);
+      seen = λ j u here k. ⊎_elim (λ (x : (j ≡ other) × (watcher_view ≡ u)). absurd (true≢false (sym k ∙ ap (λ (v : View). v.seen) (sym x.1)))) (λ (x : (j ≢ other) × (get_elem? (set s.views id both) j ≡ some u)). one.seen j u x.1 k) (at_set (set s.views id both) other j watcher_view u here);
+    }
