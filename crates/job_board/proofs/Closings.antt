@@ -17,13 +17,13 @@ use Rattle.job_board.specs.Answers.{InterleavesTo, IsInterleaving}
 use Rattle.job_board.proofs.Items.{jobs_append, results_append, counts_append}
 
 module _ {X : Type 0} where
-  no_head : (x : X) (xs : List X) → (x ∷ xs) ≢ []
+  pub no_head : (x : X) (xs : List X) → (x ∷ xs) ≢ []
   no_head x xs e = let h : length (x ∷ xs) ≡ 0 = ap length e in absurd (omega (arith, h))
 
-  part_skip : (k : ℕ) (e : ℕ × X) (es : List (ℕ × X)) → e.0 ≢ k → part k (e ∷ es) ≡ part k es
+  pub part_skip : (k : ℕ) (e : ℕ × X) (es : List (ℕ × X)) → e.0 ≢ k → part k (e ∷ es) ≡ part k es
   part_skip k e es ne = ap (λ (b : Bool). if b then e.1 ∷ part k es else part k es) (ne_eqb e.0 k ne)
 
-  part_keep : (k : ℕ) (e : ℕ × X) (es : List (ℕ × X)) → e.0 ≡ k → part k (e ∷ es) ≡ e.1 ∷ part k es
+  pub part_keep : (k : ℕ) (e : ℕ × X) (es : List (ℕ × X)) → e.0 ≡ k → part k (e ∷ es) ≡ e.1 ∷ part k es
   part_keep k e es is = ap (λ (b : Bool). if b then e.1 ∷ part k es else part k es) (eq-eqb e.0 k is)
 
   -- where one pass alone stands in a log, it has all of it

@@ -4,3 +4,4 @@ pub mod Items
 pub mod Calls
 pub mod Openings
 pub mod Closings
+pub mod Distinct

@@ -1,5 +1,5 @@
 -- What the answers of a board say.
-use Rattle.std.specs.Prelude.{◌≡◌, ℕ, suc, ◌≤◌, List, [], ◌∷◌, ◌++◌, slice_index_or, Some, None, count_by, ◌==◌}
+use Rattle.std.specs.Prelude.{◌≡◌, ℕ, suc, ◌≤◌, ◌==◌, List, [], ◌∷◌, ◌++◌, slice_index_or, Some, None, if◌then◌else◌}
 use Rattle.crossbeam_queue.specs.Passes.{view}
 use Rattle.job_board.specs.declared.pass.Worker.{Worker}
 use Rattle.job_board.specs.declared.pass.Collector.{Collector}
@@ -31,6 +31,11 @@ module _ {A : Type 0} where
   abbrev pub InterleavesTo : List A → List (List A) → List A → Type 0
   InterleavesTo whole parts rest = (log : List (ℕ × A)) × (whole ≡ items_of log ++ rest) × ((k : ℕ) → part (suc k) log ≡ slice_index_or parts k []) × (part 0 log ≡ [])
 
--- no number is there twice
+-- how often a number is in a list
+abbrev pub times : ℕ → List ℕ → ℕ
+times i [] = 0
+times i (x ∷ xs) = if x == i then suc (times i xs) else times i xs
+
+-- no number is in the list twice
 abbrev pub AreDistinct : List ℕ → Type 0
-AreDistinct xs = (i : ℕ) → count_by (λ x. x == i) xs ≤ 1
+AreDistinct xs = (i : ℕ) → times i xs ≤ 1

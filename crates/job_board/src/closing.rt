@@ -1,11 +1,11 @@
 // How a round on a board ends.
-ghost use Rattle.std.specs.Prelude.{◌≡◌, ◌+◌, ◌≤◌, ◌++◌, ◌⊎◌, [], ◌∷◌, length, map, vec_capacity};
+ghost use Rattle.std.specs.Prelude.{◌≡◌, ℕ, ◌+◌, ◌≤◌, ◌++◌, ◌⊎◌, [], ◌∷◌, length, map, vec_capacity};
 ghost use Rattle.crossbeam_queue.specs.Passes.{view, IsPassOf};
 ghost use Rattle.job_board.specs.declared.item.ResultItem.TheVariants.{Count};
 ghost use Rattle.job_board.specs.Queue.{History};
 ghost use Rattle.job_board.specs.Items.{jobs_of, results_of};
-ghost use Rattle.job_board.specs.Answers.{InterleavesTo, IsInterleaving};
-ghost use Rattle.job_board.specs.Passes.{AreWorkersOf, IsCollectorOf, IsFirst, IsPublisherOf, IsReceiptOf, claimed, collected, counts, deposited, job_capacity, job_parts, published, result_capacity, result_parts, was_published};
+ghost use Rattle.job_board.specs.Answers.{AreDistinct, InterleavesTo, IsInterleaving, times};
+ghost use Rattle.job_board.specs.Passes.{AreWorkersOf, IsCollectorOf, IsFirst, IsPublisherOf, IsReceiptOf, claimed, collected, counts, deposited, indexes, job_capacity, job_parts, published, result_capacity, result_parts, was_published};
 
 use crate::answer::Left;
 use crate::board::Board;
@@ -144,6 +144,8 @@ impl<J: Drop, R: Drop> Board<J, R> {
         requires collector { IsCollectorOf self collector }
         ensures jobs { InterleavesTo (was_published receipt) (map (λ w. claimed w) workers.items) result.jobs.items }
         ensures results { IsInterleaving (map (λ w. deposited w) workers.items) (collected collector ++ result.results.items) }
+        ensures known { (i : ℕ) → times i (indexes (collected collector ++ result.results.items)) ≤ times i (indexes (was_published receipt)) }
+        ensures distinct { AreDistinct (indexes (collected collector ++ result.results.items)) }
         ensures count { (counts collector ≡ []) ⊎ (counts collector ≡ length (was_published receipt) ∷ []) }
     {
         let Receipt {
