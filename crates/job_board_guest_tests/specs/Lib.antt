@@ -1,0 +1,3 @@
+pub mod NoSupply
+pub mod Workers
+pub mod Rounds
