@@ -6,7 +6,7 @@ ghost use Rattle.job_board_tests.specs.Crews.{IsPublishing};
 use job_board::{Board, Publisher, Receipt};
 use std::snapshot::Snapshot;
 use std::sync::Wait;
-use std::thread::{self, Promise, PromisedHandle, Scope, Threads};
+use std::thread::{Promise, PromisedHandle, Scope, Threads};
 
 /// What the publisher's thread promises.
 #[derive(Drop)]
@@ -38,7 +38,6 @@ fn publish_all<R: Wait, J: Drop, V: Drop>(
     'jobs: while !jobs.is_empty() {
         let job = jobs.remove(0);
         board.publish(rt, &mut publisher, job);
-        thread::yield_now();
     }
     board.finish(rt, publisher)
 }

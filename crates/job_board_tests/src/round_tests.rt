@@ -1,10 +1,12 @@
 // Rounds of 64 jobs by 1, 2, 8 and 64 workers.
-ghost use Rattle.std.specs.Prelude.{◌≤◌, IfOk, length};
+ghost use Rattle.std.specs.Prelude.{◌<◌, ◌≤◌, IfOk, length};
 
 use crate::crew::{Closed, run_round};
 use crate::working::Task;
 use std::alloc::{AllocError, Global};
+use std::sync::Wait;
 use std::test::Fail;
+use std::thread::Threads;
 
 const JOBS: u32 = 64;
 
@@ -96,27 +98,54 @@ fn begin_unstopped(closed: &Closed<u32, Entry>, count: usize) -> bool {
         .all(|(_, entry)| !entry.stopped)
 }
 
-#[test]
-fn each_job_is_done_once(rt: HostRuntime) -> Result<(), Fail> {
-    let alloc = rt.alloc();
-    for workers in [1u32, 2, 8, 64] {
-        for _ in 0..1000 {
-            let closed = run_round(&rt, alloc, jobs_of(alloc)?, workers, &Writing, u32::MAX)?;
-            assert!(rt; is_whole(&closed) && begin_unstopped(&closed, 64));
+// Whether this many rounds are whole, and the first results of each saw no stop.
+fn are_whole<R: Threads + Wait + Sync>(
+    rt: &R,
+    alloc: Global,
+    workers: u32,
+    rounds: u32,
+    stop_after: u32,
+) -> Result<bool, AllocError>
+    requires { (0 < workers) × (workers ≤ 64) }
+{
+    for _ in 0..rounds {
+        let closed = run_round(rt, alloc, jobs_of(alloc)?, workers, &Writing, stop_after)?;
+        if !is_whole(&closed) || !begin_unstopped(&closed, stop_after as usize) {
+            return Ok(false);
         }
     }
+    Ok(true)
+}
+
+#[test]
+fn one_worker(rt: HostRuntime) -> Result<(), Fail> {
+    assert!(rt; are_whole(&rt, rt.alloc(), 1, 1000, u32::MAX)?);
+    Ok(())
+}
+
+#[test]
+fn two_workers(rt: HostRuntime) -> Result<(), Fail> {
+    assert!(rt; are_whole(&rt, rt.alloc(), 2, 1000, u32::MAX)?);
+    Ok(())
+}
+
+#[test]
+fn eight_workers(rt: HostRuntime) -> Result<(), Fail> {
+    assert!(rt; are_whole(&rt, rt.alloc(), 8, 1000, u32::MAX)?);
+    Ok(())
+}
+
+#[test]
+fn as_many_workers_as_jobs(rt: HostRuntime) -> Result<(), Fail> {
+    assert!(rt; are_whole(&rt, rt.alloc(), 64, 1000, u32::MAX)?);
     Ok(())
 }
 
 // The word is stopped when ten results are collected. All jobs come back, and the first ten saw no stop.
 #[test]
-fn stopped_rounds_are_whole(rt: HostRuntime) -> Result<(), Fail> {
-    let alloc = rt.alloc();
+fn stopped_rounds(rt: HostRuntime) -> Result<(), Fail> {
     for workers in [1u32, 2, 8, 64] {
-        for _ in 0..100 {
-            let closed = run_round(&rt, alloc, jobs_of(alloc)?, workers, &Writing, 10)?;
-            assert!(rt; is_whole(&closed) && begin_unstopped(&closed, 10));
-        }
+        assert!(rt; are_whole(&rt, rt.alloc(), workers, 25, 10)?);
     }
     Ok(())
 }
