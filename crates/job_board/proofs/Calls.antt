@@ -12,10 +12,10 @@ use Rattle.job_board.specs.declared.pass.Publisher.{Publisher}
 use Rattle.job_board.specs.declared.pass.Worker.{Worker}
 use Rattle.job_board.specs.declared.pass.Collector.{Collector}
 use Rattle.job_board.specs.Queue.{total_cost, after_put, after_take}
-use Rattle.job_board.specs.Items.{job_cost, no_cost, jobs_of, results_of, counts_of}
+use Rattle.job_board.specs.Items.{job_cost, no_cost, jobs_of, results_of, counts_of, stops_of}
 use Rattle.job_board.specs.Passes.{IsPublisherOf, IsWorkerOf, IsCollectorOf, indexes, held_of, numbers, published, claimed, deposited}
 use Rattle.job_board.proofs.Logs.{map_append}
-use Rattle.job_board.proofs.Items.{jobs_append, jobs_weigh, results_append, counts_append, notes_length}
+use Rattle.job_board.proofs.Items.{jobs_append, jobs_weigh, results_append, counts_append, notes_length, stops_append}
 
 next : (n : ℕ) → suc n ≡ n + 1
 next n = omega arith
@@ -115,6 +115,7 @@ module _ {J R : Type 0} where
           count = let l = ap (λ (l : List (ℕ × J)). length l) more ∙ length-append (published p) ((p.count + 1, job) ∷ []) in omega (arith, l, c);
           few = omega (arith, c, few);
           numbered = ap indexes more ∙ map_append (λ x. x.0) (published p) ((p.count + 1, job) ∷ []) ∙ ap (λ l. l ++ (p.count + 1) ∷ []) is.numbered ∙ numbers_next p.count;
+          no_stops = let a = ap (λ (v : View (JobItem J)). stops_of v.put) then in let b = stops_append (view p.jobs).put (Job (p.count + 1) job ∷ []) in let n = is.no_stops in omega (arith, a, b, n);
           nothing = is.nothing;
           one = is.one;
           left = is.left;
@@ -139,3 +140,10 @@ module _ {R : Type 0} where
 
   pub found_count : (v w : View (ResultItem R)) (n : ℕ) → w ≡ after_take v (Count n) → (results_of w.taken ≡ results_of v.taken) × (counts_of w.taken ≡ counts_of v.taken ++ n ∷ [])
   found_count v w n e = (ap (λ (v : View (ResultItem R)). results_of v.taken) e ∙ results_append v.taken (Count n ∷ []) ∙ append-nil (results_of v.taken), ap (λ (v : View (ResultItem R)). counts_of v.taken) e ∙ counts_append v.taken (Count n ∷ []))
+
+module _ {J : Type 0} where
+  pub no_stop_more : (v w : View (JobItem J)) (index : ℕ) (job : J) → w ≡ after_take v (Job index job) → stops_of w.taken ≡ stops_of v.taken
+  no_stop_more v w index job e = let a = ap (λ (v : View (JobItem J)). stops_of v.taken) e in let b = stops_append v.taken (Job index job ∷ []) in omega (arith, a, b)
+
+  pub one_stop_more : (v w : View (JobItem J)) → w ≡ after_take v Stop → stops_of w.taken ≡ stops_of v.taken + 1
+  one_stop_more v w e = let a = ap (λ (v : View (JobItem J)). stops_of v.taken) e in let b = stops_append v.taken (Stop ∷ []) in omega (arith, a, b)

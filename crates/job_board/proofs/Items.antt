@@ -5,7 +5,7 @@ use Rattle.job_board.specs.declared.item.JobItem.TheVariants.{Job, Stop}
 use Rattle.job_board.specs.declared.item.ResultItem.{ResultItem}
 use Rattle.job_board.specs.declared.item.ResultItem.TheVariants.{Result, Count}
 use Rattle.job_board.specs.Queue.{total_cost}
-use Rattle.job_board.specs.Items.{job_cost, jobs_of, results_of, counts_of}
+use Rattle.job_board.specs.Items.{job_cost, jobs_of, results_of, counts_of, stops_of}
 
 module _ {J : Type 0} where
   pub jobs_append : (xs ys : List (JobItem J)) → jobs_of (xs ++ ys) ≡ jobs_of xs ++ jobs_of ys
@@ -17,6 +17,11 @@ module _ {J : Type 0} where
   jobs_weigh [] = refl
   jobs_weigh (Job index job ∷ xs) = let h = jobs_weigh xs in omega (arith, h)
   jobs_weigh (Stop ∷ xs) = let h = jobs_weigh xs in omega (arith, h)
+
+  pub stops_append : (xs ys : List (JobItem J)) → stops_of (xs ++ ys) ≡ stops_of xs + stops_of ys
+  stops_append [] ys = omega arith
+  stops_append (Job index job ∷ xs) ys = stops_append xs ys
+  stops_append (Stop ∷ xs) ys = let h = stops_append xs ys in omega (arith, h)
 
 module _ {R : Type 0} where
   pub results_append : (xs ys : List (ResultItem R)) → results_of (xs ++ ys) ≡ results_of xs ++ results_of ys

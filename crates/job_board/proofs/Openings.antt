@@ -13,7 +13,7 @@ use Rattle.std.specs.Prelude.{if◌then◌else◌}
 use Rattle.job_board.specs.Queue.{InOrder, total_cost, new_view, after_split, split_off}
 use Rattle.job_board.proofs.Steps.{forks, forks_root}
 use Rattle.job_board.specs.Opening.{job_view, result_view}
-use Rattle.job_board.specs.Items.{job_cost, no_cost, jobs_of, results_of, counts_of}
+use Rattle.job_board.specs.Items.{job_cost, no_cost, jobs_of, results_of, counts_of, stops_of}
 use Rattle.job_board.specs.Passes.{IsReserved, IsPublisherOf, IsWorkerOf, IsIdle, AreWorkersOf, AreIdle, indexes, held_of, numbers, published, job_capacity, result_capacity}
 
 next : (n : ℕ) → suc n ≡ n + 1
@@ -154,6 +154,7 @@ module _ {J R : Type 0} where
         count = let m = ap (λ (v : View (JobItem J)). length (jobs_of v.put)) ej in omega (arith, m, count);
         few = omega (arith, count);
         numbered = ap (λ (v : View (JobItem J)). indexes (jobs_of v.put)) ej ∙ ap numbers (sym count);
+        no_stops = ap (λ (v : View (JobItem J)). stops_of v.put) ej;
         nothing = ap (λ (v : View (ResultItem R)). v.put) er;
         one = let m = ap (λ (v : View (ResultItem R)). v.items_left) er in omega (arith, m);
         left = reserved;

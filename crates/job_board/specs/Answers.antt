@@ -1,5 +1,5 @@
 -- What the answers of a board say.
-use Rattle.std.specs.Prelude.{◌≡◌, ℕ, suc, ◌≤◌, ◌==◌, List, [], ◌∷◌, ◌++◌, slice_index_or, Some, None, if◌then◌else◌}
+use Rattle.std.specs.Prelude.{◌≡◌, ℕ, suc, ◌+◌, ◌≤◌, ◌==◌, List, [], ◌∷◌, ◌++◌, slice_index_or, Some, None, if◌then◌else◌}
 use Rattle.crossbeam_queue.specs.Passes.{view}
 use Rattle.job_board.specs.declared.pass.Worker.{Worker}
 use Rattle.job_board.specs.declared.pass.Collector.{Collector}
@@ -8,12 +8,12 @@ use Rattle.job_board.specs.declared.answer.Collected.{Collected}
 use Rattle.job_board.specs.declared.answer.Claim.TheVariants as claims
 use Rattle.job_board.specs.declared.answer.Collected.TheVariants as collects
 use Rattle.job_board.specs.Queue.{part, items_of, IsPartOf}
-use Rattle.job_board.specs.Passes.{claimed, deposited, collected, counts}
+use Rattle.job_board.specs.Passes.{claimed, deposited, collected, counts, stops}
 
 module _ {J R : Type 0} where
   abbrev pub Claims : Worker J R → Claim J → Worker J R → Type 0
-  Claims old (claims.Job index job) new = (claimed new ≡ claimed old ++ (index, job) ∷ []) × (deposited new ≡ deposited old) × (new.held ≡ Some index)
-  Claims old claims.Stop new = (claimed new ≡ claimed old) × (deposited new ≡ deposited old) × (new.held ≡ None)
+  Claims old (claims.Job index job) new = (claimed new ≡ claimed old ++ (index, job) ∷ []) × (deposited new ≡ deposited old) × (new.held ≡ Some index) × (stops new ≡ stops old)
+  Claims old claims.Stop new = (claimed new ≡ claimed old) × (deposited new ≡ deposited old) × (new.held ≡ None) × (stops new ≡ stops old + 1)
   Claims old claims.Empty new = (view new.jobs ≡ view old.jobs) × (view new.results ≡ view old.results) × (new.held ≡ None) × IsPartOf (view old.jobs) []
 
 module _ {R : Type 0} where

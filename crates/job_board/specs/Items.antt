@@ -1,5 +1,5 @@
 -- The items of the two queues: which are jobs, results and counts, and what a job and a stop cost.
-use Rattle.std.specs.Prelude.{ℕ, List, [], ◌∷◌}
+use Rattle.std.specs.Prelude.{ℕ, suc, List, [], ◌∷◌}
 use Rattle.job_board.specs.declared.item.JobItem.{JobItem}
 use Rattle.job_board.specs.declared.item.JobItem.TheVariants.{Job, Stop}
 use Rattle.job_board.specs.declared.item.ResultItem.{ResultItem}
@@ -15,6 +15,11 @@ module _ {J : Type 0} where
   jobs_of [] = []
   jobs_of (Job index job ∷ xs) = (index, job) ∷ jobs_of xs
   jobs_of (Stop ∷ xs) = jobs_of xs
+
+  abbrev pub stops_of : List (JobItem J) → ℕ
+  stops_of [] = 0
+  stops_of (Job index job ∷ xs) = stops_of xs
+  stops_of (Stop ∷ xs) = suc (stops_of xs)
 
 abbrev pub no_cost : {X : Type 0} → X → ℕ
 no_cost x = 0

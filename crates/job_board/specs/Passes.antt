@@ -12,7 +12,7 @@ use Rattle.job_board.specs.declared.pass.Collector.{Collector}
 use Rattle.job_board.specs.declared.pass.Receipt.{Receipt}
 use Rattle.job_board.specs.declared.answer.Left.{Left}
 use Rattle.job_board.specs.Queue.{total_cost}
-use Rattle.job_board.specs.Items.{job_cost, jobs_of, results_of, counts_of}
+use Rattle.job_board.specs.Items.{job_cost, jobs_of, results_of, counts_of, stops_of}
 
 -- pass 0 of a queue, which has made so many passes, itself included, and has taken these back
 pub record IsFirst {X : Type 0} (v : View X) (passes : ℕ) (back : List (List X × List X)) : Type 0 where
@@ -56,6 +56,10 @@ module _ {J R : Type 0} where
   abbrev pub deposited : Worker J R → List (ℕ × R)
   deposited w = results_of (view w.results).put
 
+  -- how many stops a worker claimed
+  abbrev pub stops : Worker J R → ℕ
+  stops w = stops_of (view w.jobs).taken
+
   -- which worker it is, from 1
   abbrev pub number : Worker J R → ℕ
   number w = (view w.jobs).number
@@ -79,6 +83,7 @@ module _ {J R : Type 0} where
     pub count : length (published p) ≡ p.count
     pub few : p.count ≤ b.limit
     pub numbered : indexes (published p) ≡ numbers p.count
+    pub no_stops : stops_of (view p.jobs).put ≡ 0
     pub nothing : (view p.results).put ≡ []
     pub one : 1 ≤ (view p.results).items_left
     pub left : IsReserved b p.left

@@ -1,6 +1,7 @@
 // How a round on a board ends.
-ghost use Rattle.std.specs.Prelude.{◌≡◌, ℕ, ◌+◌, ◌≤◌, ◌++◌, ◌⊎◌, [], ◌∷◌, length, map, vec_capacity};
+ghost use Rattle.std.specs.Prelude.{◌≡◌, ℕ, ◌+◌, ◌≤◌, ◌++◌, ◌⊎◌, [], ◌∷◌, length, map, replicate, vec_capacity};
 ghost use Rattle.crossbeam_queue.specs.Passes.{view, IsPassOf};
+ghost use Rattle.job_board.specs.declared.item.JobItem.TheVariants.{Stop};
 ghost use Rattle.job_board.specs.declared.item.ResultItem.TheVariants.{Count};
 ghost use Rattle.job_board.specs.Queue.{History};
 ghost use Rattle.job_board.specs.Items.{jobs_of, results_of};
@@ -23,6 +24,7 @@ impl<J: Drop, R: Drop> Board<J, R> {
         ensures pass { IsPassOf self.now.jobs jobs.new × IsFirst (view jobs.new) (self.now.workers + 1) [] }
         ensures capacity { (view jobs.new).capacity ≡ job_capacity self.now }
         ensures same { jobs_of (view jobs.new).put ≡ jobs_of (view jobs.old).put }
+        ensures stops { (view jobs.new).put ≡ (view jobs.old).put ++ replicate self.now.workers Stop }
     {
         'stops: for stops in 0..self.workers {
             match self.jobs.push_as::<Puts, _>(rt, jobs, JobItem::Stop) {
@@ -54,6 +56,7 @@ impl<J: Drop, R: Drop> Board<J, R> {
         requires pass { IsPublisherOf self.now publisher }
         ensures pass { IsReceiptOf self.now result }
         ensures published { was_published result ≡ published publisher }
+        ensures stops { (view result.jobs).put ≡ (view publisher.jobs).put ++ replicate self.now.workers Stop }
     {
         let Publisher {
             mut jobs,

@@ -1,4 +1,6 @@
-use Rattle.std.proofs.Common.{ap, ◌∙◌, [], ◌∷◌, ◌≤◌, ◌<◌, ◌+◌, ◌≡◌, ℕ, arith, append-nil}
+use Rattle.std.specs.Prelude.{replicate}
+use Rattle.std.proofs.lemmas.List.{replicate-append-replicate, append_assoc}
+use Rattle.std.proofs.Common.{List, refl, sym, ◌++◌, ap, ◌∙◌, [], ◌∷◌, ◌≤◌, ◌<◌, ◌+◌, ◌≡◌, ℕ, arith, append-nil}
 use Rattle.crossbeam_queue.specs.Passes.{view}
 use Rattle.job_board.specs.declared.view.View.{View}
 use Rattle.job_board.specs.declared.item.JobItem.{JobItem}
@@ -24,11 +26,25 @@ module _ {J : Type 0} where
   roomy : (v w : View (JobItem J)) (n workers : ℕ) → w ≡ after_put job_cost v Stop → workers ≤ v.items_left + n → n < workers → workers ≤ w.items_left + (n + 1)
   roomy v w n workers e h lt = let r = ap (λ (v : View (JobItem J)). v.items_left) e in omega (arith, r, h, lt)
 
+  stops_more : (v w : View (JobItem J)) (put : List (JobItem J)) (n : ℕ) → w ≡ after_put job_cost v Stop → v.put ≡ put ++ replicate n Stop → w.put ≡ put ++ replicate (n + 1) Stop
+  stops_more v w put n e is = ap (λ (v : View (JobItem J)). v.put) e ∙ ap (λ l. l ++ Stop ∷ []) is ∙ append_assoc put (replicate n Stop) (Stop ∷ []) ∙ ap (λ l. put ++ l) (replicate-append-replicate n 1 Stop)
+
+pub stops-init : goal.stops-init
+stops-init g c = record {
+  pass = c.requires.pass.0;
+  first = c.requires.pass.1;
+  capacity = c.requires.capacity;
+  space = let s = c.requires.space in omega (arith, s);
+  put = sym (append-nil _);
+  same = refl;
+}
+
 pub stops-preserved : goal.stops-preserved
 stops-preserved g c = let i = c.stops.invariant in let q = c.push_as.ensures.queue in let e = c.in-Ok.ensures.rule in let t = c.stops-test.true in record {
   pass = (q.0 ∙ i.pass.0, q.2 ∙ i.pass.1);
   first = first_put job_cost (view c.stops.jobs) (view c.push_as.new.pass) Stop _ _ e i.first;
   capacity = ap (λ (v : View (JobItem _)). v.capacity) e ∙ i.capacity;
   space = roomy (view c.stops.jobs) (view c.push_as.new.pass) c.stops.stops _ e i.space t;
+  put = stops_more (view c.stops.jobs) (view c.push_as.new.pass) _ c.stops.stops e i.put;
   same = stopped (view c.stops.jobs) (view c.push_as.new.pass) e ∙ i.same;
 }

@@ -1,3 +1,5 @@
+use Rattle.std.specs.Prelude.{replicate, ◌++◌}
+use Rattle.job_board.specs.declared.item.JobItem.TheVariants.{Stop}
 use Rattle.std.proofs.Common.{◌≡◌, ◌+◌, ◌≤◌, []}
 use Rattle.crossbeam_queue.specs.Passes.{view, IsPassOf}
 use Rattle.job_board.specs.Items.{jobs_of}
@@ -10,5 +12,6 @@ invariant-stops g l = record {
   first : IsFirst (view l.jobs) (l.self.workers + 1) [];
   capacity : (view l.jobs).capacity ≡ job_capacity l.self;
   space : l.self.workers ≤ (view l.jobs).items_left + l.stops;
+  put : (view l.jobs).put ≡ (view l.fn.jobs).put ++ replicate l.stops Stop;
   same : jobs_of (view l.jobs).put ≡ jobs_of (view l.fn.jobs).put;
 }
