@@ -19,10 +19,14 @@
 //! ```
 #![tactic(auto)]
 
+mod amo_order;
+#[cfg(test)]
+mod amo_order_tests;
 mod course;
 mod gated;
 mod kept_words;
 mod noted_pages;
+mod noted_words;
 mod pace;
 mod part;
 mod pass;

@@ -1,6 +1,7 @@
 // What a thread does in a pass.
 ghost use Rattle.std.specs.Prelude.{◌<◌, ◌≤◌};
 
+use crate::noted_words::NotedWords;
 use disk_model::Gate;
 use dp_base::{Mem, OutOfMemory, Tid};
 use guest_kernel::Hart;
@@ -16,7 +17,7 @@ pub(crate) struct Part<'a, J: Naming> {
     pub(crate) tid: Tid,
     pub(crate) worker: u32,
     pub(crate) hart: Hart,
-    pub(crate) memory: RacingMem<'a, J>,
+    pub(crate) memory: NotedWords<RacingMem<'a, J>>,
     pub(crate) quota: u32,
     pub(crate) steps: u32,
     pub(crate) stop: Result<Stepped, OutOfMemory>,

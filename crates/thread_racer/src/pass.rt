@@ -4,8 +4,10 @@ ghost use Rattle.shared_words.specs.Copied.{AreMarksOf};
 ghost use Rattle.shared_words.specs.Rule.{view_of};
 ghost use Rattle.shared_words.specs.Words.{IsSeatAt, table_of};
 
+use crate::amo_order::{Amo, PLACES, order_amos};
 use crate::course::Course;
 use crate::kept_words::{KeptWords, words_of};
+use crate::noted_words::{NotedAmo, NotedWords};
 use crate::part::{Part, race_parts};
 use crate::thread_run::{ThreadRun, put_hart, running};
 use disk_model::Gate;
@@ -40,13 +42,14 @@ pub(crate) fn race_pass<R: Threads + Sync, G: Gate + Sync>(
     } = words_of(alloc, kept.take(), &state.pages)?;
     let first = words.ticket(&mut seat);
     // The tickets of the words count on from pass to pass, and those of a stretch begin anew.
-    let base = course.tickets.wrapping_sub(first);
+    let base = course.tickets.wrapping_sub(first.wrapping_mul(PLACES));
     let (mut seat, marks) = race_on::<Brand, R, G>(
         rt, alloc, gate, workers, &words, seat, state, threads, base,
     )?;
     words.copy_to(&mut seat, &marks, &mut state.pages)?;
     let last = words.ticket(&mut seat);
-    course.tickets = course.tickets.saturating_add(last.saturating_sub(first));
+    let places = last.saturating_sub(first).saturating_mul(PLACES);
+    course.tickets = course.tickets.saturating_add(places);
     let pages = state.pages.share(alloc)?;
     *kept = Some(KeptWords {
         words,
@@ -81,7 +84,11 @@ fn race_on<J: Naming + Send + Sync, R: Threads + Sync, G: Gate + Sync>(
     let mut marks = words.no_marks(alloc)?;
     let (mut parts, seat) = make_parts::<J>(alloc, words, seat, state, threads)?;
     race_parts(rt, gate, workers, &mut parts);
-    let seat = take_parts(words, seat, state, threads, parts, base, &mut marks)?;
+    let mut amos = Vec::new(alloc);
+    let seat = take_parts(
+        words, seat, state, threads, parts, base, &mut marks, &mut amos,
+    )?;
+    order_amos(alloc, amos, threads)?;
     Ok((seat, marks))
 }
 
@@ -114,7 +121,7 @@ fn make_parts<'a, J: Naming>(
                 tid,
                 worker: 1,
                 hart,
-                memory: RacingMem::new(alloc, words, new)?,
+                memory: NotedWords::new(alloc, RacingMem::new(alloc, words, new)?),
                 quota,
                 steps: 0,
                 stop: Ok(Stepped::Went),
@@ -133,6 +140,7 @@ fn take_parts<J: Naming>(
     parts: Vec<Part<'_, J>>,
     base: u64,
     marks: &mut Marks,
+    amos: &mut Vec<Amo>,
 ) -> Result<Seat, OutOfMemory>
     requires named { table_of words.now ≡ J.table }
     requires seat { IsSeatAt J.table seat }
@@ -142,19 +150,20 @@ fn take_parts<J: Naming>(
     ensures marks { AreMarksOf words.now marks.new }
 {
     for part in parts {
-        let (other, stored) = take_part(state, threads, part, base)?;
+        let (other, stored) = take_part(state, threads, part, base, amos)?;
         seat = words.join(seat, other);
         marks.add(&stored);
     }
     Ok(seat)
 }
 
-// Takes a part's thread back. Returns its seat, and marks of what it stored to.
+// Takes a part's thread back, and adds its AMOs. Returns its seat, and marks of what it stored to.
 fn take_part<J: Naming>(
     state: &mut State,
     threads: &mut [ThreadRun],
     part: Part<'_, J>,
     base: u64,
+    amos: &mut Vec<Amo>,
 ) -> Result<(Seat, Marks), OutOfMemory>
     ensures { IfOk result (λ r. IsSeatAt J.table r.0) }
 {
@@ -169,7 +178,13 @@ fn take_part<J: Naming>(
         stop,
     } = part;
     let stop = stop?;
-    if memory.is_out_of_memory() {
+    let NotedWords {
+        memory,
+        amos: noted,
+        entries: _,
+        is_out_of_memory,
+    } = memory;
+    if is_out_of_memory || memory.is_out_of_memory() {
         return Err(OutOfMemory);
     }
     let (seat, log, marks) = memory.into_parts();
@@ -177,7 +192,34 @@ fn take_part<J: Naming>(
     state.steps = state.steps.saturating_add(u64::from(steps));
     if let Some(thread) = threads.get_mut(index) {
         thread.at_call = matches!(stop, Stepped::Ecall | Stepped::Trap { .. });
-        thread.note(steps, base, log.as_slice())?;
+        let first = thread.entry_count();
+        thread.note(steps, base, PLACES, log.as_slice())?;
+        add_amos(index, thread, first, &noted, amos)?;
     }
     Ok((seat, marks))
+}
+
+// Adds the AMOs of a thread whose entries in this pass begin with the first one.
+fn add_amos(
+    index: usize,
+    thread: &ThreadRun,
+    first: usize,
+    noted: &[NotedAmo],
+    amos: &mut Vec<Amo>,
+) -> Result<(), OutOfMemory> {
+    for amo in noted {
+        let entry = first.saturating_add(amo.entry);
+        if let Some(ticket) = thread.ticket(entry) {
+            amos.push(Amo {
+                thread: index,
+                entry,
+                address: amo.address,
+                found: amo.found,
+                stored: amo.stored,
+                ticket,
+                next: thread.ticket(entry.saturating_add(1)).unwrap_or(u64::MAX),
+            })?;
+        }
+    }
+    Ok(())
 }

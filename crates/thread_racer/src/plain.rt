@@ -100,7 +100,7 @@ fn run_thread(
     }
     put_hart(state, thread.tid, hart);
     state.steps = state.steps.saturating_add(u64::from(run.steps));
-    thread.note(run.steps, 0, &memory.entries)?;
+    thread.note(run.steps, 0, 1, &memory.entries)?;
     memory.entries.clear();
     if matches!(stop, Stepped::Went) {
         return Ok(true);

@@ -27,19 +27,38 @@ impl ThreadRun {
         }
     }
 
-    // Notes steps, and those that synchronise. Their tickets are counted from a base.
+    // Notes steps, and those that synchronise. A ticket is so many tickets of the stretch, counted from a base.
     pub(crate) fn note(
         &mut self,
         steps: u32,
         base: u64,
+        each: u64,
         entries: &[(u64, Sc)],
     ) -> Result<(), OutOfMemory> {
         self.quota = self.quota.saturating_sub(steps);
         self.steps = self.steps.saturating_add(steps);
         for entry in entries {
-            self.entries.push((base.wrapping_add(entry.0), entry.1))?;
+            let ticket = base.wrapping_add(entry.0.wrapping_mul(each));
+            self.entries.push((ticket, entry.1))?;
         }
         Ok(())
+    }
+
+    // How many steps that synchronise are noted.
+    pub(crate) fn entry_count(&self) -> usize {
+        self.entries.len()
+    }
+
+    // The ticket of an entry. There is none behind the last one.
+    pub(crate) fn ticket(&self, entry: usize) -> Option<u64> {
+        self.entries.get(entry).map(|entry| entry.0)
+    }
+
+    // Gives an entry another ticket.
+    pub(crate) fn set_ticket(&mut self, entry: usize, ticket: u64) {
+        if let Some(entry) = self.entries.get_mut(entry) {
+            entry.0 = ticket;
+        }
     }
 }
 

@@ -77,7 +77,7 @@ pub(crate) fn take_turn(
     if !turn(alloc, state, supply, thread.tid, &mut course.out)? {
         return Ok(false);
     }
-    thread.note(1, course.tickets, &[(0, Sc::NotSc)])?;
+    thread.note(1, course.tickets, 1, &[(0, Sc::NotSc)])?;
     course.tickets = course.tickets.saturating_add(1);
     Ok(true)
 }
