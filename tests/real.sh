@@ -746,8 +746,8 @@ sum_up() {
 
 # The examples but the one that races, a hundred times each with epochs of each length, the four lengths at once. In each schedule an example
 # writes the same, as far as its output doesn't say who did what. They synchronise by AMOs and calls. So their hints can be followed
-# to the end, but where two AMOs on a word got their tickets in the other order. Of a guest of one thread no epoch is run in vain, and of the
-# others hardly one.
+# to the end, as far as the order of AMOs on a word is known. Of a guest of one thread no epoch is run in vain, and of the others hardly
+# one.
 each_time() {
   local name=$1 input=$2 most=$3 epoch folders=()
   is_right="is_output_of $name"
