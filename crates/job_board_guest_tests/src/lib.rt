@@ -4,11 +4,8 @@
 //! its epoch was run with.
 #![tactic(auto)]
 
-#[cfg(test)]
 mod deposit;
 #[cfg(test)]
 mod epoch_tests;
-#[cfg(test)]
 mod round;
-#[cfg(test)]
 mod worker;

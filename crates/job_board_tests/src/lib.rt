@@ -6,15 +6,10 @@
 
 #[cfg(test)]
 mod answer_tests;
-#[cfg(test)]
 mod crew;
-#[cfg(test)]
 mod joining;
-#[cfg(test)]
 mod publishing;
 #[cfg(test)]
 mod round_tests;
-#[cfg(test)]
 mod starting;
-#[cfg(test)]
 mod working;
