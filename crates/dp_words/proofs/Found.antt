@@ -17,7 +17,7 @@ use Rattle.dp_words.specs.declared.parsing.WordsFault.{WordsFault}
 use Rattle.dp_words.specs.declared.parsing.WordsFault.TheVariants as faults
 use Rattle.dp_words.specs.Fault.{fault_of as fault_by}
 use Rattle.clap.proofs.OnLiterals.{clap_on_literals}
-use Rattle.dp_words.specs.CommandLine.{command_line, inspect_words, record_words, replay_words}
+use Rattle.dp_words.specs.CommandLine.{command_line, inspect_words, record_words, replay_words, selftest_words}
 use Rattle.dp_words.specs.Found.{HasValues, IsFound}
 use Rattle.dp_words.proofs.Passing.{is_settled, takes_ok}
 use Rattle.dp_words.proofs.Kept.{Each, IsPlainWord}
@@ -40,6 +40,10 @@ abbrev third : List Shape → Shape
 third [] = new_shape []
 third (s ∷ ss) = second ss
 
+abbrev fourth : List Shape → Shape
+fourth [] = new_shape []
+fourth (s ∷ ss) = third ss
+
 abbrev record_built : Shape
 record_built = first line.subs
 
@@ -48,6 +52,9 @@ replay_built = second line.subs
 
 abbrev inspect_built : Shape
 inspect_built = third line.subs
+
+abbrev selftest_built : Shape
+selftest_built = fourth line.subs
 
 pub simple_and_free : is_simple_and_free command_line ≡ true
 unfolding clap_on_literals
@@ -85,6 +92,10 @@ inspect_plain : Each (IsPlainWord inspect_built.rules) inspect_built.rules
 unfolding clap_on_literals
 inspect_plain = (record { only = refl; sets = refl; has_values = refl }, (record { only = refl; sets = refl; has_values = refl }, tt))
 
+selftest_plain : Each (IsPlainWord selftest_built.rules) selftest_built.rules
+unfolding clap_on_literals
+selftest_plain = (record { only = refl; sets = refl; has_values = refl }, (record { only = refl; sets = refl; has_values = refl }, tt))
+
 record_values : (rows : List Row) → Each (HasFirstIfWanted rows) record_built.rules → HasValues record_words rows
 record_values rows values =
     (values.0 (inr refl), (values.1.0 (inr refl), (values.1.1.0 (inl refl), (values.1.1.1.0 (inl refl), (values.1.1.1.1.0 (inl refl), (values.1.1.1.1.1.0 (inl refl), (values.1.1.1.1.1.1.0 (inl refl), (values.1.1.1.1.1.1.1.0 (inl refl), tt))))))))
@@ -95,25 +106,29 @@ replay_values rows values = (values.0 (inr refl), (values.1.0 (inl refl), tt))
 inspect_values : (rows : List Row) → Each (HasFirstIfWanted rows) inspect_built.rules → HasValues inspect_words rows
 inspect_values rows values = (values.0 (inr refl), tt)
 
+selftest_values : (rows : List Row) → Each (HasFirstIfWanted rows) selftest_built.rules → HasValues selftest_words rows
+selftest_values rows values = (values.0 (inr refl), tt)
+
 -- ---- the whole
 
 -- the first whose name was met
-abbrev chosen : (is_record is_replay is_inspect : Bool) → Option Shape
-chosen is_record is_replay is_inspect =
-    cond is_record (Some record_built) (cond is_replay (Some replay_built) (cond is_inspect (Some inspect_built) None))
+abbrev chosen : (is_record is_replay is_inspect is_selftest : Bool) → Option Shape
+chosen is_record is_replay is_inspect is_selftest =
+    cond is_record (Some record_built) (cond is_replay (Some replay_built) (cond is_inspect (Some inspect_built) (cond is_selftest (Some selftest_built) None)))
 
 entered_found : (stop : Option (Text × List Text)) → entered_passes line stop ≡ true → is_some (entered line stop) ≡ true → IsFound (entered line stop)
 entered_found None ok some = absurd (true≢false (sym some))
-entered_found (Some p) ok some = go (answers_to p.0 (label_of record_built)) (answers_to p.0 (label_of replay_built)) (answers_to p.0 (label_of inspect_built)) ok some
+entered_found (Some p) ok some = go (answers_to p.0 (label_of record_built)) (answers_to p.0 (label_of replay_built)) (answers_to p.0 (label_of inspect_built)) (answers_to p.0 (label_of selftest_built)) ok some
   where
-    go : (x y z : Bool)
-        → option_map_or (λ s. level_passes s [] nothing_held p.1 false) (chosen x y z) true ≡ true
-        → is_some (option_map (λ s. rows_at s p.1) (chosen x y z)) ≡ true
-        → IsFound (option_map (λ s. rows_at s p.1) (chosen x y z))
-    go true y z ok some = inl (refl, record_values (rows_after record_built.rules [] p.1) (level_wanted record_built [] p.1 false record_plain refl ok))
-    go false true z ok some = inr (inl (refl, replay_values (rows_after replay_built.rules [] p.1) (level_wanted replay_built [] p.1 false replay_plain refl ok)))
-    go false false true ok some = inr (inr (refl, inspect_values (rows_after inspect_built.rules [] p.1) (level_wanted inspect_built [] p.1 false inspect_plain refl ok)))
-    go false false false ok some = absurd (true≢false (sym some))
+    go : (x y z u : Bool)
+        → option_map_or (λ s. level_passes s [] nothing_held p.1 false) (chosen x y z u) true ≡ true
+        → is_some (option_map (λ s. rows_at s p.1) (chosen x y z u)) ≡ true
+        → IsFound (option_map (λ s. rows_at s p.1) (chosen x y z u))
+    go true y z u ok some = inl (refl, record_values (rows_after record_built.rules [] p.1) (level_wanted record_built [] p.1 false record_plain refl ok))
+    go false true z u ok some = inr (inl (refl, replay_values (rows_after replay_built.rules [] p.1) (level_wanted replay_built [] p.1 false replay_plain refl ok)))
+    go false false true u ok some = inr (inr (inl (refl, inspect_values (rows_after inspect_built.rules [] p.1) (level_wanted inspect_built [] p.1 false inspect_plain refl ok))))
+    go false false false true ok some = inr (inr (inr (refl, selftest_values (rows_after selftest_built.rules [] p.1) (level_wanted selftest_built [] p.1 false selftest_plain refl ok))))
+    go false false false false ok some = absurd (true≢false (sym some))
 
 -- words that are taken name a subcommand, and have its values
 pub found : (words : List Text) → takes command_line words ≡ true → IsFound (subcommand_of command_line words)

@@ -8,7 +8,7 @@ use Rattle.std.specs.Str.Parse.{ParsesUnsigned}
 use Rattle.clap.specs.Words.{IsUnsignedIn, Row, Text}
 use Rattle.clap.specs.declared.builder.value_parser.ValueParser.TheVariants as parser
 use Rattle.clap.proofs.ValueTestLemmas.{accepts-Accepts}
-use Rattle.dp_words.specs.CommandLine.{number}
+use Rattle.dp_words.specs.CommandLine.{required_number}
 use Rattle.dp_words.specs.Commands.{number_of, text_of}
 use Rattle.dp_words.specs.Found.{HasNumber, HasValue}
 
@@ -29,21 +29,21 @@ number_read k n name t rows r is parses ok =
     let h = rw is at parses in
     (OkIff-at_ok r _ _ n h ok).1
 
-in_bounds : (least most : ℕ) (name default : Text) (rows : List Row) → HasValue rows (number name least most default) → IsUnsignedIn least most (text_of name rows)
-in_bounds least most name default rows has = accepts-Accepts false (parser.Unsigned least most) (text_of name rows) has.1
+in_bounds : (least most : ℕ) (name : Text) (rows : List Row) → HasValue rows (required_number name least most) → IsUnsignedIn least most (text_of name rows)
+in_bounds least most name rows has = accepts-Accepts false (parser.Unsigned least most) (text_of name rows) has.1
 
 -- a number in its bounds reads as one below a greater bound
-pub number_below : (bound least most : ℕ) (name default : Text) (rows : List Row) → most < bound → HasValue rows (number name least most default)
+pub number_below : (bound least most : ℕ) (name : Text) (rows : List Row) → most < bound → HasValue rows (required_number name least most)
     → HasNumber bound name rows
-number_below bound least most name default rows below has =
-    let inside = in_bounds least most name default rows has in
+number_below bound least most name rows below has =
+    let inside = in_bounds least most name rows has in
     let most_of : number_of name rows ≤ most = inside.3 in
     (has.0, inside.0, omega arith)
 
-pub number_inside : (least most n : ℕ) (name default : Text) (rows : List Row) → n ≡ number_of name rows → HasValue rows (number name least most default)
+pub number_inside : (least most n : ℕ) (name : Text) (rows : List Row) → n ≡ number_of name rows → HasValue rows (required_number name least most)
     → (least ≤ n) × (n ≤ most)
-number_inside least most n name default rows is has =
-    let inside = in_bounds least most name default rows has in
+number_inside least most n name rows is has =
+    let inside = in_bounds least most name rows has in
     let from : least ≤ number_of name rows = inside.2 in
     let to : number_of name rows ≤ most = inside.3 in
     (omega (arith, is), omega (arith, is))

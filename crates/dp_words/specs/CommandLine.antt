@@ -19,6 +19,10 @@ number name least most default = record (new_rule name) {
   defaults = default ∷ [];
 }
 
+-- NUMBER at its place, which must be there, with its bounds
+abbrev pub required_number : Text → (least most : ℕ) → Rule
+required_number name least most = record (new_rule name) { action = Some Set; required = true; parser = Some (parser.Unsigned least most) }
+
 abbrev pub record_words : List Rule
 record_words =
     text (codes "guest")
@@ -40,6 +44,9 @@ replay_words =
 abbrev pub inspect_words : List Rule
 inspect_words = text (codes "journal") ∷ []
 
+abbrev pub selftest_words : List Rule
+selftest_words = required_number (codes "n") 0 4294967295 ∷ []
+
 abbrev pub record_line : App
 record_line = fold with_rule (new_app (codes "record")) record_words
 
@@ -49,6 +56,9 @@ replay_line = fold with_rule (new_app (codes "replay")) replay_words
 abbrev pub inspect_line : App
 inspect_line = fold with_rule (new_app (codes "inspect")) inspect_words
 
+abbrev pub selftest_line : App
+selftest_line = fold with_rule (new_app (codes "selftest")) selftest_words
+
 -- one of the subcommands must be there, and `help` is none of them
 abbrev pub no_words : App
 no_words =
@@ -56,4 +66,7 @@ no_words =
     (new_app (codes "dpcli"))
 
 abbrev pub command_line : App
-command_line = with_subcommand (with_subcommand (with_subcommand no_words record_line.top) replay_line.top) inspect_line.top
+command_line =
+    with_subcommand
+    (with_subcommand (with_subcommand (with_subcommand no_words record_line.top) replay_line.top) inspect_line.top)
+    selftest_line.top

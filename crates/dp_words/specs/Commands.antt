@@ -6,7 +6,7 @@ use Rattle.std.specs.declared.alloc.Global.{Global}
 use Rattle.clap.specs.Words.{Row, Text, first_of, subcommand_of, takes}
 use Rattle.dp_words.specs.CommandLine.{command_line}
 use Rattle.dp_words.specs.declared.command.Command.{Command}
-use Rattle.dp_words.specs.declared.command.Command.TheVariants.{Inspect, Record, Replay}
+use Rattle.dp_words.specs.declared.command.Command.TheVariants.{Inspect, Record, Replay, Selftest}
 
 -- the text of this name: words that are taken have one, so that the empty text never stands for it
 abbrev pub text_of : Text → List Row → Text
@@ -28,12 +28,16 @@ replay_of rows = Replay (text_of (codes "journal") rows) (number_of (codes "work
 abbrev pub inspect_of : List Row → Command
 inspect_of rows = Inspect (text_of (codes "journal") rows)
 
+abbrev pub selftest_of : List Row → Command
+selftest_of rows = Selftest (number_of (codes "n") rows)
+
 -- which subcommand it is, a row for each
 abbrev pub named_command : Text → List Row → Option Command
 named_command name rows =
     if bytes_eq name (codes "record") then Some (record_of rows)
     else if bytes_eq name (codes "replay") then Some (replay_of rows)
     else if bytes_eq name (codes "inspect") then Some (inspect_of rows)
+    else if bytes_eq name (codes "selftest") then Some (selftest_of rows)
     else None
 
 abbrev pub command_found : Option (Text × List Row) → Option Command
@@ -56,3 +60,4 @@ IsInRange (Record guest journal workers epoch slice ahead mark limit) =
     × (mark ≤ 1000) × (1 ≤ limit) × (limit ≤ 1000000000000)
 IsInRange (Replay journal workers) = (1 ≤ workers) × (workers ≤ 64)
 IsInRange (Inspect journal) = ⊤
+IsInRange (Selftest n) = n ≤ 4294967295

@@ -3,7 +3,7 @@ use Rattle.std.specs.Prelude.{◌≡◌, ◌⊎◌, ◌<◌, ◌∷◌, ⊤, ℕ
 use Rattle.std.specs.Str.Parse.{IsNumeral, without_leading_plus}
 use Rattle.clap.specs.Words.{Row, Rule, Text, first_of}
 use Rattle.clap.specs.Takes.{value_passes}
-use Rattle.dp_words.specs.CommandLine.{inspect_words, record_words, replay_words}
+use Rattle.dp_words.specs.CommandLine.{inspect_words, record_words, replay_words, selftest_words}
 use Rattle.dp_words.specs.Commands.{number_of, text_of}
 
 -- clap found a text of this name, and one that reads as a number below the bound
@@ -28,3 +28,4 @@ IsFound None = ⊥
 IsFound (Some found) = ((found.0 ≡ codes "record") × HasValues record_words found.1)
     ⊎ ((found.0 ≡ codes "replay") × HasValues replay_words found.1)
     ⊎ ((found.0 ≡ codes "inspect") × HasValues inspect_words found.1)
+    ⊎ ((found.0 ≡ codes "selftest") × HasValues selftest_words found.1)

@@ -35,4 +35,9 @@ pub enum Command {
         /// The name of the journal's file.
         journal: Text,
     },
+    /// Record and replay a made guest.
+    Selftest {
+        /// The guest's number.
+        n: u32,
+    },
 }

@@ -2,7 +2,7 @@
 ghost use Rattle.std.specs.Prelude.{◌≡◌, IfOk, false};
 ghost use Rattle.clap.specs.Words.{app_of, with_rule};
 ghost use Rattle.clap.specs.declared.builder.command.Command.TheViews.{out-Command as fields_of};
-ghost use Rattle.dp_words.specs.CommandLine.{command_line, inspect_line, number, record_line, replay_line, text};
+ghost use Rattle.dp_words.specs.CommandLine.{command_line, inspect_line, number, record_line, replay_line, required_number, selftest_line, text};
 
 use clap::builder::ValueParser;
 use clap::{Arg, ArgAction, Command};
@@ -18,7 +18,8 @@ pub fn command_line<'a>(alloc: Global) -> Result<Command<'a>, AllocError>
         .disable_help_subcommand(true)
         .subcommand(record(alloc)?)?
         .subcommand(replay(alloc)?)?
-        .subcommand(inspect(alloc)?)
+        .subcommand(inspect(alloc)?)?
+        .subcommand(selftest(alloc)?)
 }
 
 // `record GUEST JOURNAL` and its options.
@@ -52,12 +53,45 @@ fn inspect<'a>(alloc: Global) -> Result<Command<'a>, AllocError>
     with_text(alloc, Command::new(alloc, "inspect"), "journal")
 }
 
+// `selftest N`.
+fn selftest<'a>(alloc: Global) -> Result<Command<'a>, AllocError>
+    ensures { IfOk result (λ line. (app_of line ≡ selftest_line) × ((fields_of line).has_globals ≡ false)) }
+{
+    with_required_number(
+        alloc,
+        Command::new(alloc, "selftest"),
+        "n",
+        0,
+        u32::MAX as u64,
+    )
+}
+
 // The line with one more text, which must be there.
 fn with_text<'a>(alloc: Global, line: Command<'a>, name: &'a str) -> Result<Command<'a>, AllocError>
     ensures { IfOk result (λ more. (app_of more ≡ with_rule (app_of line.entry) (text name.entry.now))
         × ((fields_of more).has_globals ≡ (fields_of line.entry).has_globals)) }
 {
     line.arg(Arg::new(alloc, name).required(true).action(ArgAction::Set))
+}
+
+// The line with one more number in its bounds, which must be there.
+fn with_required_number<'a>(
+    alloc: Global,
+    line: Command<'a>,
+    name: &'a str,
+    least: u64,
+    most: u64,
+) -> Result<Command<'a>, AllocError>
+    ensures { IfOk result (λ more.
+        (app_of more ≡ with_rule (app_of line.entry) (required_number name.entry.now least most))
+        × ((fields_of more).has_globals ≡ (fields_of line.entry).has_globals)) }
+{
+    line.arg(
+        Arg::new(alloc, name)
+            .required(true)
+            .action(ArgAction::Set)
+            .value_parser(ValueParser::unsigned(least, most)),
+    )
 }
 
 // The line with one more option, a number with its bounds and its default.

@@ -1,8 +1,8 @@
 // What a parse found, as the values of a command.
 ghost use Rattle.std.specs.Prelude.{◌≡◌, ◌<◌, ◌^◌, IfOk};
 ghost use Rattle.clap.specs.Words.{found_of, rows_of};
-ghost use Rattle.dp_words.specs.CommandLine.{inspect_words, record_words, replay_words};
-ghost use Rattle.dp_words.specs.Commands.{IsInRange, inspect_of, number_of, record_of, replay_of, text_of};
+ghost use Rattle.dp_words.specs.CommandLine.{inspect_words, record_words, replay_words, selftest_words};
+ghost use Rattle.dp_words.specs.Commands.{IsInRange, inspect_of, number_of, record_of, replay_of, selftest_of, text_of};
 ghost use Rattle.dp_words.specs.Found.{HasNumber, HasText, HasValues};
 
 use crate::command::Command;
@@ -52,6 +52,17 @@ pub fn inspect(alloc: Global, matches: &ArgMatches<'_>) -> Result<Command, Alloc
     Ok(Command::Inspect {
         journal: text(alloc, matches, "journal")?,
     })
+}
+
+/// The command of `selftest`.
+pub fn selftest(matches: &ArgMatches<'_>) -> Command
+    requires { HasValues selftest_words (rows_of (found_of matches.now)) }
+    ensures command { result ≡ selftest_of (rows_of (found_of matches.now)) }
+    ensures ranges { IsInRange result }
+{
+    Command::Selftest {
+        n: small_number(matches, "n"),
+    }
 }
 
 // The text of this name.

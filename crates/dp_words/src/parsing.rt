@@ -58,6 +58,7 @@ fn found(alloc: Global, matches: &ArgMatches<'_>) -> Result<Command, AllocError>
         ("record", matches) => matched::record(alloc, matches),
         ("replay", matches) => matched::replay(alloc, matches),
         ("inspect", matches) => matched::inspect(alloc, matches),
+        ("selftest", matches) => Ok(matched::selftest(matches)),
         _ => unreachable!(),
     }
 }

@@ -4,7 +4,7 @@ use std::test::Fail;
 
 #[test]
 fn words_that_are_taken(rt: HostRuntime) -> Result<(), Fail> {
-    let cases: [(&str, &str, [u64; 6]); 8] = [
+    let cases: [(&str, &str, [u64; 6]); 14] = [
         ("dpcli replay j", "j", [4, 0, 0, 0, 0, 0]),
         (
             "dpcli record g j",
@@ -29,6 +29,16 @@ fn words_that_are_taken(rt: HostRuntime) -> Result<(), Fail> {
         ("x replay --workers 2 j", "j", [2, 0, 0, 0, 0, 0]),
         ("dpcli inspect j", "inspect j", [0; 6]),
         ("x inspect -- --j", "inspect --j", [0; 6]),
+        ("dpcli selftest 0", "selftest", [0; 6]),
+        ("dpcli selftest 23", "selftest", [23, 0, 0, 0, 0, 0]),
+        ("x selftest 0023", "selftest", [23, 0, 0, 0, 0, 0]),
+        ("x selftest +23", "selftest", [23, 0, 0, 0, 0, 0]),
+        ("x selftest -- 7999", "selftest", [7999, 0, 0, 0, 0, 0]),
+        (
+            "dpcli selftest 4294967295",
+            "selftest",
+            [4_294_967_295, 0, 0, 0, 0, 0],
+        ),
     ];
     for (line, said, values) in cases {
         let (texts, numbers) = said_by(&rt, line)?;
@@ -38,8 +48,8 @@ fn words_that_are_taken(rt: HostRuntime) -> Result<(), Fail> {
     Ok(())
 }
 
-// The texts of the command that a line says, and its numbers, with zeros for those that it lacks. The texts of an inspection begin
-// with its name.
+// The texts of the command that a line says, and its numbers, with zeros for those that it lacks. The texts of an inspection and of a
+// self-test begin with their name.
 fn said_by(rt: &HostRuntime, line: &str) -> Result<(String, [u64; 6]), Fail> {
     let alloc = rt.alloc();
     let words = words_of(rt, line)?;
@@ -75,6 +85,10 @@ fn said_by(rt: &HostRuntime, line: &str) -> Result<(String, [u64; 6]), Fail> {
             format!(in alloc; "inspect {}", journal.as_str())?,
             [0; 6],
         )),
+        Ok(Command::Selftest { n }) => Ok((
+            String::from_str(alloc, "selftest")?,
+            [u64::from(n), 0, 0, 0, 0, 0],
+        )),
         Err(_) => Err(Fail::from("refused")),
     }
 }
@@ -105,6 +119,20 @@ fn words_that_are_refused(rt: HostRuntime) -> Result<(), Fail> {
         "dpcli inspect j --workers 4",
         "dpcli inspect --help",
         "dpcli inspects j",
+        "dpcli selftest",
+        "dpcli selftest ",
+        "dpcli selftest x",
+        "dpcli selftest 2x",
+        "dpcli selftest 2.0",
+        "dpcli selftest 0x17",
+        "dpcli selftest -1",
+        "dpcli selftest -- -1",
+        "dpcli selftest 4294967296",
+        "dpcli selftest 18446744073709551616",
+        "dpcli selftest 1 2",
+        "dpcli selftest 1 --workers 4",
+        "dpcli selftest --help",
+        "dpcli selftests 1",
         "dpcli record g j --epoch x",
         "dpcli record g j --limit 1000000000001",
     ];

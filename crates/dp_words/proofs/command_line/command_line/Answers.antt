@@ -1,7 +1,7 @@
 use Rattle.std.proofs.Common.{rules, ◌≡◌}
 use Rattle.std.proofs.lemmas.Result.{IfOk-weaker}
 use Rattle.clap.specs.Words.{app_of, with_subcommand}
-use Rattle.dp_words.specs.CommandLine.{inspect_line, no_words, record_line, replay_line}
+use Rattle.dp_words.specs.CommandLine.{inspect_line, no_words, record_line, replay_line, selftest_line}
 use Rattle.dp_words.proofs.LineLemmas.{with_line}
 use Rattle.dp_words.proofs.command_line.command_line.Goals as goal
 
@@ -11,4 +11,6 @@ returns c =
     let one = with_line _ _ _ no_words record_line c.in_ok-subcommand.ensures none c.in_ok-record.ensures in
     let two = with_line _ _ _ (with_subcommand no_words record_line.top) replay_line c.in_ok-subcommand-2.ensures one c.in_ok-replay.ensures in
     let both = with_subcommand (with_subcommand no_words record_line.top) replay_line.top in
-    IfOk-weaker c.subcommand-3.result _ _ (λ line adds. with_line _ _ line both inspect_line adds two c.in_ok-inspect.ensures) c.subcommand-3.ensures
+    let three = with_line _ _ _ both inspect_line c.in_ok-subcommand-3.ensures two c.in_ok-inspect.ensures in
+    let all = with_subcommand both inspect_line.top in
+    IfOk-weaker c.subcommand-4.result _ _ (λ line adds. with_line _ _ line all selftest_line adds three c.in_ok-selftest.ensures) c.subcommand-4.ensures
