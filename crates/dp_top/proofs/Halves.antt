@@ -39,7 +39,7 @@ abbrev state_in : State → Result State Refusal → State
 state_in other (Ok s) = s
 state_in other (Err why) = other
 
-same_play : (s t : State) (a b : List ℕ) → played (made (Ok s) a) ≡ played (made (Ok t) b) → (s ≡ t) × (a ≡ b)
+pub same_play : (s t : State) (a b : List ℕ) → played (made (Ok s) a) ≡ played (made (Ok t) b) → (s ≡ t) × (a ≡ b)
 same_play s t a b is =
     let same : made (Ok s) a ≡ made (Ok t) b = ap (played_in (made (Ok t) b)) is in
     (ap (λ (p : Played). state_in t p.stop) same, ap (λ (p : Played). p.output) same)

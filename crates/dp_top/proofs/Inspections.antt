@@ -22,7 +22,7 @@ use Rattle.dp_top.specs.Asking.{AskedInspection}
 use Rattle.dp_top.specs.Moments.{EachListingMoment, listing_of}
 use Rattle.dp_top.specs.Running.{Did, InspectedTo, IsKnownListed}
 use Rattle.dp_top.proofs.Replays.{Sends, quiet_on, told_on}
-use Rattle.dp_top.proofs.Statuses.{not_recorded, not_replayed}
+use Rattle.dp_top.proofs.Statuses.{no_inspection, not_recorded, not_replayed}
 
 -- ---- a journal that could not be attached
 
@@ -62,7 +62,8 @@ did_listing tells words files i j before mid status (inl refused) asked = absurd
 did_listing tells words files i j before mid status (inr (inl memory)) asked = quiet_on listed_text (known_disk before) before mid memory.2
 did_listing tells words files i j before mid status (inr (inr (inl did))) asked = absurd (not_recorded words did.0 asked)
 did_listing tells words files i j before mid status (inr (inr (inr (inl did)))) asked = absurd (not_replayed words did.0 asked)
-did_listing tells words files i j before mid status (inr (inr (inr (inr did)))) asked = moments_on (known_disk before) before mid did.2.0 did.2.2
+did_listing tells words files i j before mid status (inr (inr (inr (inr (inl did))))) asked = moments_on (known_disk before) before mid did.2.0 did.2.2
+did_listing tells words files i j before mid status (inr (inr (inr (inr (inr did))))) asked = absurd (no_inspection words did.0 asked)
 
 -- and then the status's line is sent
 pub command_listing : (tells : Tells) (words : List (String Global)) (files : Option (List File)) (i j : Option Input) (before mid after : Option History) (status : Status) (text : List ℕ) (ok : Bool) → Did tells words files i j before mid status
@@ -101,6 +102,7 @@ complete_listing tells words files i j before mid status (inl refused) asked who
 complete_listing tells words files i j before mid status (inr (inl memory)) asked whole disk sink = inr memory.0
 complete_listing tells words files i j before mid status (inr (inr (inl did))) asked whole disk sink = absurd (not_recorded words did.0 asked)
 complete_listing tells words files i j before mid status (inr (inr (inr (inl did)))) asked whole disk sink = absurd (not_replayed words did.0 asked)
-complete_listing tells words files i j before mid status (inr (inr (inr (inr (said, kept, (answer, is, inspected)))))) asked whole disk sink =
+complete_listing tells words files i j before mid status (inr (inr (inr (inr (inr did))))) asked whole disk sink = absurd (no_inspection words did.0 asked)
+complete_listing tells words files i j before mid status (inr (inr (inr (inr (inl (said, kept, (answer, is, inspected))))))) asked whole disk sink =
     subst (λ (s : Status). (s ≡ statuses.Ok) ⊎ (s ≡ statuses.OutOfMemory)) (sym is)
     (listed (known_disk before) before mid answer inspected whole (λ e. disk (is ∙ ap status_of_inspection e)) (λ e. sink (is ∙ ap status_of_inspection e)))

@@ -3,4 +3,5 @@ pub mod Statuses
 mod Halves
 mod Replays
 mod Inspections
+mod SelfTests
 mod Moments

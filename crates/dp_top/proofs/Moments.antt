@@ -27,7 +27,7 @@ use Rattle.recorder.proofs.Moments.{blank_reads, nothing_begun}
 use Rattle.dp_top.specs.Asking.{Asked}
 use Rattle.dp_top.specs.Moments.{EveryMoment, IsStill, StandsFor, StillThroughout}
 use Rattle.dp_top.specs.Running.{CameTo, Did, RecordedAs}
-use Rattle.dp_top.proofs.Statuses.{not_both, not_recorded, same_mark, same_name}
+use Rattle.dp_top.proofs.Statuses.{no_recording, not_both, not_recorded, same_mark, same_name}
 
 -- ---- nothing was mid
 
@@ -101,7 +101,8 @@ did_moments tells words files i j before mid status (inr (inr (inl did))) a =
     subst (λ (every : ℕ). IfKnown (EveryMoment a.guest every files i j) before mid) (same_mark words did.0 a)
     (subst (λ (name : List ℕ). IfKnown (EveryMoment name did.0.options.mark files i j) before mid) (same_name words did.0 a) (came_moments tells did.0.guest did.0.options files i j before mid status did.1))
 did_moments tells words files i j before mid status (inr (inr (inr (inl did)))) a = absurd (not_both words a did.0)
-did_moments tells words files i j before mid status (inr (inr (inr (inr did)))) a = absurd (not_recorded words a did.0)
+did_moments tells words files i j before mid status (inr (inr (inr (inr (inl did))))) a = absurd (not_recorded words a did.0)
+did_moments tells words files i j before mid status (inr (inr (inr (inr (inr did))))) a = absurd (no_recording words did.0 a)
 
 -- and then its status's line is sent
 pub command_moments : (tells : Tells) (words : List (String Global)) (files : Option (List File)) (i j : Option Input) (before mid after : Option History) (status : Status) (told : Bool) → Did tells words files i j before mid status

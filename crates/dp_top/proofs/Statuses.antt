@@ -26,9 +26,9 @@ use Rattle.recorder.proofs.Moments.{nothing_left, nothing_synced}
 use Rattle.dp_report.specs.declared.status.Status.{Status}
 use Rattle.dp_report.specs.declared.status.Status.TheVariants as statuses
 use Rattle.dp_words.specs.declared.command.Command.{Command}
-use Rattle.dp_words.specs.declared.command.Command.TheVariants.{Inspect, Record, Replay}
+use Rattle.dp_words.specs.declared.command.Command.TheVariants.{Inspect, Record, Replay, Selftest}
 use Rattle.dp_top.specs.Answer.{status_of}
-use Rattle.dp_top.specs.Asking.{Asked, AskedInspection, AskedReplay}
+use Rattle.dp_top.specs.Asking.{Asked, AskedInspection, AskedReplay, AskedSelfTest}
 use Rattle.dp_top.specs.Running.{RecordedAs, CameTo, Did, NamesGuest, IsKnownEmpty, IsNoFault}
 
 -- a disk that could not be attached
@@ -72,6 +72,7 @@ abbrev guest_named : Option Command → List ℕ
 guest_named (Some (Record guest journal workers epoch slice ahead mark limit)) = guest
 guest_named (Some (Replay journal workers)) = []
 guest_named (Some (Inspect journal)) = []
+guest_named (Some (Selftest n)) = []
 guest_named None = []
 
 -- words ask for one guest
@@ -82,6 +83,7 @@ abbrev mark_named : Option Command → ℕ
 mark_named (Some (Record guest journal workers epoch slice ahead mark limit)) = mark
 mark_named (Some (Replay journal workers)) = 0
 mark_named (Some (Inspect journal)) = 0
+mark_named (Some (Selftest n)) = 0
 mark_named None = 0
 
 -- and for one count of epochs from mark to mark
@@ -92,6 +94,7 @@ abbrev asks_to_record : Option Command → Bool
 asks_to_record (Some (Record guest journal workers epoch slice ahead mark limit)) = true
 asks_to_record (Some (Replay journal workers)) = false
 asks_to_record (Some (Inspect journal)) = false
+asks_to_record (Some (Selftest n)) = false
 asks_to_record None = false
 
 -- words ask for one command
@@ -105,10 +108,28 @@ abbrev asks_to_replay : Option Command → Bool
 asks_to_replay (Some (Record guest journal workers epoch slice ahead mark limit)) = false
 asks_to_replay (Some (Replay journal workers)) = true
 asks_to_replay (Some (Inspect journal)) = false
+asks_to_replay (Some (Selftest n)) = false
 asks_to_replay None = false
 
 pub not_replayed : (words : List (String Global)) → AskedReplay words → AskedInspection words → ⊥
 not_replayed words replay inspect = let same : true ≡ false = ap asks_to_replay (sym replay.said ∙ inspect.said) in cc
+
+abbrev asks_to_test : Option Command → Bool
+asks_to_test (Some (Record guest journal workers epoch slice ahead mark limit)) = false
+asks_to_test (Some (Replay journal workers)) = false
+asks_to_test (Some (Inspect journal)) = false
+asks_to_test (Some (Selftest n)) = true
+asks_to_test None = false
+
+-- words that ask for a self-test ask for nothing else
+pub no_recording : (words : List (String Global)) → AskedSelfTest words → Asked words → ⊥
+no_recording words test record_ = let same : true ≡ false = ap asks_to_test (sym test.said ∙ record_.said) in cc
+
+pub no_replay : (words : List (String Global)) → AskedSelfTest words → AskedReplay words → ⊥
+no_replay words test replay = let same : true ≡ false = ap asks_to_test (sym test.said ∙ replay.said) in cc
+
+pub no_inspection : (words : List (String Global)) → AskedSelfTest words → AskedInspection words → ⊥
+no_inspection words test inspect = let same : true ≡ false = ap asks_to_test (sym test.said ∙ inspect.said) in cc
 
 -- a name has one file
 same_guest : (files : Option (List File)) (name bytes : List ℕ) → NamesGuest name files → IsFetched files name bytes → IsGuestFile bytes
@@ -151,7 +172,8 @@ complete tells words files i j before there status (inr (inl memory)) asked name
 complete tells words files i j before there status (inr (inr (inl did))) asked names empty file input disk sink =
     complete_by tells did.0.guest did.0.options files i j before there status did.1 (subst (λ (n : List ℕ). NamesGuest n files) (same_name words asked did.0) names) empty file input disk sink
 complete tells words files i j before there status (inr (inr (inr (inl did)))) asked names empty file input disk sink = absurd (not_both words asked did.0)
-complete tells words files i j before there status (inr (inr (inr (inr did)))) asked names empty file input disk sink = absurd (not_recorded words asked did.0)
+complete tells words files i j before there status (inr (inr (inr (inr (inl did))))) asked names empty file input disk sink = absurd (not_recorded words asked did.0)
+complete tells words files i j before there status (inr (inr (inr (inr (inr did))))) asked names empty file input disk sink = absurd (no_recording words did.0 asked)
 
 -- a count that rose has risen later too
 pub rose_before : (a b c : ℕ) → a ≤ b → b ≤ c → Rose a b → Rose a c

@@ -9,6 +9,8 @@ use Rattle.epoch_replay.specs.declared.replay_fault.ReplayFault.{ReplayFault}
 use Rattle.epoch_replay.specs.declared.replay_fault.ReplayFault.TheVariants as replays
 use Rattle.dp_report.specs.declared.status.Status.{Status}
 use Rattle.dp_report.specs.declared.status.Status.TheVariants as statuses
+use Rattle.dp_top.specs.declared.self_test_fault.SelfTestFault.{SelfTestFault}
+use Rattle.dp_top.specs.declared.self_test_fault.SelfTestFault.TheVariants as tests
 
 -- of a recording
 abbrev pub status_of : Result Report RecordFault → Status
@@ -46,3 +48,10 @@ status_of_inspection (Err (inspections.BadJournal number)) = statuses.BadJournal
 status_of_inspection (Err inspections.DiskFault) = statuses.DiskFault
 status_of_inspection (Err inspections.OutputFault) = statuses.OutputFault
 status_of_inspection (Err inspections.OutOfMemory) = statuses.OutOfMemory
+
+-- of a self-test without a line; the last row never comes
+abbrev pub status_of_self_test : SelfTestFault → Status
+status_of_self_test (tests.StepLimit steps) = statuses.StepLimit steps
+status_of_self_test (tests.JournalFull end need) = statuses.JournalFull end need
+status_of_self_test tests.OutOfMemory = statuses.OutOfMemory
+status_of_self_test tests.Differs = statuses.DiskFault

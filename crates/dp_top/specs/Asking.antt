@@ -4,7 +4,7 @@ use Rattle.std.specs.declared.alloc.Global.{Global}
 use Rattle.dp_base.specs.declared.limits.TheConstants.{MAX_JOURNAL_BYTES}
 use Rattle.dp_words.specs.Commands.{are_taken, command_of}
 use Rattle.dp_words.specs.declared.command.Command.{Command}
-use Rattle.dp_words.specs.declared.command.Command.TheVariants.{Inspect, Record, Replay}
+use Rattle.dp_words.specs.declared.command.Command.TheVariants.{Inspect, Record, Replay, Selftest}
 use Rattle.recorder.specs.declared.options.Options.{Options}
 
 -- a recording of this guest into this journal with these options
@@ -32,3 +32,9 @@ pub record AskedInspection (words : List (String Global)) : Type 0 where
   pub journal : List ℕ
   pub taken : are_taken words ≡ true
   pub said : command_of words ≡ Some (Inspect journal)
+
+-- the words ask for a self-test on this guest
+pub record AskedSelfTest (words : List (String Global)) : Type 0 where
+  pub n : ℕ
+  pub taken : are_taken words ≡ true
+  pub said : command_of words ≡ Some (Selftest n)

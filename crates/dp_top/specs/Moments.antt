@@ -1,5 +1,5 @@
 -- What a crash leaves at every moment of a command. This project's own.
-use Rattle.std.specs.Prelude.{◌≡◌, ◌⊎◌, ◌<◌, ℕ, List, [], ◌++◌, length, Option, None, Some}
+use Rattle.std.specs.Prelude.{◌≡◌, ◌⊎◌, ◌<◌, ℕ, List, [], ◌++◌, length, Option, None, Some, Ok}
 use Rattle.disk_model.specs.Directory.{File, IsFetched}
 use Rattle.disk_model.specs.History.{History, IsImage, IsSynced}
 use Rattle.disk_model.specs.Input.{Input}
@@ -9,6 +9,8 @@ use Rattle.epoch_replay.specs.Inspecting.{SendsInOrder}
 use Rattle.epoch_replay.specs.Inspection.{inspection}
 use Rattle.journal_text.specs.Reading.{Reading, reads}
 use Rattle.recorder.specs.Moments.{IsRecording}
+use Rattle.dp_report.specs.declared.report.Report.{Report}
+use Rattle.dp_top.specs.SelfTesting.{MadeRecording, self_test_line}
 
 -- The image is a recording of the guest whose file has this name, from its start, with a mark after every so many epochs, and what was said is
 -- a prefix of its output.
@@ -43,3 +45,11 @@ listing_of (Some r) = inspection r
 -- at every moment of an inspection the disk is as it was, and a prefix of the listing was sent
 abbrev pub EachListingMoment : Option Reading → (before after : Option History) → Type 0
 EachListingMoment reading before after = SendsInOrder (listing_of reading) before after
+
+-- what a self-test sends: nothing, or the line of a recording of its guest
+abbrev pub IsTestText : ℕ → List ℕ → Type 0
+IsTestText n text = (text ≡ []) ⊎ ((report : Report) × MadeRecording n (Ok report) × (text ≡ self_test_line n report))
+
+-- at every moment of a self-test the disk is as it was, and a prefix of this was sent
+abbrev pub EachTestMoment : ℕ → (before after : Option History) → Type 0
+EachTestMoment n before after = (text : List ℕ) × IsTestText n text × SendsInOrder text before after

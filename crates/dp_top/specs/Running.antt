@@ -26,7 +26,8 @@ use Rattle.epoch_replay.specs.Inspecting.{Inspected}
 use Rattle.epoch_replay.specs.Replaying.{OnDisk, Replayed}
 use Rattle.journal_text.specs.Reading.{Reading, end as ends_at, reads}
 use Rattle.dp_top.specs.Answer.{status_of, status_of_inspection, status_of_replay}
-use Rattle.dp_top.specs.Asking.{Asked, AskedInspection, AskedReplay}
+use Rattle.dp_top.specs.SelfTesting.{SelfTestedTo}
+use Rattle.dp_top.specs.Asking.{Asked, AskedInspection, AskedReplay, AskedSelfTest}
 
 -- The file of this name, which is of bytes, is a guest, and its recording with these options came to this, by a racer that told this at first.
 pub record RecordedAs (tells : Tells) (name : List ℕ) (options : Options) (files : Option (List File)) (i j : Option Input) (before after : Option History) (answer : Result Report RecordFault) : Type 0 where
@@ -55,8 +56,8 @@ abbrev pub InspectedTo : Option History → Option History → Status → Type 0
 InspectedTo before after status = (answer : Result (Unit {0}) InspectFault) × (status ≡ status_of_inspection answer)
     × OnDisk (known_disk before) (λ bytes. Inspected (reads bytes) before after answer)
 
--- The words aren't taken, or ask for a recording, a replay or an inspection that came to this. Only a recording takes from the input or
--- reads the clock.
+-- The words aren't taken, or ask for a recording, a replay, an inspection or a self-test that came to this. Only a recording takes from the
+-- input or reads the clock.
 abbrev pub Did : Tells → List (String Global) → Option (List File) → (i j : Option Input) → (before after : Option History) → Status → Type 0
 Did tells words files i j before after status =
     ((status ≡ statuses.Usage) × (are_taken words ≡ false) × (j ≡ i) × (after ≡ before))
@@ -64,9 +65,10 @@ Did tells words files i j before after status =
     ⊎ ((a : Asked words) × CameTo tells a.guest a.options files i j before after status)
     ⊎ (AskedReplay words × (j ≡ i) × ReplayedTo before after status)
     ⊎ (AskedInspection words × (j ≡ i) × InspectedTo before after status)
+    ⊎ ((a : AskedSelfTest words) × (j ≡ i) × SelfTestedTo a.n before after status)
 
 -- The command came to this, and then the status's line was sent on Note: all of it, or a prefix. At Ok it has no line: the
--- report's has been sent by then, and an inspection has none.
+-- report's has been sent by then, and an inspection and a self-test have none.
 abbrev pub Ran : Tells → List (String Global) → Option (List File) → (i j : Option Input) → (before after : Option History) → Status → (told : Bool) → Type 0
 Ran tells words files i j before after status told = (done : Option History) × Did tells words files i j before done status × IfKnown (Sent Note (status_line status) told) done after
 

@@ -1,7 +1,8 @@
 // The status of an answer.
 ghost use Rattle.std.specs.Prelude.{◌≡◌};
-ghost use Rattle.dp_top.specs.Answer.{status_of, status_of_inspection, status_of_replay};
+ghost use Rattle.dp_top.specs.Answer.{status_of, status_of_inspection, status_of_replay, status_of_self_test};
 
+use crate::self_test_fault::SelfTestFault;
 use dp_report::{Report, Status};
 use epoch_replay::{InspectFault, ReplayFault};
 use recorder::RecordFault;
@@ -50,5 +51,18 @@ pub fn status_of_inspected(answer: Result<(), InspectFault>) -> Status
         Err(InspectFault::DiskFault) => Status::DiskFault,
         Err(InspectFault::OutputFault) => Status::OutputFault,
         Err(InspectFault::OutOfMemory) => Status::OutOfMemory,
+    }
+}
+
+/// The status of a self-test without a line.
+pub fn status_of_self_test(fault: SelfTestFault) -> Status
+    ensures { result ≡ status_of_self_test fault }
+{
+    match fault {
+        SelfTestFault::StepLimit(steps) => Status::StepLimit(steps),
+        SelfTestFault::JournalFull { end, need } => Status::JournalFull { end, need },
+        SelfTestFault::OutOfMemory => Status::OutOfMemory,
+        // What was read from the journal isn't what was written.
+        SelfTestFault::Differs => Status::DiskFault,
     }
 }

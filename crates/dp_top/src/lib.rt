@@ -6,11 +6,12 @@
 //! execution on the guest's input, of whose output a prefix was sent (`every_moment`), and plays to just that execution
 //! (`laws::a_crash_plays_to_its_run`). A replay
 //! answers what its journal plays to, sends exactly that output, and doesn't write the disk. An inspection sends exactly the listing of
-//! its journal, and doesn't write the disk. After each other status what
-//! stands is named, and each comes only for its own cause. On Note goes the report's line at `Ok`, which an inspection doesn't have, and else the status's line:
-//! all of it, or a prefix where the stream failed. Where the report's line was cut off, its prefix stands before the line of
-//! that status. The two halves meet in `laws`. Stands on `dp_words`, `recorder`, `epoch_replay`, `dp_report`, `guest_kernel`
-//! and `disk_model`.
+//! its journal, and doesn't write the disk. A self-test sends exactly the line of a recording that is made from nothing but its number, and
+//! does nothing else to the world. After each other status what
+//! stands is named, and each comes only for its own cause. On Note goes the report's line at `Ok`, which an inspection and a self-test don't
+//! have, and else the status's line: all of it, or a prefix where the stream failed. Where the report's line was cut off, its prefix stands
+//! before the line of that status. The two halves meet in `laws`. Stands on `dp_words`, `recorder`, `epoch_replay`, `dp_report`,
+//! `guest_kernel` and `disk_model`, and for self-tests on `guest_gen`, `racing_runner` and `disk_mem`.
 //!
 //! ```text
 //! let (world, status) = run(
@@ -23,8 +24,11 @@
 mod answer;
 mod inspecting;
 pub mod laws;
+mod no_input;
 mod recording;
 mod replaying;
+mod self_test_fault;
+mod self_testing;
 mod top;
 
 pub use dp_report::Status;

@@ -7,13 +7,14 @@ ghost use Rattle.journal_text.specs.Reading.{reads};
 ghost use Rattle.dp_words.specs.Commands.{are_taken};
 ghost use Rattle.elf_image.specs.Faults.{number_of};
 ghost use Rattle.dp_top.specs.Answer.{status_of_image};
-ghost use Rattle.dp_top.specs.Asking.{Asked, AskedInspection, AskedReplay};
-ghost use Rattle.dp_top.specs.Moments.{EachListingMoment, EveryMoment, StillThroughout};
+ghost use Rattle.dp_top.specs.Asking.{Asked, AskedInspection, AskedReplay, AskedSelfTest};
+ghost use Rattle.dp_top.specs.Moments.{EachListingMoment, EachTestMoment, EveryMoment, StillThroughout};
 ghost use Rattle.dp_top.specs.Running.{CameTo, Did, IsBadImage, IsKnownEmpty, IsKnownListed, IsNoFault, NamesGuest, Ran};
 
 use crate::inspecting::inspect_journal;
 use crate::recording::record_guest;
 use crate::replaying::replay_journal;
+use crate::self_testing::test_guest;
 use disk_model::{FetchFault, Files, Gate, Inlet, World};
 use dp_base::limits::MAX_JOURNAL_BYTES;
 use dp_report::{Status, emit_fault};
@@ -28,8 +29,10 @@ use std::thread::Threads;
 /// and the clock of the inlet, into the journal JOURNAL of the world, which is made if there is none, and sends the guest's output
 /// on Out. `NAME replay JOURNAL`
 /// replays the journal, which isn't written, from itself alone, and sends the output of its epochs on Out. `NAME inspect JOURNAL` sends on Out
-/// a line for each record of the journal, runs none of them, and doesn't write the journal. On Note goes the report's line at
-/// `Ok`, which an inspection doesn't have, and the status's line else. The world comes back whatever happens.
+/// a line for each record of the journal, runs none of them, and doesn't write the journal. `NAME selftest N` makes guest N, records it in
+/// memory by `ChaosRacer::new(N)` with the options that a recording has by default, without input and with a clock that always reads 0,
+/// replays it with one worker and with four, and sends `selftest N: ` and the report's line on Out. On Note goes the report's line at
+/// `Ok`, which an inspection and a self-test don't have, and the status's line else. The world comes back whatever happens.
 ///
 /// The words are looked at first. For a recording then come the guest's file, its image, and the disk: after `Usage`,
 /// `GuestFault` and a recording's `BadImage` the disk is as it was, and has met no fault. For a replay then come the disk, the
@@ -71,6 +74,13 @@ pub fn run<R: Threads + Sync, F: Files, I: Inlet, W: World, Q: Racer, G: Gate + 
     ensures every_listing_moment { AskedInspection words.now → OnDisk (known_disk (W.history world))
         (λ bytes. EachListingMoment (reads bytes) (W.history world) (W.history result.0)) }
 
+    // A self-test uses nothing of the files, the input, the racer and the disk. At every moment of it the disk is as it was, and a prefix of
+    // its line was sent.
+    ensures unused { AskedSelfTest words.now → (files.new ≡ files.old) × (inlet.new ≡ inlet.old) × (racer.new ≡ racer.old)
+        × (W.disk_faults result.0 ≡ W.disk_faults world) }
+    ensures every_test_moment { (asked : AskedSelfTest words.now) →
+        EachTestMoment asked.n (W.history world) (W.history result.0) }
+
     // At `Ok` no take and no emit failed.
     ensures none { result.1 ≡ Status.Ok → (I.input_faults inlet.new ≡ I.input_faults inlet.old)
         × (W.sink_faults result.0 ≡ W.sink_faults world) }
@@ -110,6 +120,9 @@ pub fn run<R: Threads + Sync, F: Files, I: Inlet, W: World, Q: Racer, G: Gate + 
         (Rose (W.disk_faults world) (W.disk_faults result.0) → ⊥) →
         (Rose (W.sink_faults world) (W.sink_faults result.0) → ⊥) →
         (result.1 ≡ Status.Ok) ⊎ (result.1 ≡ Status.OutOfMemory) }
+
+    // A self-test in which no emit failed answers Ok, StepLimit, JournalFull or OutOfMemory.
+    ensures complete_self_test { AskedSelfTest words.now → (Rose (W.sink_faults world) (W.sink_faults result.0) → ⊥) → IsNoFault result.1 }
 {
     let (mut world, status) = do_command(rt, alloc, words, files, inlet, world, racer, gate);
     let _ = emit_fault(&mut world, &status);
@@ -142,6 +155,8 @@ fn do_command<R: Threads + Sync, F: Files, I: Inlet, W: World, Q: Racer, G: Gate
         (Rose (W.disk_faults world) (W.disk_faults result.0) → ⊥) →
         (Rose (W.sink_faults world) (W.sink_faults result.0) → ⊥) →
         (result.1 ≡ Status.Ok) ⊎ (result.1 ≡ Status.OutOfMemory) }
+    ensures unused { AskedSelfTest words.now → (files.new ≡ files.old) × (inlet.new ≡ inlet.old) × (racer.new ≡ racer.old)
+        × (W.disk_faults result.0 ≡ W.disk_faults world) }
     ensures file_count { F.file_faults files.old ≤ F.file_faults files.new }
     ensures input_count { I.input_faults inlet.old ≤ I.input_faults inlet.new }
     ensures disk_count { W.disk_faults world ≤ W.disk_faults result.0 }
@@ -186,6 +201,7 @@ fn do_command<R: Threads + Sync, F: Files, I: Inlet, W: World, Q: Racer, G: Gate
             replay_journal(rt, alloc, world, journal.as_str(), workers)
         }
         Ok(Command::Inspect { journal }) => inspect_journal(alloc, world, journal.as_str()),
+        Ok(Command::Selftest { n }) => test_guest(rt, alloc, world, n),
         Err(WordsFault::Usage) => (world, Status::Usage),
         Err(WordsFault::OutOfMemory) => (world, Status::OutOfMemory),
     }

@@ -1,5 +1,5 @@
 use Rattle.std.proofs.Common.{Some, inl, inr, refl, ◌∙◌, ap}
-use Rattle.dp_top.specs.Asking.{Asked, AskedInspection, AskedReplay}
+use Rattle.dp_top.specs.Asking.{Asked, AskedInspection, AskedReplay, AskedSelfTest}
 use Rattle.dp_top.proofs.Replays.{quiet_moments}
 use Rattle.dp_top.proofs.top.do_command.Goals as goal
 
@@ -51,7 +51,13 @@ returns-in-Ok-Inspect-clause-did g c =
       taken = w.ensures.taken;
       said = w.ensures.command ∙ ap Some w.field-0-is;
     } in
-    inr (inr (inr (inr (asked, refl {a = g.I.Inlet.input c.args.inlet.now}, c.inspect_journal.ensures.inspected))))
+    inr (inr (inr (inr (inl (asked, refl {a = g.I.Inlet.input c.args.inlet.now}, c.inspect_journal.ensures.inspected)))))
+
+pub returns-in-Ok-Selftest-clause-did : goal.returns-in-Ok-Selftest-clause-did
+returns-in-Ok-Selftest-clause-did g c =
+    let w = c.in-Ok-Selftest in
+    let asked : AskedSelfTest c.args.words.now = record { n = w.n; taken = w.ensures.taken; said = w.ensures.command ∙ ap Some w.field-0-is } in
+    inr (inr (inr (inr (inr (asked, refl {a = g.I.Inlet.input c.args.inlet.now}, c.test_guest.ensures.tested)))))
 
 pub returns-in-Err-OutOfMemory-clause-replay_moments : goal.returns-in-Err-OutOfMemory-clause-replay_moments
 returns-in-Err-OutOfMemory-clause-replay_moments g c = λ asked. quiet_moments _ _ refl

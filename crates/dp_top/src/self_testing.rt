@@ -1,0 +1,218 @@
+// A made guest is recorded and replayed in memory.
+ghost use Rattle.std.specs.Prelude.{◌≡◌, ◌≤◌, ℕ, Err, IfErr, IfOk, None, Ok};
+ghost use Rattle.disk_model.specs.Counts.{Rose};
+ghost use Rattle.dp_base.specs.Field.{AreBytes};
+ghost use Rattle.dp_report.specs.declared.report.Report.{Report};
+ghost use Rattle.elf_image.specs.Faults.{image_fault};
+ghost use Rattle.epoch_replay.specs.Replaying.{Ends};
+ghost use Rattle.guest_kernel.specs.Start.{start_state};
+ghost use Rattle.journal_text.specs.Reading.{reads};
+ghost use Rattle.recorder.specs.declared.record_fault.RecordFault.TheVariants as faults;
+ghost use Rattle.dp_top.specs.SelfTesting.{IsMemoryFault, MadeRecording, SelfTestedTo, Tested, default_options, of_recording, self_test_line};
+
+use crate::answer::status_of_self_test;
+use crate::laws;
+use crate::no_input::NoInput;
+use crate::self_test_fault::SelfTestFault;
+use device::send_all;
+use disk_mem::{Fails, MemWorld};
+use disk_model::{OpenGate, Stream, World};
+use dp_base::OutOfMemory;
+use dp_base::field::write_bytes;
+use dp_base::limits::MAX_JOURNAL_BYTES;
+use dp_report::{Report, Status, line};
+use epoch_replay::{ReplayFault, replay};
+use guest_gen::make;
+use guest_kernel::{State, start_from_file};
+use itoa::Buffer;
+use racing_runner::ChaosRacer;
+use recorder::{Options, RecordFault, record_};
+use std::alloc::Global;
+use std::thread::Threads;
+
+/// Tests the program on the made guest `n`, and sends `selftest N: ` and the report of its recording on Out. The guest is recorded in memory, by
+/// `ChaosRacer::new(n)`, with the options that `record` has by default, no input, and a clock that always reads 0. The recording is replayed
+/// with one worker and with four. Nothing else is done to the world.
+pub fn test_guest<R: Threads + Sync, W: World>(
+    rt: &R,
+    alloc: Global,
+    mut world: W,
+    n: u32,
+) -> (W, Status)
+    ensures tested { SelfTestedTo n (W.history world) (W.history result.0) result.1 }
+    ensures no_usage { result.1 ≡ Status.Usage → ⊥ }
+    ensures no_guest_fault { result.1 ≡ Status.GuestFault → ⊥ }
+    ensures no_input_fault { result.1 ≡ Status.InputFault → ⊥ }
+    ensures no_disk_fault { result.1 ≡ Status.DiskFault → ⊥ }
+    ensures none { result.1 ≡ Status.Ok → W.sink_faults result.0 ≡ W.sink_faults world }
+    ensures output_fault { result.1 ≡ Status.OutputFault → Rose (W.sink_faults world) (W.sink_faults result.0) }
+    ensures disk { W.disk_faults result.0 ≡ W.disk_faults world }
+    ensures sink_count { W.sink_faults world ≤ W.sink_faults result.0 }
+{
+    let report = match tested_report(rt, alloc, n) {
+        Ok(report) => report,
+        Err(fault) => return (world, status_of_self_test(fault)),
+    };
+    let Ok(line) = self_test_line(alloc, n, &report) else {
+        return (world, Status::OutOfMemory);
+    };
+    match send_all(&mut world, Stream::Out, &line) {
+        Ok(()) => (world, Status::Ok),
+        Err(_) => (world, Status::OutputFault),
+    }
+}
+
+// The report of guest `n`'s recording, once it was replayed.
+fn tested_report<R: Threads + Sync>(rt: &R, alloc: Global, n: u32) -> Result<Report, SelfTestFault>
+    ensures { Tested n result }
+{
+    let (world, answer) = record_made(rt, alloc, n)?;
+    let report = match answer {
+        Ok(report) => report,
+        Err(fault) => return Err(fault_of(fault)),
+    };
+    check_replay(rt, alloc, &world, report, 1)?;
+    check_replay(rt, alloc, &world, report, 4)?;
+    Ok(report)
+}
+
+// Records guest `n` into a world in memory.
+fn record_made<R: Threads + Sync>(
+    rt: &R,
+    alloc: Global,
+    n: u32,
+) -> Result<(MemWorld, Result<Report, RecordFault>), OutOfMemory>
+    ensures made { IfOk result (λ r. MadeRecording n r.1) }
+    ensures ends { IfOk result (λ r. (report : Report) → r.1 ≡ Ok report →
+        Ends (reads r.0.history.disk) r.0.history.sent (record report { squashes = 0 })) }
+    ensures memory { IfOk result (λ r. (r.1 ≡ Err faults.InputFault → ⊥) × ((len : ℕ) → r.1 ≡ Err (faults.JournalInUse len) → ⊥)) }
+{
+    laws::a_recording_plays_as_it_was();
+    let guest = make(alloc, n)?;
+    let start = made_start(alloc, &guest)?;
+    let world = MemWorld::new(alloc, Fails::Never, Fails::Never, u32::MAX)?;
+    let mut input = NoInput {
+        ended: false,
+        readings: 0,
+    };
+    Ok(record_(
+        rt,
+        alloc,
+        world,
+        &mut input,
+        &guest,
+        start,
+        default_options(),
+        &mut ChaosRacer::new(n),
+        &OpenGate,
+    ))
+}
+
+// The state in which a made guest starts. Its file is a guest's.
+fn made_start(alloc: Global, guest: &[u8]) -> Result<State, OutOfMemory>
+    requires accepted { image_fault guest.now ≡ None }
+    ensures state { IfOk result (λ state. state ≡ start_state guest.now) }
+    ensures bytes { AreBytes guest.now }
+{
+    match start_from_file(alloc, guest) {
+        Ok(state) => Ok(state),
+        Err(fault) => match fault.number() {
+            Some(_) => unreachable!(),
+            None => Err(OutOfMemory),
+        },
+    }
+}
+
+// The options that `record` has by default.
+fn default_options() -> Options
+    ensures { result ≡ default_options }
+{
+    Options {
+        workers: 4,
+        epoch: 20_000,
+        slice: 1000,
+        ahead: 16,
+        mark: 16,
+        limit: 1_000_000_000,
+        room: MAX_JOURNAL_BYTES,
+    }
+}
+
+// Why a recording in memory has no report. Its disk was empty, and its input never fails.
+fn fault_of(fault: RecordFault) -> SelfTestFault
+    requires input { fault ≡ faults.InputFault → ⊥ }
+    requires in_use { (len : ℕ) → fault ≡ faults.JournalInUse len → ⊥ }
+    ensures { result ≡ of_recording fault }
+{
+    match fault {
+        RecordFault::StepLimit(steps) => SelfTestFault::StepLimit(steps),
+        RecordFault::JournalFull { end, need } => SelfTestFault::JournalFull { end, need },
+        // Calls on the world fail only if an allocation does.
+        RecordFault::DiskFault => SelfTestFault::OutOfMemory,
+        RecordFault::OutputFault => SelfTestFault::OutOfMemory,
+        RecordFault::OutOfMemory => SelfTestFault::OutOfMemory,
+        RecordFault::InputFault => unreachable!(),
+        RecordFault::JournalInUse(_) => unreachable!(),
+    }
+}
+
+// Replays what was recorded in a world in memory, with so many workers. It sends what the recording sent, and its report is the recording's
+// without squashes. This is compared all the same, so that a program that was built wrong doesn't say that all is well.
+fn check_replay<R: Threads + Sync>(
+    rt: &R,
+    alloc: Global,
+    recorded: &MemWorld,
+    report: Report,
+    workers: u32,
+) -> Result<(), SelfTestFault>
+    requires { Ends (reads recorded.now.history.disk) recorded.now.history.sent (record report { squashes = 0 }) }
+    ensures { IfErr result (λ fault. fault ≡ SelfTestFault.OutOfMemory) }
+{
+    let world = MemWorld::new(alloc, Fails::Never, Fails::Never, u32::MAX)?;
+    let world = world.of_disk(alloc, recorded.bytes())?;
+    let (world, answer) = replay(rt, alloc, world, workers);
+    let replayed = match answer {
+        Ok(replayed) => replayed,
+        Err(fault) => return Err(replay_fault_of(fault)),
+    };
+    let is_same = replayed
+        == Report {
+            squashes: 0,
+            ..report
+        }
+        && world.sent(Stream::Out) == recorded.sent(Stream::Out);
+    if !is_same {
+        return Err(SelfTestFault::Differs);
+    }
+    Ok(())
+}
+
+// The fault of a replay in memory: a call on its world fails only if an allocation does, and no record is refused.
+fn replay_fault_of(fault: ReplayFault) -> SelfTestFault
+    requires { IsMemoryFault fault }
+    ensures { result ≡ SelfTestFault.OutOfMemory }
+{
+    match fault {
+        ReplayFault::DiskFault => SelfTestFault::OutOfMemory,
+        ReplayFault::OutputFault => SelfTestFault::OutOfMemory,
+        ReplayFault::OutOfMemory => SelfTestFault::OutOfMemory,
+        ReplayFault::NoJournal => SelfTestFault::Differs,
+        ReplayFault::BadImage(_) => SelfTestFault::Differs,
+        ReplayFault::BadJournal(_) => SelfTestFault::Differs,
+        ReplayFault::BadEpoch(_) => SelfTestFault::Differs,
+        ReplayFault::BadMark(_) => SelfTestFault::Differs,
+    }
+}
+
+// The line of a self-test.
+fn self_test_line(alloc: Global, n: u32, report: &Report) -> Result<Vec<u8>, OutOfMemory>
+    ensures { IfOk result (λ l. l.items ≡ self_test_line n report.now) }
+{
+    let mut digits = Buffer::new();
+    let mut text = Vec::new(alloc);
+    write_bytes(&mut text, b"selftest ")?;
+    write_bytes(&mut text, digits.format(n).as_bytes())?;
+    write_bytes(&mut text, b": ")?;
+    write_bytes(&mut text, &line(alloc, report)?)?;
+    Ok(text)
+}
