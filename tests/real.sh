@@ -22,7 +22,7 @@ many=$(mktemp -d -p /dev/shm 2>/dev/null || mktemp -d) || exit 1
 trap 'rm -rf "$work" "$many"' EXIT
 cd "$work" || exit 1
 
-checks=1039 # how many there are below; one that isn't made must be missed
+checks=1352 # how many there are below; one that isn't made must be missed
 passed=0
 failed=0
 
@@ -372,9 +372,15 @@ usage record a -- "  <JOURNAL>"
 usage record a b c -- "error: unexpected argument 'c' found"
 usage record a b --slic 7 -- "error: unexpected argument '--slic' found"
 usage record a b --epoch x -- "error: invalid value 'x' for '--epoch <N>'"
+usage selftest -- "  <N>"
+usage selftest x -- "error: invalid value 'x' for '<N>'"
+usage selftest -1 -- "error: unexpected argument '-1' found"
+usage selftest 1 2 -- "error: unexpected argument '2' found"
+usage selftest 4294967296 -- "error: invalid value '4294967296' for '<N>': 4294967296 is not in 0..=4294967295"
+usage selftest 1 --workers 4 -- "error: unexpected argument '--workers' found"
 
 # option NAME LEAST MOST RANGE DEFAULT: an option of record takes exactly these numbers, and the help says so.
-help=$here/../crates/dpcli/stdout
+help=$here/help.txt
 option() {
   local name=$1 least=$2 most=$3 number
   for number in "$least" "$most"; do
@@ -391,7 +397,7 @@ option mark 0 1000 "0 to 1,000" 16
 option workers 1 64 "1 to 64" 4
 option ahead 1 64 "1 to 64" 16
 
-for words in --help -h help "record --help" "replay -h" "help record"; do
+for words in --help -h help "record --help" "replay -h" "help record" "selftest -h"; do
   # shellcheck disable=SC2086
   run $words </dev/null
   check "$words: the status is $status, not Usage" ended_with 2
@@ -576,6 +582,31 @@ printf '\1DPJ1\0\0\0\0\1\1\0\0\0?\0' >bad.dpj
 run inspect bad.dpj
 check "a malformed record listed: the status is $status" ended_with 9
 check "a malformed record listed: another listing" test "$(cat out)" = "guest 0"
+
+# ---- self-tests
+
+# Each line of selftest.txt, twice. They come from a model of the machine, the racer and the schedule, which is a script of its own.
+mkdir empty
+while read -r line; do
+  number=${line#selftest }
+  number=${number%%:*}
+  for time in first second; do
+    status=$(cd empty && timeout 60 "$dpcli" selftest "$number" >../out 2>../note <&-; echo $?)
+    check "selftest $number, the $time time: the status is $status" ended_with 0
+    check "selftest $number, the $time time: another line" test "$(cat out)" = "$line"
+    check "selftest $number, the $time time: something on standard error" is_empty note
+  done
+done <"$here/selftest.txt"
+check "self-tests: they leave a file" rmdir empty
+timeout 60 "$dpcli" selftest 0 >/dev/full 2>note
+status=$?
+check "a self-test into a full device: the status is $status, not OutputFault" ended_with 7
+check "a self-test into a full device: another line" note_has "dpcli: output failed"
+timeout 60 "$dpcli" selftest 0 >&- 2>note
+status=$?
+check "a self-test without an output: the status is $status, not OutputFault" ended_with 7
+into_closed_pipe selftest 0
+check "a self-test into a closed pipe: the status is $status, not OutputFault" ended_with 7
 
 # ---- a journal that is cut
 

@@ -47,6 +47,7 @@ fn file_of(status: Status, command: &Command) -> Option<&str> {
             Status::DiskFault => Some(journal.as_str()),
             _ => None,
         },
+        Command::Selftest { .. } => None,
     }
 }
 

@@ -19,7 +19,8 @@ pub(crate) fn command_line<'a>(alloc: Global) -> Result<Command<'a>, AllocError>
         .subcommand_required(true)
         .subcommand(record(alloc)?)?
         .subcommand(replay(alloc)?)?
-        .subcommand(inspect(alloc)?)
+        .subcommand(inspect(alloc)?)?
+        .subcommand(selftest(alloc)?)
 }
 
 /// What each command does, and what it takes: the help of all of them. It fails only if an allocation does.
@@ -31,6 +32,8 @@ pub(crate) fn help(alloc: Global) -> Result<String, AllocError> {
     text.push_str(replay(alloc)?.render_help()?.as_str())?;
     text.push_str("\n")?;
     text.push_str(inspect(alloc)?.render_help()?.as_str())?;
+    text.push_str("\n")?;
+    text.push_str(selftest(alloc)?.render_help()?.as_str())?;
     Ok(text)
 }
 
@@ -122,6 +125,24 @@ fn inspect<'a>(alloc: Global) -> Result<Command<'a>, AllocError> {
         .bin_name("dpcli inspect")?
         .about("Lists the records of a journal on standard output, and runs nothing.")
         .arg(text(alloc, "journal", "JOURNAL", "The journal's file"))
+}
+
+fn selftest<'a>(alloc: Global) -> Result<Command<'a>, AllocError> {
+    Command::new(alloc, "selftest")
+        .bin_name("dpcli selftest")?
+        .about(
+            "Makes a guest, records it in memory, replays the recording twice, and prints its report on standard output.",
+        )
+        .arg(
+            Arg::new(alloc, "n")
+                .value_name("N")
+                .help(
+                    "The guest's number, 0 to 4,294,967,295: guest 23 has 8 threads that add 1 to a counter 3 times each",
+                )
+                .required(true)
+                .action(ArgAction::Set)
+                .value_parser(ValueParser::unsigned(0, u32::MAX as u64)),
+        )
 }
 
 // A text that must be there.
