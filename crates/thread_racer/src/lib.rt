@@ -19,9 +19,6 @@
 //! ```
 #![tactic(auto)]
 
-mod amo_order;
-#[cfg(test)]
-mod amo_order_tests;
 mod course;
 mod gated;
 mod kept_words;

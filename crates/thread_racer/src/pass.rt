@@ -4,12 +4,12 @@ ghost use Rattle.shared_words.specs.Copied.{AreMarksOf};
 ghost use Rattle.shared_words.specs.Rule.{view_of};
 ghost use Rattle.shared_words.specs.Words.{IsSeatAt, table_of};
 
-use crate::amo_order::{Amo, PLACES, order_amos};
 use crate::course::Course;
 use crate::kept_words::{KeptWords, words_of};
 use crate::noted_words::{NotedAmo, NotedWords};
 use crate::part::{Part, race_parts};
 use crate::thread_run::{ThreadRun, put_hart, running};
+use amo_order::{Amo, PLACES, Placed, order_amos};
 use disk_model::Gate;
 use dp_base::OutOfMemory;
 use dp_base::limits::MAX_THREADS;
@@ -88,7 +88,8 @@ fn race_on<J: Naming + Send + Sync, R: Threads + Sync, G: Gate + Sync>(
     let seat = take_parts(
         words, seat, state, threads, parts, base, &mut marks, &mut amos,
     )?;
-    order_amos(alloc, amos, threads)?;
+    let placed = order_amos(alloc, &amos)?;
+    put_places(threads, &placed);
     Ok((seat, marks))
 }
 
@@ -222,4 +223,13 @@ fn add_amos(
         }
     }
     Ok(())
+}
+
+// Gives AMOs their places as tickets.
+fn put_places(threads: &mut [ThreadRun], placed: &[Placed]) {
+    for placed in placed {
+        if let Some(thread) = threads.get_mut(placed.amo.thread) {
+            thread.set_ticket(placed.amo.entry, placed.place);
+        }
+    }
 }

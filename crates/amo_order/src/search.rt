@@ -1,91 +1,63 @@
-// The order of the AMOs of a pass.
-//
-// An AMO takes its ticket between its load and its exchange. If others change the word meanwhile and then give it back what the load found,
-// the exchange succeeds, but the ticket is too small. Then, in the order of tickets, some AMO of that word doesn't find what the one before it
-// stored. So an order is sought in which each does. In it an AMO may come anywhere between its own ticket and the next one of its thread.
-use crate::thread_run::ThreadRun;
+// A search for an order of the AMOs of a word.
+use crate::amo::{Amo, Placed};
 use dp_base::OutOfMemory;
 use std::alloc::Global;
 
-// How many places there are from one ticket of a pass to the next. At most one AMO of each of 64 threads that run has to come between two.
-pub(crate) const PLACES: u64 = 64;
+// How many steps a search takes for each AMO, and how many more.
+const STEPS_EACH: usize = 16;
 
-// How many words are looked at, at most as many as there are different remainders of their addresses.
-const SLOTS: usize = 1024;
+const STEPS_MORE: usize = 1024;
 
-// How many words are put in order in a pass at most.
-const MOST_WORDS: usize = 16;
-
-// An AMO of a pass.
-#[derive(Clone, Copy)]
-pub(crate) struct Amo {
-    // Where its thread is in the list of threads, and its entry among the thread's.
-    pub(crate) thread: usize,
-    pub(crate) entry: usize,
-    pub(crate) address: u32,
-    // The word that it found, and the one that it stored.
-    pub(crate) found: u32,
-    pub(crate) stored: u32,
-    // Its ticket, and that of its thread's next entry.
-    pub(crate) ticket: u64,
-    pub(crate) next: u64,
-}
-
-// Gives the AMOs of a pass other tickets where those that they took are too small.
-pub(crate) fn order_amos(
+// Finds places for the AMOs of a word, so that each finds what the one before it stored. Returns the index of each AMO, and its place.
+// Returns `None` if other stores change the word too, or if no order is found in few steps.
+pub(crate) fn places_of(
     alloc: Global,
-    mut amos: Vec<Amo>,
-    threads: &mut [ThreadRun],
-) -> Result<(), OutOfMemory> {
-    amos.sort_by_key(|amo| amo.ticket)?;
-    let words = disordered_words(alloc, &amos)?;
-    for word in words.iter().take(MOST_WORDS) {
-        if adds_up(&amos, *word) {
-            let mut order = Order::new(alloc, &amos, *word)?;
-            if order.search()? {
-                order.give_tickets(threads);
-            }
-        }
+    amos: &[Placed],
+    word: u32,
+) -> Result<Option<Vec<(usize, u64)>>, OutOfMemory> {
+    let amos = amos_of(alloc, amos, word)?;
+    if !adds_up(&amos) {
+        return Ok(None);
     }
-    Ok(())
+    let mut order = Order::new(alloc, &amos)?;
+    if !order.search()? {
+        return Ok(None);
+    }
+    Ok(Some(order.places(alloc)?))
 }
 
-// The words that an AMO didn't find as the one before had left them.
-fn disordered_words(alloc: Global, amos: &[Amo]) -> Result<Vec<u32>, OutOfMemory> {
-    let mut words = Vec::new(alloc);
-    let mut slots = Vec::new(alloc);
-    slots.resize(SLOTS, None)?;
-    for amo in amos {
-        let index = amo.address as usize / 4 % SLOTS;
-        if let Some(slot) = slots.get_mut(index) {
-            let before: Option<Amo> = *slot;
-            *slot = Some(*amo);
-            if let Some(before) = before {
-                if before.address == amo.address
-                    && before.stored != amo.found
-                    && !words.contains(&amo.address)
-                {
-                    words.push(amo.address)?;
-                }
-            }
+// An AMO of the word, and its index among all.
+#[derive(Clone, Copy)]
+struct Indexed {
+    index: usize,
+    amo: Amo,
+}
+
+// The AMOs of a word by ticket.
+fn amos_of(alloc: Global, amos: &[Placed], word: u32) -> Result<Vec<Indexed>, OutOfMemory> {
+    let mut of_word = Vec::new(alloc);
+    for index in 0..amos.len() {
+        let amo = amos[index].amo;
+        if amo.address == word {
+            of_word.push(Indexed { index, amo })?;
         }
     }
-    Ok(words)
+    of_word.sort_by_key(|one| one.amo.ticket)?;
+    Ok(of_word)
 }
 
 // Whether the changes of a word add up. If other stores change it too, they don't, and the AMOs needn't find what others stored.
-fn adds_up(amos: &[Amo], word: u32) -> bool {
+fn adds_up(amos: &[Indexed]) -> bool {
     let mut sum = 0i64;
     let mut least = u32::MAX;
     let mut most = 0;
-    for amo in amos {
-        if amo.address == word {
-            sum = sum
-                .wrapping_add(i64::from(amo.stored))
-                .wrapping_sub(i64::from(amo.found));
-            least = least.min(amo.found).min(amo.stored);
-            most = most.max(amo.found).max(amo.stored);
-        }
+    for one in amos {
+        let Amo { found, stored, .. } = one.amo;
+        sum = sum
+            .wrapping_add(i64::from(stored))
+            .wrapping_sub(i64::from(found));
+        least = least.min(found).min(stored);
+        most = most.max(found).max(stored);
     }
     sum.unsigned_abs() <= u64::from(most.saturating_sub(least))
 }
@@ -94,7 +66,7 @@ fn adds_up(amos: &[Amo], word: u32) -> bool {
 #[derive(Drop)]
 struct Line {
     thread: usize,
-    amos: Vec<Amo>,
+    amos: Vec<Indexed>,
     placed: usize,
 }
 
@@ -118,7 +90,7 @@ struct Order {
 }
 
 impl Order {
-    fn new(alloc: Global, amos: &[Amo], word: u32) -> Result<Order, OutOfMemory> {
+    fn new(alloc: Global, amos: &[Indexed]) -> Result<Order, OutOfMemory> {
         let mut order = Order {
             lines: Vec::new(alloc),
             choices: Vec::new(alloc),
@@ -126,27 +98,25 @@ impl Order {
             value: None,
             after: None,
         };
-        for amo in amos {
-            if amo.address == word {
-                order.add(alloc, *amo)?;
-            }
+        for one in amos {
+            order.add(alloc, *one)?;
         }
         Ok(order)
     }
 
     // Adds an AMO without a place.
-    fn add(&mut self, alloc: Global, amo: Amo) -> Result<(), OutOfMemory> {
+    fn add(&mut self, alloc: Global, one: Indexed) -> Result<(), OutOfMemory> {
         self.count = self.count.saturating_add(1);
         for line in self.lines.iter_mut() {
-            if line.thread == amo.thread {
-                line.amos.push(amo)?;
+            if line.thread == one.amo.thread {
+                line.amos.push(one)?;
                 return Ok(());
             }
         }
         let mut amos = Vec::new(alloc);
-        amos.push(amo)?;
+        amos.push(one)?;
         self.lines.push(Line {
-            thread: amo.thread,
+            thread: one.amo.thread,
             amos,
             placed: 0,
         })?;
@@ -155,7 +125,10 @@ impl Order {
 
     // Gives each AMO a place, if that is found in a few steps for each. Returns whether all have one.
     fn search(&mut self) -> Result<bool, OutOfMemory> {
-        let limit = self.count.saturating_mul(16).saturating_add(1024);
+        let limit = self
+            .count
+            .saturating_mul(STEPS_EACH)
+            .saturating_add(STEPS_MORE);
         for _ in 0..limit {
             if self.choices.len() >= self.count {
                 return Ok(true);
@@ -263,29 +236,33 @@ impl Order {
         false
     }
 
-    // Gives the AMOs tickets in this order, each at least its own.
-    fn give_tickets(&mut self, threads: &mut [ThreadRun]) {
+    // The places of the AMOs in this order, each from its ticket on and above the one before it.
+    fn places(&mut self, alloc: Global) -> Result<Vec<(usize, u64)>, OutOfMemory> {
         for line in self.lines.iter_mut() {
             line.placed = 0;
         }
+        let mut places = Vec::new(alloc);
         let mut last = 0u64;
         for choice in &self.choices {
             if let Some(line) = self.lines.get_mut(choice.line) {
-                if let Some(amo) = line.head() {
-                    last = amo.ticket.max(last.saturating_add(1));
-                    if let Some(thread) = threads.get_mut(amo.thread) {
-                        thread.set_ticket(amo.entry, last);
-                    }
+                if let Some(one) = line.next() {
+                    last = one.amo.ticket.max(last.saturating_add(1));
+                    places.push((one.index, last))?;
                 }
                 line.placed = line.placed.saturating_add(1);
             }
         }
+        Ok(places)
     }
 }
 
 impl Line {
-    // The first AMO without a place.
-    fn head(&self) -> Option<Amo> {
+    // The first AMO without a place, with its index.
+    fn next(&self) -> Option<Indexed> {
         self.amos.get(self.placed).copied()
+    }
+
+    fn head(&self) -> Option<Amo> {
+        self.next().map(|one| one.amo)
     }
 }
