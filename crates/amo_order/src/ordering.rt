@@ -31,11 +31,10 @@ pub fn order_amos(alloc: Global, amos: &[Amo]) -> Result<Vec<Placed>, OutOfMemor
         (placed_of word placed.items ≡ placed_of word (at_tickets amos.now))
         ⊎ (IsDisordered word (at_tickets amos.now) × IsInTurn word placed.items)) }
 {
-    let start = start_of(alloc, amos)?;
     let mut placed = start_of(alloc, amos)?;
     let words = disordered_words(alloc, amos)?;
     for word in &words {
-        order_word(alloc, &start, &mut placed, *word)?;
+        order_word(alloc, amos, &mut placed, *word)?;
     }
     Ok(placed)
 }
@@ -57,16 +56,16 @@ fn start_of(alloc: Global, amos: &[Amo]) -> Result<Vec<Placed>, OutOfMemory>
 // Puts the AMOs of a word in order, if they aren't in turn by their tickets and an order is found.
 fn order_word(
     alloc: Global,
-    start: &[Placed],
+    amos: &[Amo],
     placed: &mut Vec<Placed>,
     word: u32,
 ) -> Result<(), OutOfMemory>
-    ensures { OnOk result (IsStep word start.now placed.old.items placed.new.items) }
+    ensures { OnOk result (IsStep word (at_tickets amos.now) placed.old.items placed.new.items) }
 {
-    if !is_disordered(alloc, start, word)? {
+    if !is_disordered(alloc, &start_of(alloc, amos)?, word)? {
         return Ok(());
     }
-    let Some(places) = places_of(alloc, start, word)? else {
+    let Some(places) = places_of(alloc, amos, word)? else {
         return Ok(());
     };
     let mut candidate = placed.to_vec(alloc)?;

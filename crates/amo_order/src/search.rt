@@ -1,5 +1,5 @@
 // A search for an order of the AMOs of a word.
-use crate::amo::{Amo, Placed};
+use crate::amo::Amo;
 use dp_base::OutOfMemory;
 use std::alloc::Global;
 
@@ -12,7 +12,7 @@ const STEPS_MORE: usize = 1024;
 // Returns `None` if other stores change the word too, or if no order is found in few steps.
 pub(crate) fn places_of(
     alloc: Global,
-    amos: &[Placed],
+    amos: &[Amo],
     word: u32,
 ) -> Result<Option<Vec<(usize, u64)>>, OutOfMemory> {
     let amos = amos_of(alloc, amos, word)?;
@@ -34,10 +34,10 @@ struct Indexed {
 }
 
 // The AMOs of a word by ticket.
-fn amos_of(alloc: Global, amos: &[Placed], word: u32) -> Result<Vec<Indexed>, OutOfMemory> {
+fn amos_of(alloc: Global, amos: &[Amo], word: u32) -> Result<Vec<Indexed>, OutOfMemory> {
     let mut of_word = Vec::new(alloc);
     for index in 0..amos.len() {
-        let amo = amos[index].amo;
+        let amo = amos[index];
         if amo.address == word {
             of_word.push(Indexed { index, amo })?;
         }

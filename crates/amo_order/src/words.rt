@@ -3,13 +3,13 @@ use crate::amo::Amo;
 use dp_base::OutOfMemory;
 use std::alloc::Global;
 
-// How many words are looked at, at most as many as there are different remainders of their addresses.
+// The number of slots in which words are looked at, one for each remainder of a word's number. Two words of one slot may hide each other.
 const SLOTS: usize = 1024;
 
-// How many words are put in order in a pass at most.
+// How many words are put in order in a pass at most. Each costs several walks over all AMOs.
 const MOST_WORDS: usize = 16;
 
-// The first words of which an AMO didn't find what the one with the ticket before stored.
+// Returns the first words of which an AMO didn't find what the one before it, by ticket, stored.
 pub(crate) fn disordered_words(alloc: Global, amos: &[Amo]) -> Result<Vec<u32>, OutOfMemory> {
     let mut by_ticket = amos.to_vec(alloc)?;
     by_ticket.sort_by_key(|amo| amo.ticket)?;

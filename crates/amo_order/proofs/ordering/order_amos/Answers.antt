@@ -1,6 +1,5 @@
 use Rattle.std.proofs.Common.{◌∙◌, ℕ, List, get_or, subst, sym}
 use Rattle.amo_order.specs.Places.{at_tickets}
-use Rattle.amo_order.specs.Replacing.{IsStep}
 use Rattle.amo_order.specs.declared.amo.Placed.{Placed}
 use Rattle.amo_order.proofs.Answering.{IsAnswer, answers_first, answers_more, amos_of, keeps_order}
 use Rattle.amo_order.proofs.ordering.order_amos.Goals as goal
@@ -11,9 +10,7 @@ loop-word-init c = subst (λ (placed : List Placed). IsAnswer (at_tickets c.args
 pub loop-word-preserved : goal.loop-word-preserved
 loop-word-preserved c =
     let word : ℕ = get_or c.deref-word-items.result.now c.loop-word.word-index 0 in
-    let start = c.deref.ensures.value ∙ c.in_ok-start.ensures in
-    answers_more word (at_tickets c.args.amos.now) c.loop-word.placed.items c.order_word.new.placed.items c.loop-word.invariant
-    (subst (λ (start : List Placed). IsStep word start c.loop-word.placed.items c.order_word.new.placed.items) start c.in_ok-order_word.ensures)
+    answers_more word (at_tickets c.args.amos.now) c.loop-word.placed.items c.order_word.new.placed.items c.loop-word.invariant c.in_ok-order_word.ensures
 
 pub returns : goal.returns
 returns c =
