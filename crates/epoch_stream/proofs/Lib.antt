@@ -1,0 +1,4 @@
+pub mod Jobs
+pub mod Handing
+pub mod Starting
+pub mod RoundEnds
