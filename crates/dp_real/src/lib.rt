@@ -12,7 +12,7 @@
 //! let mut files = RealFiles::new(rt);
 //! let mut inlet = RealInlet::new(rt);
 //! let world = RealWorld::new(rt);
-//! let (_, status) = run(&rt, alloc, &words, &mut files, &mut inlet, world, &mut IdleRacer, &OpenGate);
+//! let (_, status) = run(&rt, alloc, &words, &mut files, &mut inlet, world, IdleRacer, &OpenGate);
 //! ```
 #![tactic(auto)]
 

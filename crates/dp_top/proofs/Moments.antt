@@ -60,7 +60,7 @@ found_or_same guest tells start options i j before after (Err (faults.JournalFul
     known-map _ _ _ _ (λ s t k. inl k.empty) known
 found_or_same guest tells start options i j before after (Err faults.OutOfMemory) (inl (same, known)) = known-map _ _ _ _ (λ s t k. inl k.0) known
 found_or_same guest tells start options i j before after (Err faults.OutOfMemory) (inr (inl (r, may_go, room, drawn, known))) = known-map _ _ _ _ (λ s t k. inl k.empty) known
-found_or_same guest tells start options i j before after (Err faults.OutOfMemory) (inr (inr (on, next_, room, drawn, known))) = known-map _ _ _ _ (λ s t k. inl k.empty) known
+found_or_same guest tells start options i j before after (Err faults.OutOfMemory) (inr (inr (on, room, drawn, known))) = known-map _ _ _ _ (λ s t k. inl k.empty) known
 found_or_same guest tells start options i j before after (Err (faults.JournalInUse len)) (some, same, known) = known-map _ _ _ _ (λ s t k. inr k.1) known
 found_or_same guest tells start options i j before after (Err faults.DiskFault) (inl (same, known)) = known-map _ _ _ _ (λ s t k. k.untouched) known
 found_or_same guest tells start options i j before after (Err faults.DiskFault) (inr (inl (r, next_, room, drawn, known))) = known-map _ _ _ _ (λ s t k. inl k.empty) known

@@ -15,7 +15,7 @@
 //!
 //! ```text
 //! let (world, status) = run(
-//!     &rt, alloc, &words, &mut files, &mut inlet, world, &mut IdleRacer, &OpenGate,
+//!     &rt, alloc, &words, &mut files, &mut inlet, world, IdleRacer, &OpenGate,
 //! );
 //! ExitCode::from(status.number())
 //! ```

@@ -16,10 +16,11 @@ use guest_kernel::State;
 use racing_runner::Racer;
 use recorder::{Options, record_};
 use std::alloc::Global;
+use std::sync::Wait;
 use std::thread::Threads;
 
 /// Attaches the journal and records into it.
-pub fn record_guest<R: Threads + Sync, I: Inlet, W: World, Q: Racer, G: Gate + Sync>(
+pub fn record_guest<R: Threads + Wait + Sync, I: Inlet, W: World + Drop, Q: Racer + Drop + Send, G: Gate + Sync>(
     rt: &R,
     alloc: Global,
     inlet: &mut I,
@@ -28,14 +29,14 @@ pub fn record_guest<R: Threads + Sync, I: Inlet, W: World, Q: Racer, G: Gate + S
     guest: &[u8],
     start: State,
     options: Options,
-    racer: &mut Q,
+    racer: Q,
     gate: &G,
 ) -> (W, Status)
     requires guest { IsGuestFile guest.now }
     requires starts { start ≡ start_state guest.now }
     ensures bytes { AreBytes guest.now }
     ensures recorded { (answer : Result Report RecordFault) × (result.1 ≡ status_of answer)
-        × Recorded guest.now (Q.tells racer.old) start options (I.input inlet.old) (I.input inlet.new) (W.history world) (W.history result.0) answer }
+        × Recorded guest.now (Q.tells racer) start options (I.input inlet.old) (I.input inlet.new) (W.history world) (W.history result.0) answer }
     ensures moments { EachMoment guest.now options.mark start (I.input inlet.old) (I.input inlet.new) (W.history world) (W.history result.0) }
     ensures none { result.1 ≡ Status.Ok → (W.sink_faults result.0 ≡ W.sink_faults world)
         × (I.input_faults inlet.new ≡ I.input_faults inlet.old) }

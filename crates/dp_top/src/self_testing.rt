@@ -28,12 +28,13 @@ use itoa::Buffer;
 use racing_runner::ChaosRacer;
 use recorder::{Options, RecordFault, record_};
 use std::alloc::Global;
+use std::sync::Wait;
 use std::thread::Threads;
 
 /// Tests the program on the made guest `n`, and sends `selftest N: ` and the report of its recording on Out. The guest is recorded in memory, by
 /// `ChaosRacer::new(n)`, with the options that `record` has by default, no input, and a clock that always reads 0. The recording is replayed
 /// with one worker and with four. Nothing else is done to the world.
-pub fn test_guest<R: Threads + Sync, W: World>(
+pub fn test_guest<R: Threads + Wait + Sync, W: World>(
     rt: &R,
     alloc: Global,
     mut world: W,
@@ -63,7 +64,7 @@ pub fn test_guest<R: Threads + Sync, W: World>(
 }
 
 // The report of guest `n`'s recording, once it was replayed.
-fn tested_report<R: Threads + Sync>(rt: &R, alloc: Global, n: u32) -> Result<Report, SelfTestFault>
+fn tested_report<R: Threads + Wait + Sync>(rt: &R, alloc: Global, n: u32) -> Result<Report, SelfTestFault>
     ensures { Tested n result }
 {
     let (world, answer) = record_made(rt, alloc, n)?;
@@ -77,7 +78,7 @@ fn tested_report<R: Threads + Sync>(rt: &R, alloc: Global, n: u32) -> Result<Rep
 }
 
 // Records guest `n` into a world in memory.
-fn record_made<R: Threads + Sync>(
+fn record_made<R: Threads + Wait + Sync>(
     rt: &R,
     alloc: Global,
     n: u32,
@@ -103,7 +104,7 @@ fn record_made<R: Threads + Sync>(
         &guest,
         start,
         default_options(),
-        &mut ChaosRacer::new(n),
+        ChaosRacer::new(n),
         &OpenGate,
     ))
 }

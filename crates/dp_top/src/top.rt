@@ -23,6 +23,7 @@ use guest_kernel::{ImageFault, start_from_file};
 use racing_runner::Racer;
 use recorder::Options;
 use std::alloc::Global;
+use std::sync::Wait;
 use std::thread::Threads;
 
 /// Does what the words say. `NAME record GUEST JOURNAL` with its options records the guest whose file GUEST names, with the input
@@ -39,20 +40,20 @@ use std::thread::Threads;
 /// journal's guest and its records, and for an inspection the disk and the journal's records. A status's line that can't be sent changes no status. A recording's jobs run on threads of the runtime
 /// `rt`, at most as many as the words' `--workers`. They start in states that the racer offers, at most `--ahead` in a round, and before each
 /// of them its worker passes the gate. The parts of a journal between marks are replayed on as many threads as the words of a replay say.
-pub fn run<R: Threads + Sync, F: Files, I: Inlet, W: World, Q: Racer, G: Gate + Sync>(
+pub fn run<R: Threads + Wait + Sync, F: Files, I: Inlet, W: World + Drop, Q: Racer + Drop + Send, G: Gate + Sync>(
     rt: &R,
     alloc: Global,
     words: &[String],
     files: &mut F,
     inlet: &mut I,
     world: W,
-    racer: &mut Q,
+    racer: Q,
     gate: &G,
 ) -> (W, Status)
     // What stands, by the status, and what was sent on Note. The line is cut off only where an emit has failed, and at `OutputFault` one more
     // than the answer's.
     ensures ran { (told : Bool) × (faults : ℕ)
-        × Ran (Q.tells racer.old) words.now (F.directory files.old) (I.input inlet.old) (I.input inlet.new) (W.history world) (W.history result.0) result.1 told
+        × Ran (Q.tells racer) words.now (F.directory files.old) (I.input inlet.old) (I.input inlet.new) (W.history world) (W.history result.0) result.1 told
         × (W.sink_faults world ≤ faults) × (faults ≤ W.sink_faults result.0)
         × (result.1 ≡ Status.OutputFault → Rose (W.sink_faults world) faults)
         × (told ≡ false → Rose faults (W.sink_faults result.0)) }
@@ -74,9 +75,9 @@ pub fn run<R: Threads + Sync, F: Files, I: Inlet, W: World, Q: Racer, G: Gate + 
     ensures every_listing_moment { AskedInspection words.now → OnDisk (known_disk (W.history world))
         (λ bytes. EachListingMoment (reads bytes) (W.history world) (W.history result.0)) }
 
-    // A self-test uses nothing of the files, the input, the racer and the disk. At every moment of it the disk is as it was, and a prefix of
+    // A self-test uses nothing of the files, the input and the disk. At every moment of it the disk is as it was, and a prefix of
     // its line was sent.
-    ensures unused { AskedSelfTest words.now → (files.new ≡ files.old) × (inlet.new ≡ inlet.old) × (racer.new ≡ racer.old)
+    ensures unused { AskedSelfTest words.now → (files.new ≡ files.old) × (inlet.new ≡ inlet.old)
         × (W.disk_faults result.0 ≡ W.disk_faults world) }
     ensures every_test_moment { (asked : AskedSelfTest words.now) →
         EachTestMoment asked.n (W.history world) (W.history result.0) }
@@ -130,17 +131,17 @@ pub fn run<R: Threads + Sync, F: Files, I: Inlet, W: World, Q: Racer, G: Gate + 
 }
 
 // Does what the words say, but for the status's line.
-fn do_command<R: Threads + Sync, F: Files, I: Inlet, W: World, Q: Racer, G: Gate + Sync>(
+fn do_command<R: Threads + Wait + Sync, F: Files, I: Inlet, W: World + Drop, Q: Racer + Drop + Send, G: Gate + Sync>(
     rt: &R,
     alloc: Global,
     words: &[String],
     files: &mut F,
     inlet: &mut I,
     world: W,
-    racer: &mut Q,
+    racer: Q,
     gate: &G,
 ) -> (W, Status)
-    ensures did { Did (Q.tells racer.old) words.now (F.directory files.old) (I.input inlet.old) (I.input inlet.new) (W.history world) (W.history result.0) result.1 }
+    ensures did { Did (Q.tells racer) words.now (F.directory files.old) (I.input inlet.old) (I.input inlet.new) (W.history world) (W.history result.0) result.1 }
     ensures guest_fault { result.1 ≡ Status.GuestFault → Rose (F.file_faults files.old) (F.file_faults files.new) }
     ensures input_fault { result.1 ≡ Status.InputFault → Rose (I.input_faults inlet.old) (I.input_faults inlet.new) }
     ensures disk_fault { result.1 ≡ Status.DiskFault → Rose (W.disk_faults world) (W.disk_faults result.0) }
@@ -155,7 +156,7 @@ fn do_command<R: Threads + Sync, F: Files, I: Inlet, W: World, Q: Racer, G: Gate
         (Rose (W.disk_faults world) (W.disk_faults result.0) → ⊥) →
         (Rose (W.sink_faults world) (W.sink_faults result.0) → ⊥) →
         (result.1 ≡ Status.Ok) ⊎ (result.1 ≡ Status.OutOfMemory) }
-    ensures unused { AskedSelfTest words.now → (files.new ≡ files.old) × (inlet.new ≡ inlet.old) × (racer.new ≡ racer.old)
+    ensures unused { AskedSelfTest words.now → (files.new ≡ files.old) × (inlet.new ≡ inlet.old)
         × (W.disk_faults result.0 ≡ W.disk_faults world) }
     ensures file_count { F.file_faults files.old ≤ F.file_faults files.new }
     ensures input_count { I.input_faults inlet.old ≤ I.input_faults inlet.new }
@@ -208,7 +209,7 @@ fn do_command<R: Threads + Sync, F: Files, I: Inlet, W: World, Q: Racer, G: Gate
 }
 
 // Records the guest whose file has this name.
-fn record_named<R: Threads + Sync, F: Files, I: Inlet, W: World, Q: Racer, G: Gate + Sync>(
+fn record_named<R: Threads + Wait + Sync, F: Files, I: Inlet, W: World + Drop, Q: Racer + Drop + Send, G: Gate + Sync>(
     rt: &R,
     alloc: Global,
     files: &mut F,
@@ -217,10 +218,10 @@ fn record_named<R: Threads + Sync, F: Files, I: Inlet, W: World, Q: Racer, G: Ga
     name: &str,
     journal: &str,
     options: Options,
-    racer: &mut Q,
+    racer: Q,
     gate: &G,
 ) -> (W, Status)
-    ensures came { CameTo (Q.tells racer.old) name.now options (F.directory files.old) (I.input inlet.old) (I.input inlet.new) (W.history world) (W.history result.0) result.1 }
+    ensures came { CameTo (Q.tells racer) name.now options (F.directory files.old) (I.input inlet.old) (I.input inlet.new) (W.history world) (W.history result.0) result.1 }
     ensures guest_fault { result.1 ≡ Status.GuestFault → Rose (F.file_faults files.old) (F.file_faults files.new) }
     ensures input_fault { result.1 ≡ Status.InputFault → Rose (I.input_faults inlet.old) (I.input_faults inlet.new) }
     ensures disk_fault { result.1 ≡ Status.DiskFault → Rose (W.disk_faults world) (W.disk_faults result.0) }

@@ -5,13 +5,14 @@ use crate::recorded::{Came, came_to, ok};
 use dp_report::Status;
 use std::alloc::Global;
 use std::test::Fail;
+use std::sync::Wait;
 use std::thread::Threads;
 use test_worlds::{Failing, inlet_of};
 
 const LINE: &[u8] = b"dpcli: input failed\n";
 
 // What a recording comes to whose take with this number fails, and where all from it on fail.
-fn failed<R: Threads + Sync>(
+fn failed<R: Threads + Wait + Sync>(
     rt: &R,
     alloc: Global,
     words: &[u32],

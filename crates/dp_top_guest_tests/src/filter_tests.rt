@@ -4,6 +4,7 @@ use crate::recorded::{Came, STEPS, came_to, ok};
 use disk_mem::{Fails, MemInlet};
 use std::alloc::Global;
 use std::test::Fail;
+use std::sync::Wait;
 use std::thread::Threads;
 use supply::{InputFault, MAX_ROOM, Supply};
 use test_files::repeated;
@@ -17,7 +18,7 @@ fn cut(alloc: Global, bytes: &[u8], size: usize) -> Result<Vec<Vec<u8>>, Fail> {
 }
 
 // The filter that reads so many bytes at a time, with an input of so many bytes in pieces of this size.
-fn filtered<R: Threads + Sync>(
+fn filtered<R: Threads + Wait + Sync>(
     rt: &R,
     alloc: Global,
     many: u32,

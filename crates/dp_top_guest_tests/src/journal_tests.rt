@@ -4,6 +4,7 @@ use crate::recorded::{STEPS, record, replay};
 use dp_report::Status;
 use std::alloc::Global;
 use std::test::Fail;
+use std::sync::Wait;
 use std::thread::Threads;
 use test_files::{EXITS_WORDS, file_of};
 use test_journals::{THREE_STEPS, journal_of};
@@ -24,7 +25,7 @@ const TAKES_READING: &[u8] =
     b"\x00\x01\x00\x00\x00\x01\x00\x05\x00\x00\x00\x01\x00\x00\x00\x01\x05\x00\x00\x00\x00\x00\x00\x00";
 
 // Whether a recording writes the journal of these bodies.
-fn is_written<R: Threads + Sync>(
+fn is_written<R: Threads + Wait + Sync>(
     rt: &R,
     alloc: Global,
     words: &[u32],
@@ -70,7 +71,7 @@ fn journals_of_recordings(rt: HostRuntime) -> Result<(), Fail> {
 }
 
 // The status of a replay of these bodies, where it sends this on Note and nothing on Out.
-fn plays<R: Threads + Sync>(
+fn plays<R: Threads + Wait + Sync>(
     rt: &R,
     alloc: Global,
     words: &[u32],

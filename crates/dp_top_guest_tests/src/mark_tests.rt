@@ -24,7 +24,7 @@ fn marks_by_the_words(rt: HostRuntime) -> Result<(), Fail> {
             &mut files,
             &mut inlet,
             world,
-            &mut IdleRacer,
+            IdleRacer,
             &OpenGate,
         );
         assert_eq!(rt; status, Status::Ok);

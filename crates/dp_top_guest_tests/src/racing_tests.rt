@@ -7,6 +7,7 @@ use dp_top::{Status, run};
 use racing_runner::{ChaosRacer, Racer};
 use std::alloc::Global;
 use std::test::Fail;
+use std::sync::Wait;
 use std::thread::Threads;
 use test_files::{WRITES, file_of};
 use test_journals::journal_of;
@@ -31,12 +32,12 @@ const TWO_STEPS: [u8; 15] = [0, 1, 0, 0, 0, 1, 0, 2, 0, 0, 0, 0, 0, 0, 0];
 const ONE_STEP: [u8; 15] = [0, 1, 0, 0, 0, 1, 0, 1, 0, 0, 0, 0, 0, 0, 0];
 
 // A run by these words of a racer and a gate, on an empty disk, where `g` is this file.
-fn ran_by<R: Threads + Sync, Q: Racer, G: Gate + Sync>(
+fn ran_by<R: Threads + Wait + Sync, Q: Racer + Drop + Send, G: Gate + Sync>(
     rt: &R,
     alloc: Global,
     words: &[&str],
     file: &[u8],
-    racer: &mut Q,
+    racer: Q,
     gate: &G,
 ) -> Result<(MemWorld, Status), Fail> {
     let texts = texts_of(alloc, words)?;
@@ -72,8 +73,8 @@ fn is_in_five_epochs(alloc: Global, world: &MemWorld, squashes: u8) -> Result<bo
 fn rounds_of_chaos(rt: HostRuntime) -> Result<(), Fail> {
     let alloc = rt.alloc();
     for (number, squashes) in [(0u32, b'0'), (1, b'4'), (2, b'0')] {
-        let mut racer = ChaosRacer::new(number);
-        let (world, status) = ran_by(&rt, alloc, &WORDS, &WRITES, &mut racer, &OpenGate)?;
+        let racer = ChaosRacer::new(number);
+        let (world, status) = ran_by(&rt, alloc, &WORDS, &WRITES, racer, &OpenGate)?;
         assert_eq!(rt; status, Status::Ok);
         assert!(rt; is_in_five_epochs(alloc, &world, squashes)?);
     }
@@ -85,8 +86,8 @@ fn rounds_of_chaos(rt: HostRuntime) -> Result<(), Fail> {
 fn jobs_of_a_round_run_side_by_side(rt: HostRuntime) -> Result<(), Fail> {
     let alloc = rt.alloc();
     let gate = HoldGate::new();
-    let mut racer = ChaosRacer::new(0);
-    let (world, status) = ran_by(&rt, alloc, &WORDS, &WRITES, &mut racer, &gate)?;
+    let racer = ChaosRacer::new(0);
+    let (world, status) = ran_by(&rt, alloc, &WORDS, &WRITES, racer, &gate)?;
     assert_eq!(rt; status, Status::Ok);
     assert!(rt; is_in_five_epochs(alloc, &world, b'0')?);
     assert!(rt; !gate.ran_out());
@@ -98,8 +99,8 @@ fn jobs_of_a_round_run_side_by_side(rt: HostRuntime) -> Result<(), Fail> {
 fn jobs_of_a_thread_racer(rt: HostRuntime) -> Result<(), Fail> {
     let alloc = rt.alloc();
     let gate = HoldGate::new();
-    let mut racer = ThreadRacer::new(2);
-    let (world, status) = ran_by(&rt, alloc, &WORDS, &WRITES, &mut racer, &gate)?;
+    let racer = ThreadRacer::new(2);
+    let (world, status) = ran_by(&rt, alloc, &WORDS, &WRITES, racer, &gate)?;
     assert_eq!(rt; status, Status::Ok);
     assert!(rt; is_in_five_epochs(alloc, &world, b'0')?);
     assert!(rt; !gate.ran_out());
@@ -165,8 +166,8 @@ fn a_race_is_replayed(rt: HostRuntime) -> Result<(), Fail> {
             "--mark",
             mark,
         ];
-        let mut racer = ThreadRacer::new(2);
-        let (world, status) = ran_by(&rt, alloc, &words, &file, &mut racer, &OpenGate)?;
+        let racer = ThreadRacer::new(2);
+        let (world, status) = ran_by(&rt, alloc, &words, &file, racer, &OpenGate)?;
         assert_eq!(rt; status, Status::Ok, "epoch {epoch}");
         let sent = world.sent(Stream::Out);
         assert!(rt; is_output_of_adders(sent), "epoch {epoch}");

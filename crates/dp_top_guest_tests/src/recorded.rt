@@ -6,6 +6,7 @@ use dp_top::run;
 use racing_runner::IdleRacer;
 use std::alloc::Global;
 use std::test::Fail;
+use std::sync::Wait;
 use std::thread::Threads;
 use test_files::file_of;
 use test_worlds::{Failing, disk_of, file_named, inlet_of, texts_of};
@@ -31,7 +32,7 @@ fn look_at(alloc: Global, world: &MemWorld, status: Status, takes: u64) -> Resul
 }
 
 // A run by these words, on a disk with these bytes, where `g` is this file.
-fn ran<R: Threads + Sync>(
+fn ran<R: Threads + Wait + Sync>(
     rt: &R,
     alloc: Global,
     words: &[&str],
@@ -50,7 +51,7 @@ fn ran<R: Threads + Sync>(
         &mut files,
         &mut inlet,
         world,
-        &mut IdleRacer,
+        IdleRacer,
         &OpenGate,
     );
     look_at(alloc, &after, status, inlet.takes())
@@ -60,7 +61,7 @@ fn ran<R: Threads + Sync>(
 pub(crate) const STEPS: (&str, &str) = ("20000", "1000");
 
 // A recording without marks of a guest of these words, on an empty disk, with so many steps of an epoch and of a slice at most.
-pub(crate) fn record<R: Threads + Sync>(
+pub(crate) fn record<R: Threads + Wait + Sync>(
     rt: &R,
     alloc: Global,
     words: &[u32],
@@ -75,7 +76,7 @@ pub(crate) fn record<R: Threads + Sync>(
 }
 
 // A replay of a journal, with no input and no file.
-pub(crate) fn replay<R: Threads + Sync>(
+pub(crate) fn replay<R: Threads + Wait + Sync>(
     rt: &R,
     alloc: Global,
     journal: &[u8],
@@ -94,7 +95,7 @@ pub(crate) struct Came {
 }
 
 // The same, where both send this on Out, and the recording sends the one line on Note and the replay the other.
-pub(crate) fn came_to<R: Threads + Sync>(
+pub(crate) fn came_to<R: Threads + Wait + Sync>(
     rt: &R,
     alloc: Global,
     words: &[u32],
@@ -120,7 +121,7 @@ pub(crate) fn came_to<R: Threads + Sync>(
 }
 
 // What a recording that meets no fault came to.
-pub(crate) fn recorded<R: Threads + Sync>(
+pub(crate) fn recorded<R: Threads + Wait + Sync>(
     rt: &R,
     alloc: Global,
     words: &[u32],

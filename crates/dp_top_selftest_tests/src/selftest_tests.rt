@@ -8,6 +8,7 @@ use dp_top::run;
 use racing_runner::IdleRacer;
 use std::alloc::Global;
 use std::test::Fail;
+use std::sync::Wait;
 use std::thread::Threads;
 use test_worlds::{Failing, file_named, inlet_of, texts_of, world_of};
 
@@ -43,7 +44,7 @@ const DISK: &[u8] = b"what was on the disk";
 type Came = (Status, Vec<u8>, Vec<u8>);
 
 // A self-test on a guest, if some emits fail and each takes so many bytes at most. Each other call on the outside fails.
-fn tested<R: Threads + Sync>(
+fn tested<R: Threads + Wait + Sync>(
     rt: &R,
     alloc: Global,
     n: u32,
@@ -64,7 +65,7 @@ fn tested<R: Threads + Sync>(
         &mut files,
         &mut inlet,
         world,
-        &mut IdleRacer,
+        IdleRacer,
         &OpenGate,
     );
     if world.disk_calls() != 0 || world.bytes() != DISK || inlet.takes() != 0 {
@@ -76,7 +77,7 @@ fn tested<R: Threads + Sync>(
 }
 
 // Whether a self-test comes to this.
-fn comes_to<R: Threads + Sync>(
+fn comes_to<R: Threads + Wait + Sync>(
     rt: &R,
     alloc: Global,
     n: u32,
@@ -92,7 +93,7 @@ fn comes_to<R: Threads + Sync>(
 }
 
 // Whether a self-test answers `Ok` with this line.
-fn says<R: Threads + Sync>(rt: &R, alloc: Global, n: u32, line: &[u8]) -> Result<bool, Fail> {
+fn says<R: Threads + Wait + Sync>(rt: &R, alloc: Global, n: u32, line: &[u8]) -> Result<bool, Fail> {
     comes_to(rt, alloc, n, Failing::Never, 4096, (Status::Ok, line, b""))
 }
 
@@ -129,7 +130,7 @@ fn beginning(alloc: Global, n: u32, steps: u32) -> Result<String, Fail> {
 }
 
 // Whether a self-test says this much of a guest.
-fn begins_as_expected<R: Threads + Sync>(
+fn begins_as_expected<R: Threads + Wait + Sync>(
     rt: &R,
     alloc: Global,
     n: u32,
@@ -157,7 +158,7 @@ fn guests_of_one_epoch(rt: HostRuntime) -> Result<(), Fail> {
 }
 
 // Emits of sixteen bytes: the one with this number fails, and then all from it on. What was sent before it stays sent.
-fn emit_fails<R: Threads + Sync>(rt: &R, alloc: Global, number: usize) -> Result<bool, Fail> {
+fn emit_fails<R: Threads + Wait + Sync>(rt: &R, alloc: Global, number: usize) -> Result<bool, Fail> {
     let (before, _) = LINE_0.split_at(
         number
             .saturating_sub(1)

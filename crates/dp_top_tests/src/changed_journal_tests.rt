@@ -6,6 +6,7 @@ use dp_report::Status;
 use recorder_tests::mark_of_start;
 use std::alloc::Global;
 use std::test::Fail;
+use std::sync::Wait;
 use std::thread::Threads;
 use test_files::{EXITS, WRITES, replaced};
 use test_journals::{THREE_STEPS, journal_of};
@@ -38,7 +39,7 @@ fn journals_cut_short(rt: HostRuntime) -> Result<(), Fail> {
 }
 
 // The journal of nine epochs of one step, with another thread's number in the record whose gate is at this place.
-fn with_thread<R: Threads + Sync>(
+fn with_thread<R: Threads + Wait + Sync>(
     rt: &R,
     alloc: Global,
     gate: usize,
@@ -53,7 +54,7 @@ fn with_thread<R: Threads + Sync>(
 }
 
 // What that journal plays to.
-fn thread_plays_as<R: Threads + Sync>(
+fn thread_plays_as<R: Threads + Wait + Sync>(
     rt: &R,
     alloc: Global,
     workers: &str,
@@ -94,7 +95,7 @@ fn an_epoch_of_no_thread(rt: HostRuntime) -> Result<(), Fail> {
 }
 
 // What the journal of 126 bytes plays to, with so many of its bytes from a place on replaced. Nothing is sent on Out.
-fn other_plays_as<R: Threads + Sync>(
+fn other_plays_as<R: Threads + Wait + Sync>(
     rt: &R,
     alloc: Global,
     place: usize,
@@ -252,7 +253,7 @@ fn bytes_of(alloc: Global, body: Body) -> Result<Vec<u8>, Fail> {
 }
 
 // Of a guest's journal with two records of these bodies.
-fn two_play_as<R: Threads + Sync>(
+fn two_play_as<R: Threads + Wait + Sync>(
     rt: &R,
     alloc: Global,
     guest: &[u8],
@@ -265,7 +266,7 @@ fn two_play_as<R: Threads + Sync>(
     plays_as(rt, alloc, REPLAY, &journal, sent, noted)
 }
 
-fn bodies_play_as<R: Threads + Sync>(
+fn bodies_play_as<R: Threads + Wait + Sync>(
     rt: &R,
     alloc: Global,
     first: Body,

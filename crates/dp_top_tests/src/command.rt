@@ -5,11 +5,12 @@ use dp_top::{Status, run};
 use racing_runner::IdleRacer;
 use std::alloc::Global;
 use std::test::Fail;
+use std::sync::Wait;
 use std::thread::Threads;
 use test_worlds::{Failing, file_named, inlet_of, texts_of};
 
 /// What a run with these words comes to, where `g` is this guest, the input has these pieces, and the world has this disk.
-pub(crate) fn ran<R: Threads + Sync>(
+pub(crate) fn ran<R: Threads + Wait + Sync>(
     rt: &R,
     alloc: Global,
     words: &[&str],
@@ -28,7 +29,7 @@ pub(crate) fn ran<R: Threads + Sync>(
         &mut files,
         &mut inlet,
         world,
-        &mut IdleRacer,
+        IdleRacer,
         &OpenGate,
     ))
 }

@@ -6,6 +6,7 @@ use crate::stopped::{Faults, Plays, plays, recording};
 use dp_report::Status;
 use std::alloc::Global;
 use std::test::Fail;
+use std::sync::Wait;
 use std::thread::Threads;
 use test_files::WRITES_WORDS;
 use test_worlds::Failing;
@@ -32,7 +33,7 @@ fn wanted(number: u64, piece: u64) -> Came {
 
 // A recording in epochs of one step, where these emits fail, of which one takes so many bytes at most. Its journal is looked at beside
 // a whole one.
-fn emits_failing<R: Threads + Sync>(
+fn emits_failing<R: Threads + Wait + Sync>(
     rt: &R,
     alloc: Global,
     sink: Failing,
@@ -62,7 +63,7 @@ fn emits_failing<R: Threads + Sync>(
 }
 
 // The journal of nine epochs, from a recording that meets no fault.
-fn whole<R: Threads + Sync>(rt: &R, alloc: Global) -> Result<Vec<u8>, Fail> {
+fn whole<R: Threads + Wait + Sync>(rt: &R, alloc: Global) -> Result<Vec<u8>, Fail> {
     let faults = Faults {
         disk: Failing::Never,
         sink: Failing::Never,

@@ -6,6 +6,7 @@ use crate::stopped::{Faults, Plays, Stopped, plays, recording, replay};
 use dp_report::Status;
 use std::alloc::Global;
 use std::test::Fail;
+use std::sync::Wait;
 use std::thread::Threads;
 use test_files::WRITES_WORDS;
 use test_worlds::Failing;
@@ -21,7 +22,7 @@ const ONE_OF_WRITES: &[u8] =
     b"epochs 1 squashes 0 steps 9 sent 3 end exit 0 state 5e7e08b662a2648fef71b4527eed27a6cdaea8232e2b564dfcc9f494b1615bd4\n";
 
 // A recording in epochs of 20,000 steps, where the disk fails from this call on.
-fn stops<R: Threads + Sync>(rt: &R, alloc: Global, number: u64) -> Result<Stopped, Fail> {
+fn stops<R: Threads + Wait + Sync>(rt: &R, alloc: Global, number: u64) -> Result<Stopped, Fail> {
     let faults = Faults {
         disk: Failing::From(number),
         sink: Failing::Never,

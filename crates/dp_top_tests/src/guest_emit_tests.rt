@@ -4,6 +4,7 @@ use dp_report::Status;
 use dp_top_guest_tests::{FILTER, PRODUCER_AND_CONSUMER};
 use std::alloc::Global;
 use std::test::Fail;
+use std::sync::Wait;
 use std::thread::Threads;
 use test_worlds::Failing;
 
@@ -16,7 +17,7 @@ fn failing(sink: Failing, piece: u32) -> Faults {
 }
 
 // What a recording of the filter comes to where these emits fail, of which one takes so many bytes at most.
-fn filtered<R: Threads + Sync>(
+fn filtered<R: Threads + Wait + Sync>(
     rt: &R,
     alloc: Global,
     sink: Failing,
@@ -38,7 +39,7 @@ fn filtered<R: Threads + Sync>(
 }
 
 // The same of the guest with a producer and a consumer.
-fn produced<R: Threads + Sync>(
+fn produced<R: Threads + Wait + Sync>(
     rt: &R,
     alloc: Global,
     sink: Failing,

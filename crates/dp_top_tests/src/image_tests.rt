@@ -8,6 +8,7 @@ use disk_model::Stream;
 use dp_report::Status;
 use std::alloc::Global;
 use std::test::Fail;
+use std::sync::Wait;
 use std::thread::Threads;
 use test_files::{EXITS, repeated, replaced};
 use test_journals::journal_of;
@@ -28,7 +29,7 @@ const TWO_SEGMENTS: [u8; 151] = [
 ];
 
 // The status of a recording of a file on a disk whose first call would fail, where it makes none, and sends this alone.
-fn recording_refused<R: Threads + Sync>(
+fn recording_refused<R: Threads + Wait + Sync>(
     rt: &R,
     alloc: Global,
     file: &[u8],
@@ -45,7 +46,7 @@ fn recording_refused<R: Threads + Sync>(
 
 // What a file comes to: the status of that recording, and that of a replay of a journal that has it. Both send the same on Note,
 // and nothing else.
-fn refused<R: Threads + Sync>(
+fn refused<R: Threads + Wait + Sync>(
     rt: &R,
     alloc: Global,
     file: &[u8],
@@ -58,7 +59,7 @@ fn refused<R: Threads + Sync>(
 }
 
 // The same of the guest of 96 bytes with these bytes from an offset on.
-fn changed_refused<R: Threads + Sync>(
+fn changed_refused<R: Threads + Wait + Sync>(
     rt: &R,
     alloc: Global,
     offset: usize,
@@ -120,7 +121,7 @@ fn images_of_no_byte_and_of_too_many(rt: HostRuntime) -> Result<(), Fail> {
 
 // What a recording left, as it came to this status: that, the journal's length, and the status of its replay, where both send the
 // same on Out and on Note.
-fn replayed_as<R: Threads + Sync>(
+fn replayed_as<R: Threads + Wait + Sync>(
     rt: &R,
     alloc: Global,
     after: &MemWorld,
@@ -136,7 +137,7 @@ fn replayed_as<R: Threads + Sync>(
 }
 
 // The same of a recording of a file.
-fn recorded_as<R: Threads + Sync>(
+fn recorded_as<R: Threads + Wait + Sync>(
     rt: &R,
     alloc: Global,
     file: &[u8],

@@ -3,6 +3,7 @@ use crate::replay_tests::{plays_as, recorded, replays_as, world_with};
 use dp_report::Status;
 use std::alloc::Global;
 use std::test::Fail;
+use std::sync::Wait;
 use std::thread::Threads;
 use test_files::{EXITS, WRITES};
 use test_journals::{THREE_STEPS, journal_of};
@@ -44,7 +45,7 @@ fn records_that_do_not_run(rt: HostRuntime) -> Result<(), Fail> {
 }
 
 // A recording of nine epochs of one step, listed.
-fn nine_epochs_listed<R: Threads + Sync>(rt: &R, alloc: Global) -> Result<(Status, u8), Fail> {
+fn nine_epochs_listed<R: Threads + Wait + Sync>(rt: &R, alloc: Global) -> Result<(Status, u8), Fail> {
     let words = ["dpcli", "record", "g", "j", "--epoch", "1"];
     let (world, _) = recorded(rt, alloc, &words, &WRITES)?;
     let text =
@@ -82,7 +83,7 @@ fn no_journal(rt: HostRuntime) -> Result<(), Fail> {
 }
 
 // An inspection of one epoch where some calls fail, and an emit takes one byte.
-fn failing<R: Threads + Sync>(
+fn failing<R: Threads + Wait + Sync>(
     rt: &R,
     alloc: Global,
     disk: Failing,
@@ -112,7 +113,7 @@ fn each_disk_call_fails(rt: HostRuntime) -> Result<(), Fail> {
 }
 
 // The emit of one byte with this number fails, and then all from it on: the bytes before it were sent.
-fn emit_fails<R: Threads + Sync>(
+fn emit_fails<R: Threads + Wait + Sync>(
     rt: &R,
     alloc: Global,
     number: usize,

@@ -6,6 +6,7 @@ use crate::stopped::{Faults, NO_JOURNAL, Plays, plays, recording, replay};
 use dp_report::Status;
 use std::alloc::Global;
 use std::test::Fail;
+use std::sync::Wait;
 use std::thread::Threads;
 use test_files::{WRITES_WORDS, file_of};
 use test_worlds::Failing;
@@ -45,7 +46,7 @@ fn mark_behind_one_step(alloc: Global) -> Result<Vec<u8>, Fail> {
 }
 
 // The journal of nine epochs with this mark's record in front of the gate at this place.
-fn marked<R: Threads + Sync>(rt: &R, alloc: Global, place: usize) -> Result<Vec<u8>, Fail> {
+fn marked<R: Threads + Wait + Sync>(rt: &R, alloc: Global, place: usize) -> Result<Vec<u8>, Fail> {
     let faults = Faults {
         disk: Failing::Never,
         sink: Failing::Never,
@@ -66,7 +67,7 @@ fn marked<R: Threads + Sync>(rt: &R, alloc: Global, place: usize) -> Result<Vec<
     Ok(journal)
 }
 
-fn cut_plays<R: Threads + Sync>(
+fn cut_plays<R: Threads + Wait + Sync>(
     rt: &R,
     alloc: Global,
     journal: &[u8],

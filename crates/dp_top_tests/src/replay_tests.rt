@@ -7,6 +7,7 @@ use disk_model::Stream;
 use dp_report::Status;
 use std::alloc::Global;
 use std::test::Fail;
+use std::sync::Wait;
 use std::thread::Threads;
 use test_files::{EXITS, WRITES};
 use test_journals::journal_of;
@@ -62,7 +63,7 @@ fn is_right(world: &MemWorld, journal: &[u8], sent: &[u8], noted: &[u8]) -> Resu
 
 // The status of a replay in this world, and its number, where it sent these bytes on Out and on Note, and did no more than read the
 // disk, which has this journal.
-pub(crate) fn replays_as<R: Threads + Sync>(
+pub(crate) fn replays_as<R: Threads + Wait + Sync>(
     rt: &R,
     alloc: Global,
     words: &[&str],
@@ -77,7 +78,7 @@ pub(crate) fn replays_as<R: Threads + Sync>(
 }
 
 // The same of a replay, by these words, that meets no fault.
-pub(crate) fn plays_as<R: Threads + Sync>(
+pub(crate) fn plays_as<R: Threads + Wait + Sync>(
     rt: &R,
     alloc: Global,
     words: &[&str],
@@ -90,7 +91,7 @@ pub(crate) fn plays_as<R: Threads + Sync>(
 }
 
 // A recording, by these words, on an empty disk.
-pub(crate) fn recorded<R: Threads + Sync>(
+pub(crate) fn recorded<R: Threads + Wait + Sync>(
     rt: &R,
     alloc: Global,
     words: &[&str],
@@ -101,7 +102,7 @@ pub(crate) fn recorded<R: Threads + Sync>(
 }
 
 // Of a journal, where some calls fail, and an emit takes so many bytes at most.
-fn failing_plays_as<R: Threads + Sync>(
+fn failing_plays_as<R: Threads + Wait + Sync>(
     rt: &R,
     alloc: Global,
     journal: &[u8],
@@ -118,7 +119,7 @@ fn failing_plays_as<R: Threads + Sync>(
 }
 
 // Of the journal of `WRITES` with one epoch.
-fn writes_play_as<R: Threads + Sync>(
+fn writes_play_as<R: Threads + Wait + Sync>(
     rt: &R,
     alloc: Global,
     disk: Failing,
@@ -134,7 +135,7 @@ fn writes_play_as<R: Threads + Sync>(
 }
 
 // The same where the call on the disk with this number fails, and where all from it on fail.
-fn disk_fails<R: Threads + Sync>(
+fn disk_fails<R: Threads + Wait + Sync>(
     rt: &R,
     alloc: Global,
     number: u64,
@@ -147,7 +148,7 @@ fn disk_fails<R: Threads + Sync>(
 }
 
 // The same of an emit, with what Note gets of each.
-fn emit_fails<R: Threads + Sync>(
+fn emit_fails<R: Threads + Wait + Sync>(
     rt: &R,
     alloc: Global,
     number: u64,
@@ -165,7 +166,7 @@ fn emit_fails<R: Threads + Sync>(
 }
 
 // How long that journal is, and how many calls on the disk a replay of it makes.
-fn calls_of_writes<R: Threads + Sync>(rt: &R, alloc: Global) -> Result<(usize, u64), Fail> {
+fn calls_of_writes<R: Threads + Wait + Sync>(rt: &R, alloc: Global) -> Result<(usize, u64), Fail> {
     let journal = journal_of(alloc, &WRITES, &[NINE_STEPS])?;
     let world = world_with(alloc, &journal, Failing::Never, Failing::Never, 4096)?;
     let (after, _) = ran(rt, alloc, REPLAY, &[], Failing::Never, &[], world)?;
@@ -191,7 +192,7 @@ fn each_disk_call_of_a_replay_fails(rt: HostRuntime) -> Result<(), Fail> {
 }
 
 // Where the calls behind the last would fail.
-fn behind_the_disk_calls<R: Threads + Sync>(rt: &R, alloc: Global) -> Result<(Status, u8), Fail> {
+fn behind_the_disk_calls<R: Threads + Wait + Sync>(rt: &R, alloc: Global) -> Result<(Status, u8), Fail> {
     let (_, calls) = calls_of_writes(rt, alloc)?;
     let behind = Failing::From(calls.saturating_add(1));
     writes_play_as(
@@ -288,7 +289,7 @@ fn sent_again(first: &MemWorld, second: &MemWorld) -> Result<(bool, bool), Fail>
 }
 
 // The status of that replay, and the same.
-fn replay_of<R: Threads + Sync>(
+fn replay_of<R: Threads + Wait + Sync>(
     rt: &R,
     alloc: Global,
     first: &MemWorld,
@@ -300,7 +301,7 @@ fn replay_of<R: Threads + Sync>(
 }
 
 // The statuses of a recording and of a replay of what it left, and whether the second sent the same on Out and on Note.
-fn recorded_and_replayed<R: Threads + Sync>(
+fn recorded_and_replayed<R: Threads + Wait + Sync>(
     rt: &R,
     alloc: Global,
     words: &[&str],

@@ -5,6 +5,7 @@ use disk_model::Stream;
 use dp_top::Status;
 use std::alloc::Global;
 use std::test::Fail;
+use std::sync::Wait;
 use std::thread::Threads;
 use test_files::{EXITS, WRITES};
 use test_worlds::{Failing, disk_of, world_of};
@@ -61,7 +62,7 @@ fn look_at(world: &MemWorld, status: Status, out: &[u8], note: &[u8]) -> Came {
 }
 
 // A run on an empty disk that fetches each file.
-fn came_to<R: Threads + Sync>(
+fn came_to<R: Threads + Wait + Sync>(
     rt: &R,
     alloc: Global,
     words: &[&str],
@@ -77,7 +78,7 @@ fn came_to<R: Threads + Sync>(
 }
 
 // A recording of a guest on a disk that has these bytes.
-fn recorded_on<R: Threads + Sync>(
+fn recorded_on<R: Threads + Wait + Sync>(
     rt: &R,
     alloc: Global,
     guest: &[u8],
@@ -88,7 +89,7 @@ fn recorded_on<R: Threads + Sync>(
 }
 
 // Whether a recording leaves these bytes on a disk that had these first.
-fn leaves<R: Threads + Sync>(
+fn leaves<R: Threads + Wait + Sync>(
     rt: &R,
     alloc: Global,
     guest: &[u8],
@@ -100,7 +101,7 @@ fn leaves<R: Threads + Sync>(
 }
 
 // Whether the recording of `EXITS` leaves the journal of 126 bytes.
-fn leaves_its_journal<R: Threads + Sync>(rt: &R, alloc: Global) -> Result<bool, Fail> {
+fn leaves_its_journal<R: Threads + Wait + Sync>(rt: &R, alloc: Global) -> Result<bool, Fail> {
     let journal = journal_of_exits(alloc)?;
     leaves(rt, alloc, &EXITS, b"", &journal)
 }
@@ -166,7 +167,7 @@ fn options_of_a_recording(rt: HostRuntime) -> Result<(), Fail> {
 
 // A run of a guest of no byte, where fetches fail from this one on and each call on the disk would: its status, how many calls
 // there were on the disk, and whether this was sent on Note.
-fn refused_as<R: Threads + Sync>(
+fn refused_as<R: Threads + Wait + Sync>(
     rt: &R,
     alloc: Global,
     words: &[&str],
@@ -220,7 +221,7 @@ fn refusals_before_the_disk(rt: HostRuntime) -> Result<(), Fail> {
 }
 
 // A recording of `WRITES` on a disk that has these bytes.
-fn came_to_on<R: Threads + Sync>(
+fn came_to_on<R: Threads + Wait + Sync>(
     rt: &R,
     alloc: Global,
     disk: &[u8],
@@ -281,7 +282,7 @@ fn calls_that_fail() -> [(Failing, Failing, Status, (u64, u64), &'static [u8]); 
 
 // What a recording of `WRITES` comes to where these calls fail: its status, whether it sent this line on Note, and how many calls on
 // the disk and emits failed.
-fn faults_of<R: Threads + Sync>(
+fn faults_of<R: Threads + Wait + Sync>(
     rt: &R,
     alloc: Global,
     disk: Failing,

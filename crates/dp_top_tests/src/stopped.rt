@@ -8,6 +8,7 @@ use disk_model::Stream;
 use dp_report::Status;
 use std::alloc::Global;
 use std::test::Fail;
+use std::sync::Wait;
 use std::thread::Threads;
 use test_files::file_of;
 use test_worlds::{Failing, disk_of, world_of};
@@ -42,7 +43,7 @@ fn images_of(alloc: Global, world: &MemWorld, status: Status) -> Result<Stopped,
 }
 
 // A recording on an empty disk.
-pub(crate) fn recording<R: Threads + Sync>(
+pub(crate) fn recording<R: Threads + Wait + Sync>(
     rt: &R,
     alloc: Global,
     asked: &[&str],
@@ -73,7 +74,7 @@ fn look_at(alloc: Global, world: &MemWorld, status: Status) -> Result<Played, Fa
 }
 
 // A replay of an image that meets no fault.
-pub(crate) fn replay<R: Threads + Sync>(
+pub(crate) fn replay<R: Threads + Wait + Sync>(
     rt: &R,
     alloc: Global,
     image: &[u8],
@@ -101,7 +102,7 @@ pub(crate) type Plays = (Status, u8, usize);
 pub(crate) const NO_JOURNAL: Plays = (Status::NoJournal, 0, 0);
 
 // What an image plays to, where the output begins with what a recording has sent, and the guest's whole output begins with it.
-pub(crate) fn plays<R: Threads + Sync>(
+pub(crate) fn plays<R: Threads + Wait + Sync>(
     rt: &R,
     alloc: Global,
     image: &[u8],
@@ -130,7 +131,7 @@ pub(crate) struct Left {
 }
 
 // The same of a recording some of whose calls fail, of a guest whose whole output this is.
-pub(crate) fn what_is_left<R: Threads + Sync>(
+pub(crate) fn what_is_left<R: Threads + Wait + Sync>(
     rt: &R,
     alloc: Global,
     asked: &[&str],

@@ -33,9 +33,9 @@ fn main(rt: HostRuntime) -> ExitCode {
     };
     let mut files = RealFiles::new(rt);
     let mut inlet = RealInlet::new(rt);
-    let mut racer = ThreadRacer::new(RACING_WORKERS);
+    let racer = ThreadRacer::new(RACING_WORKERS);
     let (mut world, status) = run(
-        &rt, alloc, &words, &mut files, &mut inlet, world, &mut racer, &OpenGate,
+        &rt, alloc, &words, &mut files, &mut inlet, world, racer, &OpenGate,
     );
     // The status stays if there is no memory for a line, or if it can't be sent.
     let _ = match status {

@@ -1,8 +1,8 @@
 -- A racer that tells its offers leaves no choice, and one that offers nothing runs rounds of one job.
-use Rattle.std.proofs.Common.{◌≡◌, ◌≢◌, ◌⊎◌, inl, inr, ℕ, ◌-◌, ◌<◌, Bool, true, false, List, [], ◌∷◌, ◌++◌, length, map, take, Option, Some, refl, sym, ◌∙◌, ap, subst, append_assoc, arith}
+use Rattle.std.proofs.Common.{◌≡◌, ◌≢◌, ◌⊎◌, inl, inr, ℕ, ◌+◌, ◌-◌, ◌<◌, ◌≤◌, Bool, true, false, List, [], ◌∷◌, ◌++◌, length, map, take, Option, Some, refl, sym, ◌∙◌, ap, subst, append_assoc, arith}
 use Rattle.std.proofs.Math.Seq.{take-nil}
 use Rattle.std.proofs.lemmas.List.{append-nil}
-use Rattle.commit_core.specs.JudgedRound.{AreLinked, IsJudged, RoundEnd, over, squashed}
+use Rattle.commit_core.specs.JudgedRound.{AreLinked, IsJudged, RoundEnd, over, squashed, used_up}
 use Rattle.dp_base.specs.Journal as journals
 use Rattle.epoch_record.specs.Epoch.{epoch_of}
 use Rattle.epoch_runner.specs.Answering.{can_step}
@@ -21,6 +21,7 @@ use Rattle.recorder.specs.Machine.{epochs_of_runs}
 use Rattle.recorder.specs.Racing.{AreResults, IsRaced, bounds_for, plan_of}
 use Rattle.recorder.specs.Recording.{BeginsWith, EachIsNext, EachIsRound, IsNext, IsRound, Run, RunOn, TellsAll, draws, draws_on, epochs, first_after, first_behind, first_next, is_squash, supply}
 use Rattle.recorder.proofs.Alike.{IsDetermined}
+use Rattle.recorder.proofs.JobRuns.{few_results}
 use Rattle.recorder.proofs.RunLists.{epochs-append, first-append}
 use Rattle.supply.specs.Supplied.{Supplied, empty}
 use Rattle.supply.specs.declared.TheConstants.{MAX_ROOM}
@@ -33,11 +34,11 @@ IsSame (Idle s) (Idle t) = s ≡ t
 IsSame (Epoch r) (Idle t) = ⊥
 IsSame (Idle s) (Epoch q) = ⊥
 
-abbrev AreSame : List Ran → List Ran → Type 0
-AreSame [] [] = Unit {0}
-AreSame (x ∷ xs) (y ∷ ys) = IsSame x y × AreSame xs ys
-AreSame [] (y ∷ ys) = ⊥
-AreSame (x ∷ xs) [] = ⊥
+-- as far as both go
+abbrev AgreeOn : List Ran → List Ran → Type 0
+AgreeOn [] ys = Unit {0}
+AgreeOn (x ∷ xs) [] = Unit {0}
+AgreeOn (x ∷ xs) (y ∷ ys) = IsSame x y × AgreeOn xs ys
 
 module _ (law : IsDetermined) (options : Options) (w : Supplied) where
   -- an epoch is run or it isn't
@@ -53,14 +54,12 @@ module _ (law : IsDetermined) (options : Options) (w : Supplied) where
   one_result s hints b (Epoch r) (Idle u) is there = absurd (never s b is.some_steps is.could_step there.why)
   one_result s hints b (Idle t) (Epoch q) is there = absurd (never s b there.some_steps there.could_step is.why)
 
-  all_results : (first : ℕ) (s : State) (offers : List Offer) (xs ys : List Ran) → AreResults options first s offers w xs → AreResults options first s offers w ys → AreSame xs ys
-  all_results first s [] [] ys is there = absurd is
-  all_results first s [] (x ∷ z ∷ xs) ys is there = absurd is
-  all_results first s [] (x ∷ []) [] is there = absurd there
+  all_results : (first : ℕ) (s : State) (offers : List Offer) (xs ys : List Ran) → AreResults options first s offers w xs → AreResults options first s offers w ys → AgreeOn xs ys
+  all_results first s offers [] ys is there = tt
+  all_results first s offers (x ∷ xs) [] is there = tt
+  all_results first s [] (x ∷ z ∷ xs) (y ∷ ys) is there = absurd is
   all_results first s [] (x ∷ []) (y ∷ z ∷ ys) is there = absurd there
   all_results first s [] (x ∷ []) (y ∷ []) is there = (one_result s no_hints (bounds_for options first s) x y is there, tt)
-  all_results first s (o ∷ offers) [] ys is there = absurd is
-  all_results first s (o ∷ offers) (x ∷ xs) [] is there = absurd there
   all_results first s (o ∷ offers) (x ∷ xs) (y ∷ ys) is there = (one_result s o.hints (bounds_for options first s) x y is.0 there.0, all_results 1 o.next offers xs ys is.1 there.1)
 
 -- ---- judged
@@ -68,31 +67,46 @@ module _ (law : IsDetermined) (options : Options) (w : Supplied) where
 abbrev AreEqual : List EpochRun → State → RoundEnd → List EpochRun → State → RoundEnd → Type 0
 AreEqual runs t stop others u other = (epochs_of_runs runs ≡ epochs_of_runs others) × (t ≡ u) × (stop ≡ other)
 
-same_judged : (s : State) (xs ys : List Ran) (runs others : List EpochRun) (t u : State) (stop other : RoundEnd) → AreSame xs ys → IsJudged s xs runs t stop → IsJudged s ys others u other → AreEqual runs t stop others u other
-same_judged s [] [] [] [] t u stop other same is there = (refl, is.0 ∙ sym there.0, is.1 ∙ sym there.1)
-same_judged s (Epoch r ∷ xs) (Epoch q ∷ ys) (x ∷ runs) (y ∷ others) t u stop other same is there =
-    let rest = same_judged r.end xs ys runs others t u stop other same.1 is.1.1
+-- so many results at most, and as many if no result ended the round
+record IsFull (count : ℕ) (xs : List Ran) (stop : RoundEnd) : Type 0 where
+  few : length xs ≤ count
+  full : stop ≡ used_up → length xs ≡ count
+
+fewer : (count : ℕ) (x : Ran) (xs : List Ran) (stop : RoundEnd) → IsFull count (x ∷ xs) stop → IsFull (count - 1) xs stop
+fewer count x xs stop is = record { few = (let few = is.few in omega (arith, few)); full = λ up. (let all = is.full up in omega (arith, all)) }
+
+-- one list can't go on where the other is used up
+too_few : (count : ℕ) (x : Ran) (xs : List Ran) (stop other : RoundEnd) → stop ≡ used_up → IsFull count [] stop → IsFull count (x ∷ xs) other → ⊥
+too_few count x xs stop other up is there = let none = is.full up in let few = there.few in omega (arith, none, few)
+
+same_judged : (s : State) (count : ℕ) (xs ys : List Ran) (runs others : List EpochRun) (t u : State) (stop other : RoundEnd) → AgreeOn xs ys → IsFull count xs stop → IsFull count ys other → IsJudged s xs runs t stop → IsJudged s ys others u other
+    → AreEqual runs t stop others u other
+same_judged s count [] [] [] [] t u stop other same f g is there = (refl, is.0 ∙ sym there.0, is.1 ∙ sym there.1)
+same_judged s count (Epoch r ∷ xs) (Epoch q ∷ ys) (x ∷ runs) (y ∷ others) t u stop other same f g is there =
+    let rest = same_judged r.end (count - 1) xs ys runs others t u stop other same.1 (fewer count (Epoch r) xs stop f) (fewer count (Epoch q) ys other g) is.1.1
     (subst (λ (z : State). IsJudged z ys others u other) (sym same.0.2) there.1.1) in
     let first : epoch_of x.epoch ≡ epoch_of y.epoch = ap (λ (z : EpochRun). epoch_of z.epoch) is.1.0 ∙ same.0.1 ∙ ap (λ (z : EpochRun). epoch_of z.epoch) (sym there.1.0) in
     (ap (λ (e : journals.Epoch). e ∷ epochs_of_runs runs) first ∙ ap (λ (l : List journals.Epoch). epoch_of y.epoch ∷ l) rest.0, rest.1, rest.2)
-same_judged s (Epoch r ∷ xs) (Epoch q ∷ ys) [] [] t u stop other same is there = (refl, is.1.0 ∙ sym there.1.0, is.1.1 ∙ sym there.1.1)
-same_judged s (Epoch r ∷ xs) (Epoch q ∷ ys) (x ∷ runs) [] t u stop other same is there = absurd (there.0 (sym same.0.0 ∙ is.0))
-same_judged s (Epoch r ∷ xs) (Epoch q ∷ ys) [] (y ∷ others) t u stop other same is there = absurd (is.0 (same.0.0 ∙ there.0))
-same_judged s (Idle x ∷ xs) (Idle y ∷ ys) [] [] t u stop other same is there = (refl, is.0 ∙ sym there.0, by_start is.1 there.1)
+same_judged s count (Epoch r ∷ xs) (Epoch q ∷ ys) [] [] t u stop other same f g is there = (refl, is.1.0 ∙ sym there.1.0, is.1.1 ∙ sym there.1.1)
+same_judged s count (Epoch r ∷ xs) (Epoch q ∷ ys) (x ∷ runs) [] t u stop other same f g is there = absurd (there.0 (sym same.0.0 ∙ is.0))
+same_judged s count (Epoch r ∷ xs) (Epoch q ∷ ys) [] (y ∷ others) t u stop other same f g is there = absurd (is.0 (same.0.0 ∙ there.0))
+same_judged s count (Idle x ∷ xs) (Idle y ∷ ys) [] [] t u stop other same f g is there = (refl, is.0 ∙ sym there.0, by_start is.1 there.1)
   where
     by_start : ((x ≡ s) × (stop ≡ over)) ⊎ ((x ≢ s) × (stop ≡ squashed)) → ((y ≡ s) × (other ≡ over)) ⊎ ((y ≢ s) × (other ≡ squashed)) → stop ≡ other
     by_start (inl p) (inl o) = p.1 ∙ sym o.1
     by_start (inr p) (inr o) = p.1 ∙ sym o.1
     by_start (inl p) (inr o) = absurd (o.0 (sym same.0 ∙ p.0))
     by_start (inr p) (inl o) = absurd (p.0 (same.0 ∙ o.0))
-same_judged s (Idle x ∷ xs) (Idle y ∷ ys) (z ∷ runs) others t u stop other same is there = absurd is
-same_judged s (Idle x ∷ xs) (Idle y ∷ ys) [] (z ∷ others) t u stop other same is there = absurd there
-same_judged s [] [] (z ∷ runs) others t u stop other same is there = absurd is
-same_judged s [] [] [] (z ∷ others) t u stop other same is there = absurd there
-same_judged s [] (y ∷ ys) runs others t u stop other same is there = absurd same
-same_judged s (x ∷ xs) [] runs others t u stop other same is there = absurd same
-same_judged s (Epoch r ∷ xs) (Idle y ∷ ys) runs others t u stop other same is there = absurd same.0
-same_judged s (Idle x ∷ xs) (Epoch q ∷ ys) runs others t u stop other same is there = absurd same.0
+same_judged s count (Idle x ∷ xs) (Idle y ∷ ys) (z ∷ runs) others t u stop other same f g is there = absurd is
+same_judged s count (Idle x ∷ xs) (Idle y ∷ ys) [] (z ∷ others) t u stop other same f g is there = absurd there
+same_judged s count [] [] (z ∷ runs) others t u stop other same f g is there = absurd is
+same_judged s count [] [] [] (z ∷ others) t u stop other same f g is there = absurd there
+same_judged s count [] (y ∷ ys) [] others t u stop other same f g is there = absurd (too_few count y ys stop other is.1 f g)
+same_judged s count [] (y ∷ ys) (z ∷ runs) others t u stop other same f g is there = absurd is
+same_judged s count (x ∷ xs) [] runs [] t u stop other same f g is there = absurd (too_few count x xs other stop there.1 g f)
+same_judged s count (x ∷ xs) [] runs (z ∷ others) t u stop other same f g is there = absurd there
+same_judged s count (Epoch r ∷ xs) (Idle y ∷ ys) runs others t u stop other same f g is there = absurd same.0
+same_judged s count (Idle x ∷ xs) (Epoch q ∷ ys) runs others t u stop other same f g is there = absurd same.0
 
 -- ---- rounds
 
@@ -107,9 +121,12 @@ module _ (law : IsDetermined) (options : Options) where
       let told = (all_told s w (plan_of options first s)).1 in
       let offers : a.raced.offers ≡ b.raced.offers = told_by (tells s w (plan_of options first s)) list (λ l. a.raced.offers ≡ take (options.ahead - 1) l) told a.raced.told
       ∙ sym (told_by (tells s w (plan_of options first s)) list (λ l. b.raced.offers ≡ take (options.ahead - 1) l) told b.raced.told) in
-      let same = all_results law options w first s a.raced.offers a.results b.results a.raced.are_results
-      (subst (λ (l : List Offer). AreResults options first s l w b.results) (sym offers) b.raced.are_results) in
-      let judged = same_judged s a.results b.results a.runs b.runs t u a.stop b.stop same a.judged b.judged in (
+      let theirs = subst (λ (l : List Offer). AreResults options first s l w b.results) (sym offers) b.raced.are_results in
+      let same = all_results law options w first s a.raced.offers a.results b.results a.raced.are_results theirs in
+      let count : ℕ = length a.raced.offers + 1 in
+      let mine_full : IsFull count a.results a.stop = record { few = few_results options first s a.raced.offers w a.results a.raced.are_results; full = a.all } in
+      let their_full : IsFull count b.results b.stop = record { few = few_results options first s a.raced.offers w b.results theirs; full = λ up. b.all up ∙ ap (λ (l : List Offer). length l + 1) (sym offers) } in
+      let judged = same_judged s count a.results b.results a.runs b.runs t u a.stop b.stop same mine_full their_full a.judged b.judged in (
         a.epochs_are ∙ judged.0 ∙ sym b.epochs_are,
         judged.1,
         a.squashed_is ∙ ap is_squash judged.2 ∙ sym b.squashed_is,
@@ -160,14 +177,15 @@ module _ (law : IsDetermined) (options : Options) where
 
   -- ---- a round that isn't over
 
-  front_of : (s : State) (runs : List EpochRun) (rest ys : List Ran) (others : List EpochRun) (t u : State) (stop : RoundEnd) → AreSame (map Epoch runs ++ rest) ys → AreLinked s runs t → IsJudged s ys others u stop
-      → BeginsWith (epochs_of_runs others) (epochs_of_runs runs)
-  front_of s [] rest ys others t u stop same linked judged = (epochs_of_runs others, refl)
-  front_of s (r ∷ runs) rest [] others t u stop same linked judged = absurd same
-  front_of s (r ∷ runs) rest (Idle y ∷ ys) others t u stop same linked judged = absurd same.0
-  front_of s (r ∷ runs) rest (Epoch q ∷ ys) [] t u stop same linked judged = absurd (judged.0 (sym same.0.0 ∙ linked.0))
-  front_of s (r ∷ runs) rest (Epoch q ∷ ys) (x ∷ others) t u stop same linked judged =
-      let more = front_of r.end runs rest ys others t u stop same.1 linked.1 (subst (λ (z : State). IsJudged z ys others u stop) (sym same.0.2) judged.1.1) in
+  front_of : (s : State) (count : ℕ) (runs : List EpochRun) (rest ys : List Ran) (others : List EpochRun) (t u : State) (stop : RoundEnd) → AgreeOn (map Epoch runs ++ rest) ys → length (map Epoch runs ++ rest) ≤ count → IsFull count ys stop
+      → AreLinked s runs t → IsJudged s ys others u stop → BeginsWith (epochs_of_runs others) (epochs_of_runs runs)
+  front_of s count [] rest ys others t u stop same few full linked judged = (epochs_of_runs others, refl)
+  front_of s count (r ∷ runs) rest [] [] t u stop same few full linked judged = absurd (let none = full.full judged.1 in omega (arith, none, few))
+  front_of s count (r ∷ runs) rest [] (x ∷ others) t u stop same few full linked judged = absurd judged
+  front_of s count (r ∷ runs) rest (Idle y ∷ ys) others t u stop same few full linked judged = absurd same.0
+  front_of s count (r ∷ runs) rest (Epoch q ∷ ys) [] t u stop same few full linked judged = absurd (judged.0 (sym same.0.0 ∙ linked.0))
+  front_of s count (r ∷ runs) rest (Epoch q ∷ ys) (x ∷ others) t u stop same few full linked judged =
+      let more = front_of r.end (count - 1) runs rest ys others t u stop same.1 (omega (arith, few)) (fewer count (Epoch q) ys stop full) linked.1 (subst (λ (z : State). IsJudged z ys others u stop) (sym same.0.2) judged.1.1) in
       let first : epoch_of x.epoch ≡ epoch_of r.epoch = ap (λ (z : EpochRun). epoch_of z.epoch) judged.1.0 ∙ sym same.0.1 in
       (more.0, ap (λ (e : journals.Epoch). e ∷ epochs_of_runs others) first ∙ ap (λ (l : List journals.Epoch). epoch_of r.epoch ∷ l) more.1)
 
@@ -192,9 +210,12 @@ module _ (law : IsDetermined) (options : Options) where
             let told = (all_told s w (plan_of options first s)) in
             let offers : mine.offers ≡ theirs.raced.offers = told_by (tells s w (plan_of options first s)) told.0 (λ l. mine.offers ≡ take (options.ahead - 1) l) told.1 mine.told
             ∙ sym (told_by (tells s w (plan_of options first s)) told.0 (λ l. theirs.raced.offers ≡ take (options.ahead - 1) l) told.1 theirs.raced.told) in
-            let same = all_results law options w first s mine.offers on.results theirs.results mine.are_results
-            (subst (λ (l : List Offer). AreResults options first s l w theirs.results) (sym offers) theirs.raced.are_results) in
-            let front = front_of s runs rest theirs.results theirs.runs end each.2 theirs.stop (subst (λ (l : List Ran). AreSame l theirs.results) all same) linked theirs.judged in (
+            let others = subst (λ (l : List Offer). AreResults options first s l w theirs.results) (sym offers) theirs.raced.are_results in
+            let same = all_results law options w first s mine.offers on.results theirs.results mine.are_results others in
+            let count : ℕ = length mine.offers + 1 in
+            let few = few_results options first s mine.offers w on.results mine.are_results in
+            let full : IsFull count theirs.results theirs.stop = record { few = few_results options first s mine.offers w theirs.results others; full = λ up. theirs.all up ∙ ap (λ (l : List Offer). length l + 1) (sym offers) } in
+            let front = front_of s count runs rest theirs.results theirs.runs end each.2 theirs.stop (subst (λ (l : List Ran). AgreeOn l theirs.results) all same) (omega (arith, few, ap (λ (l : List Ran). length l) all)) full linked theirs.judged in (
               front.0 ++ epochs_of zs,
               ap (λ (l : List Round). epochs_of l) is ∙ epochs-append on.run.rounds (z ∷ zs)
                   ∙ ap (λ (l : List journals.Epoch). epochs on.run ++ (l ++ epochs_of zs)) (theirs.epochs_are ∙ front.1)
@@ -214,7 +235,8 @@ module _ (options : Options) (tells : Tells) (idle : (s : State) (w : Supplied) 
   -- a round of one job
   one_job : (first : ℕ) (s t : State) (w : Supplied) (r : Round) (results : List Ran) (runs : List EpochRun) (stop : RoundEnd) → AreResults options first s [] w results → IsJudged s results runs t stop → 0 < length runs
       → r.epochs ≡ epochs_of_runs runs → r.squashed ≡ is_squash stop → (e : journals.Epoch) × (output : List ℕ) × (r.epochs ≡ e ∷ []) × (r.squashed ≡ false) × IsNext options first s w e t output
-  one_job first s t w r [] runs stop are judged some epochs_are squash = absurd are
+  one_job first s t w r [] [] stop are judged some epochs_are squash = absurd (omega (arith, some))
+  one_job first s t w r [] (x ∷ runs) stop are judged some epochs_are squash = absurd judged
   one_job first s t w r (x ∷ y ∷ results) runs stop are judged some epochs_are squash = absurd are
   one_job first s t w r (x ∷ []) [] stop are judged some epochs_are squash = absurd (omega (arith, some))
   one_job first s t w r (Idle x ∷ []) (y ∷ runs) stop are judged some epochs_are squash = absurd judged

@@ -1,12 +1,11 @@
 -- The jobs of a round, and what became of them.
-use Rattle.std.proofs.Common.{◌≡◌, ◌⊎◌, inl, inr, ℕ, ◌+◌, ◌<◌, true, false, List, [], ◌∷◌, ◌++◌, length, map, Option, Some, None, refl, sym, ◌∙◌, ap, subst, arith, slice_get}
+use Rattle.std.proofs.Common.{◌≡◌, ◌⊎◌, inl, inr, ℕ, zero, suc, ◌+◌, ◌<◌, ◌≤◌, true, false, List, [], ◌∷◌, ◌++◌, length, map, Option, Some, None, refl, sym, ◌∙◌, ap, subst, arith, slice_get}
 use Rattle.std.specs.List.{AllByRecursion}
-use Rattle.commit_core.specs.declared.stage.Stage.{Stage}
-use Rattle.commit_core.specs.declared.stage.Stage.TheVariants.{Taken}
-use Rattle.commit_core.specs.JudgedRound.{AreLinked, IsJudged, IsWithin, RoundEnd}
-use Rattle.commit_core.specs.Judging.{Core}
+use Rattle.commit_core.specs.JudgedRound.{AreLinked, IsJudged, RoundEnd, used_up}
 use Rattle.epoch_pool.specs.declared.job.Job.{Job}
-use Rattle.epoch_pool.specs.Pool.{HaveRun}
+use Rattle.epoch_stream.specs.Offers as streams
+use Rattle.epoch_stream.specs.Offers.{AreFirstOf}
+use Rattle.epoch_stream.specs.Results.{IsResultOf}
 use Rattle.epoch_record.specs.Epoch.{epoch_of}
 use Rattle.epoch_runner.specs.Answering.{can_step}
 use Rattle.epoch_runner.specs.declared.bounds.Bounds.{Bounds}
@@ -24,7 +23,7 @@ use Rattle.std.proofs.lemmas.List.{map-append}
 use Rattle.racing_runner.specs.declared.offer.Offer.{Offer}
 use Rattle.recorder.specs.declared.options.Options.{Options}
 use Rattle.recorder.specs.Machine.{epochs_of_runs}
-use Rattle.recorder.specs.Racing.{AreJobs, AreResults, IsJob, bounds_for}
+use Rattle.recorder.specs.Racing.{AreResults, bounds_for, plan_of}
 use Rattle.recorder.specs.Recording.{EachIsRound, GoesOn, first_after}
 use Rattle.supply.specs.Supplied.{Supplied}
 use Rattle.sync_hints.specs.declared.hints.Hints.{Hints}
@@ -35,28 +34,51 @@ abbrev pub records_in : List journals.Epoch → List Record
 records_in epochs = map epoch epochs
 
 module _ (options : Options) where
-  job_ran : (first : ℕ) (s : State) (hints : Hints) (j : Job) (w : Supplied) (x : Ran) → IsJob options first s hints j → HasRun j.start j.hints w j.bounds x → HasRun s hints w (bounds_for options first s) x
-  job_ran first s hints j w x is h =
-      subst (λ (b : Bounds). HasRun s hints w b x) is.2 (subst (λ (k : Hints). HasRun s k w j.bounds x) is.1 (subst (λ (t : State). HasRun t j.hints w j.bounds x) is.0 h))
+  job_ran : (first : ℕ) (s : State) (hints : Hints) (j : Job) (w : Supplied) (x : Ran) → j.start ≡ s → j.hints ≡ hints → j.bounds ≡ bounds_for options first s → IsResultOf w j x → HasRun s hints w (bounds_for options first s) x
+  job_ran first s hints j w x start hints_are bounds h =
+      subst (λ (b : Bounds). HasRun s hints w b x) bounds (subst (λ (k : Hints). HasRun s k w j.bounds x) hints_are (subst (λ (t : State). HasRun t j.hints w j.bounds x) start h))
 
-  -- the results of a round's jobs are those of a round
-  pub results_of : (first : ℕ) (s : State) (offers : List Offer) (jobs : List Job) (w : Supplied) (results : List Ran) → AreJobs options first s offers jobs → HaveRun jobs w results → AreResults options first s offers w results
-  results_of first s [] [] w results are have = absurd are
-  results_of first s [] (j ∷ []) w [] are have = absurd have
-  results_of first s [] (j ∷ []) w (x ∷ []) are have = job_ran first s no_hints j w x are have.0
-  results_of first s [] (j ∷ []) w (x ∷ y ∷ results) are have = absurd have.1
-  results_of first s [] (j ∷ k ∷ jobs) w results are have = absurd are
-  results_of first s (o ∷ offers) [] w results are have = absurd are
-  results_of first s (o ∷ offers) (j ∷ jobs) w [] are have = absurd have
-  results_of first s (o ∷ offers) (j ∷ jobs) w (x ∷ results) are have = (job_ran first s o.hints j w x are.0 have.0, results_of 1 o.next offers jobs w results are.1 have.1)
+  -- The first jobs of a round by the recording's plan have such results.
+  module _ (n : ℕ) (from : State) (limit : ℕ) (limit_is : limit ≡ options.limit) (w : Supplied) where
+    bounds_same : (first : ℕ) (s : State) → streams.bounds_for (plan_of options n from) limit first s ≡ bounds_for options first s
+    bounds_same first s = ap (λ (l : ℕ). streams.bounds_for (plan_of options n from) l first s) limit_is
 
-  -- one for each offer, and one for the round's start
-  pub results_count : (first : ℕ) (s : State) (offers : List Offer) (w : Supplied) (results : List Ran) → AreResults options first s offers w results → length results ≡ length offers + 1
-  results_count first s [] w [] are = absurd are
-  results_count first s [] w (x ∷ []) are = omega arith
-  results_count first s [] w (x ∷ y ∷ results) are = absurd are
-  results_count first s (o ∷ offers) w [] are = absurd are
-  results_count first s (o ∷ offers) w (x ∷ results) are = let more = results_count 1 o.next offers w results are.1 in omega (arith, more)
+    one_of : (k first : ℕ) (s : State) (hints : Hints) (x : Ran) (y : ℕ × Job) (found : (job : Job) × (number : ℕ) × (Some y ≡ Some (number, job)) × IsResultOf w job x) → y.1.start ≡ s → y.1.hints ≡ hints
+        → y.1.bounds ≡ streams.bounds_for (plan_of options n from) limit first y.1.start → HasRun s hints w (bounds_for options first s) x
+    one_of k first s hints x y found start hints_are bounds =
+        let pair : (found.1, found.0) ≡ y = let e = found.2 in cc in
+        let same : found.0 ≡ y.1 = ap (λ (p : ℕ × Job). p.1) pair in
+        job_ran first s hints y.1 w x start hints_are
+        (bounds ∙ ap (λ (t : State). streams.bounds_for (plan_of options n from) limit first t) start ∙ bounds_same first s)
+        (subst (λ (j : Job). IsResultOf w j x) same found.3)
+
+    abbrev Have : List (ℕ × Job) → List Ran → Type 0
+    Have jobs results = (i : ℕ) (ran : Ran) → slice_get results i ≡ Some ran → (job : Job) × (number : ℕ) × (slice_get jobs i ≡ Some (number, job)) × IsResultOf w job ran
+
+    pub of_jobs : (k first : ℕ) (s : State) (offers : List Offer) (jobs : List (ℕ × Job)) (results : List Ran) → AreFirstOf s offers jobs → streams.AreJobs (plan_of options n from) limit k first jobs → Have jobs results
+        → AreResults options first s offers w results
+    of_jobs k first s offers jobs [] are_first are have = tt
+    of_jobs k first s offers [] (x ∷ results) are_first are have = let bad = (have 0 x refl).2 in absurd cc
+    of_jobs k first s [] (j ∷ []) (x ∷ []) are_first are have = one_of k first s no_hints x j (have 0 x refl) are_first.0 are_first.1 are.2
+    of_jobs k first s [] (j ∷ []) (x ∷ y ∷ results) are_first are have = let bad = (have 1 y refl).2 in absurd cc
+    of_jobs k first s [] (j ∷ i ∷ jobs) (x ∷ results) are_first are have = absurd are_first
+    of_jobs k first s (o ∷ offers) (j ∷ jobs) (x ∷ results) are_first are have =
+        (one_of k first s o.hints x j (have 0 x refl) are_first.0 are_first.1 are.2, of_jobs (suc k) 1 o.next offers jobs results are_first.2 are.3 (λ i ran e. have (suc i) ran e))
+
+  -- the first of them are results too
+  pub front_results : (first : ℕ) (s : State) (offers : List Offer) (w : Supplied) (xs ys : List Ran) → AreResults options first s offers w (xs ++ ys) → AreResults options first s offers w xs
+  front_results first s offers w [] ys are = tt
+  front_results first s [] w (x ∷ []) [] are = are
+  front_results first s [] w (x ∷ []) (y ∷ ys) are = absurd are
+  front_results first s [] w (x ∷ z ∷ xs) ys are = absurd are
+  front_results first s (o ∷ offers) w (x ∷ xs) ys are = (are.0, front_results 1 o.next offers w xs ys are.1)
+
+  -- at most one for each offer, and one for the round's start
+  pub few_results : (first : ℕ) (s : State) (offers : List Offer) (w : Supplied) (results : List Ran) → AreResults options first s offers w results → length results ≤ length offers + 1
+  few_results first s offers w [] are = omega arith
+  few_results first s [] w (x ∷ []) are = omega arith
+  few_results first s [] w (x ∷ y ∷ results) are = absurd are
+  few_results first s (o ∷ offers) w (x ∷ results) are = let more = few_results 1 o.next offers w results are.1 in omega (arith, more)
 
   of_result : (first : ℕ) (s : State) (offers : List Offer) (w : Supplied) (runs : List EpochRun) (r : EpochRun) (more : List Ran) → AreResults options first s offers w (map Epoch runs ++ Epoch r ∷ more)
       → (f : ℕ) × (from : State) × (hints : Hints) × HasRunEpoch from hints w (bounds_for options f from) r
@@ -85,21 +107,20 @@ module _ (options : Options) where
         never (inl none) = omega (arith, none, goes_on.1, options.epoch_range.0)
         never (inr not) = let bad : true ≡ false = sym can ∙ not in cc
 
-    first_epoch : (first : ℕ) (offers : List Offer) (results : List Ran) → AreResults options first s offers w results → (r : EpochRun) × (more : List Ran) × (results ≡ Epoch r ∷ more) × (r.start ≡ s)
-    first_epoch first [] [] are = absurd are
-    first_epoch first [] (x ∷ []) are = let one = first_result first no_hints x are in (one.0, [], ap (λ (y : Ran). y ∷ []) one.1, one.2)
-    first_epoch first [] (x ∷ y ∷ results) are = absurd are
-    first_epoch first (o ∷ offers) [] are = absurd are
-    first_epoch first (o ∷ offers) (x ∷ more) are = let one = first_result first o.hints x are.0 in (one.0, more, ap (λ (y : Ran). y ∷ more) one.1, one.2)
+    first_epoch : (first : ℕ) (offers : List Offer) (results : List Ran) → AreResults options first s offers w results → 0 < length results → (r : EpochRun) × (more : List Ran) × (results ≡ Epoch r ∷ more) × (r.start ≡ s)
+    first_epoch first offers [] are some = absurd (omega (arith, some))
+    first_epoch first [] (x ∷ []) are some = let one = first_result first no_hints x are in (one.0, [], ap (λ (y : Ran). y ∷ []) one.1, one.2)
+    first_epoch first [] (x ∷ y ∷ results) are some = absurd are
+    first_epoch first (o ∷ offers) (x ∷ more) are some = let one = first_result first o.hints x are.0 in (one.0, more, ap (λ (y : Ran). y ∷ more) one.1, one.2)
 
     some_judged : (runs : List EpochRun) (t : State) (stop : RoundEnd) (r : EpochRun) (more : List Ran) → r.start ≡ s → IsJudged s (Epoch r ∷ more) runs t stop → 0 < length runs
     some_judged [] t stop r more from j = absurd (j.0 from)
     some_judged (x ∷ runs) t stop r more from j = omega arith
 
     -- so a round commits one
-    pub commits_one : (first : ℕ) (offers : List Offer) (results : List Ran) (runs : List EpochRun) (t : State) (stop : RoundEnd) → AreResults options first s offers w results → IsJudged s results runs t stop → 0 < length runs
-    commits_one first offers results runs t stop are judged =
-        let one = first_epoch first offers results are in
+    pub commits_one : (first : ℕ) (offers : List Offer) (results : List Ran) (runs : List EpochRun) (t : State) (stop : RoundEnd) → AreResults options first s offers w results → 0 < length results → IsJudged s results runs t stop → 0 < length runs
+    commits_one first offers results runs t stop are some judged =
+        let one = first_epoch first offers results are some in
         some_judged runs t stop one.0 one.1 one.3 (subst (λ (l : List Ran). IsJudged s l runs t stop) one.2 judged)
 
   -- ---- the epochs that are committed are records
@@ -154,26 +175,16 @@ judged_links s t (Epoch r ∷ results) (x ∷ runs) stop j =
 judged_links s t (Idle x ∷ results) [] stop j = j.0
 judged_links s t (Idle x ∷ results) (y ∷ runs) stop j = absurd j
 
--- ---- the first result starts in the committed state
+-- a result ended the round, or all were judged
+pub some_results : (s t : State) (results : List Ran) (runs : List EpochRun) (stop : RoundEnd) → IsJudged s results runs t stop → (stop ≡ used_up → 0 < length results) → 0 < length results
+some_results s t [] [] stop j some = some j.1
+some_results s t [] (x ∷ runs) stop j some = absurd j
+some_results s t (x ∷ results) runs stop j some = omega arith
 
-module _ (options : Options) (s : State) (w : Supplied) (run : EpochRun) where
-  ran_from : (first : ℕ) (hints : Hints) (x : Ran) → HasRun s hints w (bounds_for options first s) x → Some (Taken x) ≡ Some (Taken (Epoch run)) → run.start ≡ s
-  ran_from first hints (Epoch r) is e = let same : run ≡ r = cc in ap (λ (x : EpochRun). x.start) same ∙ is.from
-  ran_from first hints (Idle t) is e = absurd cc
-
-  first_from : (first : ℕ) (offers : List Offer) (results : List Ran) → AreResults options first s offers w results → slice_get (map Taken results) 0 ≡ Some (Taken (Epoch run)) → run.start ≡ s
-  first_from first [] [] are e = absurd are
-  first_from first [] (x ∷ []) are e = ran_from first no_hints x are e
-  first_from first [] (x ∷ y ∷ results) are e = absurd are
-  first_from first (o ∷ offers) [] are e = absurd are
-  first_from first (o ∷ offers) (x ∷ results) are e = ran_from first o.hints x are.0 e
-
-  pub starts_here : (first : ℕ) (offers : List Offer) (results : List Ran) (runs : List EpochRun) (core : Core) → AreResults options first s offers w results → IsWithin s results runs core → core.judged ≡ 0
-      → slice_get core.jobs core.judged ≡ Some (Taken (Epoch run)) → run.start ≡ core.committed
-  starts_here first offers results (x ∷ runs) core are within none e = absurd (omega (arith, none, within.judged))
-  starts_here first offers results [] core are within none e =
-      let jobs : core.jobs ≡ map Taken results = within.jobs ∙ ap (λ (l : List Ran). map Taken l) (sym within.all) in
-      first_from first offers results are (sym (ap (λ (l : List Stage). slice_get l 0) jobs) ∙ (sym (ap (slice_get core.jobs) none) ∙ e)) ∙ sym within.linked
+-- where all of them are committed
+pub judged_all : (s t : State) (runs : List EpochRun) → AreLinked s runs t → IsJudged s (map Epoch runs) runs t used_up
+judged_all s t [] linked = (linked, refl)
+judged_all s t (r ∷ runs) linked = (linked.0, (refl, judged_all r.end t runs linked.1))
 
 -- ---- what a racer tells
 

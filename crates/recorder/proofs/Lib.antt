@@ -8,6 +8,8 @@ pub mod JobRuns
 mod Keeps
 mod Stops
 mod RoundRuns
+mod Takings
+mod Rounds
 mod Begun
 pub mod Alike
 mod Determined

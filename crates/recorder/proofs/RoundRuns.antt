@@ -4,7 +4,7 @@ use Rattle.std.proofs.lemmas.List.{append-nil, length-append, length-map, map_pu
 use Rattle.std.specs.List.{AllByRecursion, list_any}
 use Rattle.commit_core.specs.declared.stage.Stage.{Stage}
 use Rattle.commit_core.specs.declared.stage.Stage.TheVariants.{Judged, Taken}
-use Rattle.commit_core.specs.JudgedRound.{IsJudged, IsWithin, RoundEnd}
+use Rattle.commit_core.specs.JudgedRound.{IsJudged, IsWithin, RoundEnd, used_up}
 use Rattle.commit_core.specs.Judging.{Core, fresh}
 use Rattle.disk_model.specs.History.{History}
 use Rattle.disk_model.specs.Input.{IfInput, Input}
@@ -22,9 +22,11 @@ use Rattle.epoch_runner.specs.Running.{HasRunEpoch}
 use Rattle.guest_kernel.specs.declared.state.State.{State}
 use Rattle.guest_kernel.specs.State.{has_ended}
 use Rattle.guest_kernel.specs.Threads.{is_running}
-use Rattle.dp_base.specs.declared.limits.TheConstants.{MAX_JOURNAL_BYTES}
+use Rattle.dp_base.specs.declared.limits.TheConstants.{EPOCH_END_BYTES, MAX_CALL_BYTES, MAX_JOBS, MAX_JOURNAL_BYTES}
 use Rattle.journal_text.specs.Reading.{journal_of}
+use Rattle.racing_runner.specs.declared.offer.Offer.{Offer}
 use Rattle.racing_runner.specs.Offers.{Tells}
+use Rattle.recorder.specs.declared.options.Options.{Options}
 use Rattle.recorder.specs.Committing.{Committed, HasCommitted}
 use Rattle.recorder.specs.declared.commit.CommitFault.{CommitFault}
 use Rattle.recorder.specs.declared.commit.CommitFault.TheVariants as commits
@@ -34,7 +36,7 @@ use Rattle.recorder.specs.declared.tally.Tally.{Tally}
 use Rattle.recorder.specs.Drawing.{Draw, Drew, HasDrawn, Round, answers_in, draws_of, epochs_of, supply_behind, supply_of}
 use Rattle.recorder.specs.EpochLaws.{EpochLaws}
 use Rattle.recorder.specs.Faults.{MetNoOther, of_commit}
-use Rattle.recorder.specs.Keeping.{InRound, IsOver, IsSince, IsStopped, Kept, RoundSays, Setting, SoFar, Within}
+use Rattle.recorder.specs.Keeping.{InRound, IsOver, IsSince, IsStopped, Kept, Setting, SoFar, Within}
 use Rattle.recorder.specs.Machine.{epochs_of_runs}
 use Rattle.recorder.specs.Racing.{AreResults, IsRaced, bounds_for}
 use Rattle.recorder.specs.Marking.{IsMarkDue, is_due, records_of, records_unmarked, since_after}
@@ -46,7 +48,7 @@ use Rattle.recorder.specs.Moments.{EachMoment}
 use Rattle.dp_base.specs.declared.limits.TheConstants.{MAX_BODY_BYTES}
 use Rattle.recorder.specs.Recording.{HasRoom, IsRecorded, IsRound, NextEpoch, Recorded, RunOn, draws, epochs, first_behind, first_next, is_squash, supply}
 use Rattle.recorder.proofs.Drawings.{TakeLaws}
-use Rattle.recorder.proofs.JobRuns.{cancel, commits_one, judged_links, next_run, same_end, starts_there}
+use Rattle.recorder.proofs.JobRuns.{cancel, commits_one, front_results, judged_links, next_run, same_end, some_results, starts_there}
 use Rattle.recorder.proofs.Keeps.{encodable_there, HasDrawnRound, commit_failed_moments, cut_off, drawn_epoch, drawn_still, fits_still, interrupted, kept_committed, kept_drawn, kept_marked, last_drawn, low, mark_due, mark_interrupted, marking_moments, may_go_on, moments_now, not_added, not_due, round_goes, round_of, since_next, size_marked, size_more, steps_more}
 use Rattle.recorder.proofs.RunLists.{draws-push, each-push, epochs-push, few_squashes, squashes-push, supply-push}
 use Rattle.recorder.proofs.Stops.{run_so_far}
@@ -65,13 +67,53 @@ pub record StepLaws : Type 0 where
 abbrev pub Starts : Type 0
 Starts = (s : State) (results : List Ran) (core : Core) → core.committed ≡ s → core.jobs ≡ map Taken results → core.judged ≡ 0 → core.closed ≡ false → IsWithin s results [] core
 
+-- ---- the results that were taken so far
+
+-- this, and what holds of its offers
+abbrev pub RacedWith : Tells → Options → ℕ → State → Supplied → List Ran → Tells → (List Offer → Type 0) → Type 0
+RacedWith racer options first s w results after P = (raced : IsRaced racer options first s w results after) × P raced.offers
+
+abbrev pub IsAll : Type 0 → List Ran → List Offer → Type 0
+IsAll A results offers = A → length results ≡ length offers + 1
+
+abbrev pub raced_here : (marked : Bool) (a : InRound) (now : Option History) (core : Core) (j : Journal) (tally : Tally) (within : Within marked a now core j tally)
+    → IsRaced within.run.racer a.setting.options (first_next within.run) within.run.end a.supply within.results a.racer
+raced_here marked a now core j tally within = record {
+  offers = within.raced.offers;
+  told = within.raced.told;
+  same = within.raced.same;
+  few = within.raced.few;
+  are_results = front_results a.setting.options (first_next within.run) within.run.end within.raced.offers a.supply within.results within.coming
+      (subst (λ (l : List Ran). AreResults a.setting.options (first_next within.run) within.run.end within.raced.offers a.supply l) within.all within.raced.are_results);
+}
+
+-- the committed epochs are a run, which goes on
+abbrev pub run_on : (marked : Bool) (a : InRound) (now : Option History) (core : Core) (j : Journal) (tally : Tally) → Within marked a now core j tally → RunOn a.setting.tells a.setting.options a.setting.start
+run_on marked a now core j tally within = record {
+  run = within.run;
+  goes_on = within.goes_on;
+  draw = within.draw;
+  due = within.due;
+  results = within.results;
+  after = a.racer;
+  raced = subst (λ (x : Supplied). IsRaced within.run.racer a.setting.options (first_next within.run) within.run.end x within.results a.racer) within.supply_is (raced_here marked a now core j tally within);
+  runs = within.runs;
+  rest = within.judged.rest;
+  all = within.judged.all;
+  end = core.committed;
+  linked = within.judged.linked;
+  output = within.output;
+  chained = within.kept.chained;
+}
+
 -- ---- a round begins
 
 pub begins : (a : Setting) (there later : Option Input) (now : Option History) (racer after : Tells) (state : State) (w with_ : Supplied) (j : Journal) (tally : Tally) (count : ℕ) (so_far : SoFar a there now racer state w j tally count)
-    → TakeLaws → HasDrawnRound w state there later with_ → has_ended state.end ≡ false → state.steps < a.options.limit → can_step state with_ ≡ true → (results : List Ran)
-    → IsRaced racer a.options tally.first state with_ results after → (core : Core) → IsWithin state results [] core → core.committed ≡ state
-    → Within true (record { setting = a; later = later; racer = after; supply = with_; from = state; squashes = count }) now core j tally
-begins a there later now racer after state w with_ j tally count so_far laws round going left can results raced core judged at_start =
+    → TakeLaws → HasDrawnRound w state there later with_ → has_ended state.end ≡ false → state.steps < a.options.limit → can_step state with_ ≡ true → (results : List Ran) (whole : Bool)
+    → RacedWith racer a.options tally.first state with_ results after (IsAll (whole ≡ true) results) → (core : Core) → IsWithin state [] [] core → core.committed ≡ state
+    → Within true (record { setting = a; later = later; racer = after; supply = with_; from = state; squashes = count; results = results; whole = whole }) now core j tally
+begins a there later now racer after state w with_ j tally count so_far laws round going left can results whole raced core judged at_start =
+    let here = subst (λ (n : ℕ). RacedWith racer a.options n state with_ results after (IsAll (whole ≡ true) results)) so_far.kept.first_is raced in
     let run_ = run_so_far a there now racer state w j tally count so_far in
     let kept = kept_drawn a there now (records_of a.options a.start (epochs_of so_far.rounds)) (epochs_of so_far.rounds) (draws_of so_far.rounds) so_far.output state w j tally so_far.kept laws later with_ round in
     record {
@@ -83,8 +125,11 @@ begins a there later now racer after state w with_ j tally count so_far laws rou
       due = round.due ∙ ap (input_due state) so_far.supply_is;
       supply_is = round.is ∙ ap (λ (x : Supplied). supply_of x round.draw) so_far.supply_is;
       can = can;
-      results = results;
-      raced = subst (λ (n : ℕ). IsRaced racer a.options n state with_ results after) so_far.kept.first_is raced;
+      results = [];
+      coming = results;
+      all = refl;
+      raced = here.0;
+      full = here.1;
       runs = [];
       judged = judged;
       output = so_far.output;
@@ -100,20 +145,16 @@ module _ (laws : StepLaws) (a : Setting) (there later : Option Input) (now : Opt
   abbrev pub drawn_by : HasDrawnRound w state there later with_
   drawn_by = round_of w state there later with_ drew (laws.used_up state w so_far.kept.is_supply so_far.kept.placed so_far.kept.inside) is_supply
 
-  pub begins_by : TakeLaws → Starts → has_ended state.end ≡ false → state.steps < a.options.limit → (after : Tells) (results : List Ran) → IsRaced racer a.options tally.first state with_ results after
-      → (core : Core) → core ≡ record (fresh state (length results)) { jobs = map Taken results }
-      → Within true (record { setting = a; later = later; racer = after; supply = with_; from = state; squashes = count }) now core j tally
-  begins_by takes starts going left after results raced core core_is =
+  pub begins_by : TakeLaws → Starts → has_ended state.end ≡ false → state.steps < a.options.limit → (after : Tells) (results : List Ran) (whole : Bool)
+      → RacedWith racer a.options tally.first state with_ results after (IsAll (whole ≡ true) results) → (core : Core) → core ≡ fresh state MAX_JOBS
+      → Within true (record { setting = a; later = later; racer = after; supply = with_; from = state; squashes = count; results = results; whole = whole }) now core j tally
+  begins_by takes starts going left after results whole raced core core_is =
       let kept = so_far.kept in
       let can = round_goes state w there later with_ drawn_by (laws.ready state w going (kept.goes_on.runs going))
       (λ more stamp due. laws.refilled_ state w more stamp kept.placed kept.inside due) (λ stamp. laws.stamped state w stamp) in
       let at_start : core.committed ≡ state = ap (λ (c : Core). c.committed) core_is in
-      let judged = starts state results core at_start (ap (λ (c : Core). c.jobs) core_is) (ap (λ (c : Core). c.judged) core_is) (ap (λ (c : Core). c.closed) core_is) in
-      begins a there later now racer after state w with_ j tally count so_far takes drawn_by going left can results raced core judged at_start
-
-pub over_by : (a : InRound) (now : Option History) (core : Core) (j : Journal) (tally : Tally) (b : Bool) → RoundSays a now core j tally (Ok b) → IsOver a (a.squashes + (if b then 1 else 0)) now core j tally
-over_by a now core j tally true says = says
-over_by a now core j tally false says = subst (λ (n : ℕ). IsOver a n now core j tally) (omega arith) says
+      let judged = starts state [] core at_start (ap (λ (c : Core). c.jobs) core_is) (ap (λ (c : Core). c.judged) core_is) (ap (λ (c : Core). c.closed) core_is) in
+      begins a there later now racer after state w with_ j tally count so_far takes drawn_by going left can results whole raced core judged at_start
 
 -- the faults of a round's commits are those of the recording
 pub met_same : (A B : Type 0) (e : RecordFault) (disk d disk_after sink s sink_after other input input_after : ℕ) → d ≡ disk → s ≡ sink → input_after ≡ input → MetNoOther {A = A} (Err e) d disk_after s sink_after other other
@@ -142,25 +183,40 @@ module _ (a : InRound) (now : Option History) (core : Core) (j : Journal) (tally
   abbrev K : List Record
   K = records_of a.setting.options a.setting.start E
 
+  room_here : HasRoom a.setting.guest a.setting.options K
+  room_here = fits_still a.setting a.later now K E D within.output core.committed a.supply j tally within.kept
+
+  -- memory ran out
+  pub no_memory : IsStopped a now faults.OutOfMemory
+  no_memory = (
+    inr (inr (run_on true a now core j tally within, room_here, drawn_still a.setting a.later now K E D within.output core.committed a.supply j tally within.kept, within.kept.history)),
+    moments_now a.setting a.later now K E D within.output core.committed a.supply j tally within.kept a.later refl,
+  )
+
   -- ---- it is over
 
-  module _ (there : Core) (stop : RoundEnd) (judged : IsJudged within.run.end within.results within.runs there.committed stop) where
+  module _ (there : Core) (stop : RoundEnd) (judged : IsJudged within.run.end within.results within.runs there.committed stop) (all : IsAll (stop ≡ used_up) within.results within.raced.offers) where
     stays : core.committed ≡ there.committed
     stays = same_end within.run.end core.committed there.committed within.runs within.judged.linked (judged_links within.run.end there.committed within.results within.runs stop judged)
 
     one : 0 < length within.runs
-    one = commits_one a.setting.options within.run.end a.supply within.goes_on within.can (first_next within.run) within.raced.offers within.results within.runs there.committed stop within.raced.are_results judged
+    one = commits_one a.setting.options within.run.end a.supply within.goes_on within.can (first_next within.run) within.raced.offers within.results within.runs there.committed stop (raced_here true a now core j tally within).are_results
+        (some_results within.run.end there.committed within.results within.runs stop judged (λ up. (let count = all up in omega (arith, count)))) judged
 
     abbrev round_is : Round
     round_is = record { draw = within.draw; epochs = epochs_of_runs within.runs; squashed = is_squash stop }
 
+    both : RacedWith within.run.racer a.setting.options (first_next within.run) within.run.end (supply_of (supply within.run) within.draw) within.results a.racer (IsAll (stop ≡ used_up) within.results)
+    both = subst (λ (x : Supplied). RacedWith within.run.racer a.setting.options (first_next within.run) within.run.end x within.results a.racer (IsAll (stop ≡ used_up) within.results)) within.supply_is (raced_here true a now core j tally within, all)
+
     is_round : IsRound within.run.racer a.setting.options (first_next within.run) within.run.end (supply_of (supply within.run) within.draw) round_is there.committed a.racer
     is_round = record {
       results = within.results;
-      raced = subst (λ (x : Supplied). IsRaced within.run.racer a.setting.options (first_next within.run) within.run.end x within.results a.racer) within.supply_is within.raced;
+      raced = both.0;
       runs = within.runs;
       stop = stop;
       judged = judged;
+      all = both.1;
       some = one;
       epochs_are = refl;
       squashed_is = refl;
@@ -200,40 +256,19 @@ module _ (a : InRound) (now : Option History) (core : Core) (j : Journal) (tally
 
     abbrev job : (f : ℕ) × (hints : Hints) × HasRunEpoch core.committed hints a.supply (bounds_for a.setting.options f core.committed) r
     job = next_run a.setting.options (first_next within.run) within.run.end within.raced.offers a.supply within.runs r next.rest core.committed
-        (subst (λ (l : List Ran). AreResults a.setting.options (first_next within.run) within.run.end within.raced.offers a.supply l) (within.judged.all ∙ ap (λ (l : List Ran). map Epoch within.runs ++ l) rest_is) within.raced.are_results) starts
+        (subst (λ (l : List Ran). AreResults a.setting.options (first_next within.run) within.run.end within.raced.offers a.supply l) (within.judged.all ∙ ap (λ (l : List Ran). map Epoch within.runs ++ l) rest_is) (raced_here true a now core j tally within).are_results) starts
 
     abbrev e : journals.Epoch
     e = epoch_of r.epoch
 
-    pub is_epoch : journals.IsEpoch e
-    is_epoch = job.2.runs.is_epoch
-
-    pub is_body : journals.IsBody (epoch_body e)
-    is_body = job.2.runs.fits
+    pub few_written : length r.out < EPOCH_END_BYTES + MAX_CALL_BYTES
+    few_written = laws.writes core.committed job.1 a.supply (bounds_for a.setting.options job.0 core.committed) e r.out r.end job.2.scheduled
 
     pub low_here : AllByRecursion (λ (x : Slice). x.tid.0 < 65535) e.slices
     low_here = low a.setting a.later now E D within.output core.committed a.supply j tally within.kept laws within.last job.0 job.1 r job.2
 
-    pub encodable_next : IsEncodable there.committed
-    encodable_next = subst IsEncodable (sym ends) (encodable_there a.setting a.later now E D within.output core.committed a.supply j tally within.kept laws within.last job.0 job.1 r job.2)
-
     abbrev on : RunOn a.setting.tells a.setting.options a.setting.start
-    on = record {
-      run = within.run;
-      goes_on = within.goes_on;
-      draw = within.draw;
-      due = within.due;
-      results = within.results;
-      after = a.racer;
-      raced = subst (λ (x : Supplied). IsRaced within.run.racer a.setting.options (first_next within.run) within.run.end x within.results a.racer) within.supply_is within.raced;
-      runs = within.runs;
-      rest = within.judged.rest;
-      all = within.judged.all;
-      end = core.committed;
-      linked = within.judged.linked;
-      output = within.output;
-      chained = within.kept.chained;
-    }
+    on = run_on true a now core j tally within
 
     abbrev next_one : NextEpoch on
     next_one = record {
@@ -243,16 +278,6 @@ module _ (a : InRound) (now : Option History) (core : Core) (j : Journal) (tally
       next = rest_is;
       starts = starts;
     }
-
-    room_here : HasRoom a.setting.guest a.setting.options K
-    room_here = fits_still a.setting a.later now K E D within.output core.committed a.supply j tally within.kept
-
-    -- memory ran out before it was appended
-    pub no_memory : IsStopped a now faults.OutOfMemory
-    no_memory = (
-      inr (inr (on, next_one, room_here, drawn_still a.setting a.later now K E D within.output core.committed a.supply j tally within.kept, within.kept.history)),
-      moments_now a.setting a.later now K E D within.output core.committed a.supply j tally within.kept a.later refl,
-    )
 
     module _ (added : List ℕ) (framed : added ≡ frame (epoch_body e)) (j' : Journal) (behind : Option History) where
       size_is : length (journal_of a.setting.guest (records_unmarked a.setting.options a.setting.start (E ++ e ∷ []))) ≡ length (journal_of a.setting.guest K) + length (frame (epoch_body e))
@@ -313,7 +338,10 @@ module _ (a : InRound) (now : Option History) (core : Core) (j : Journal) (tally
             supply_is = within.supply_is;
             can = within.can;
             results = within.results;
+            coming = within.coming;
+            all = within.all;
             raced = within.raced;
+            full = within.full;
             runs = within.runs ++ r ∷ [];
             judged = next;
             output = within.output ++ r.out;
@@ -324,17 +352,6 @@ module _ (a : InRound) (now : Option History) (core : Core) (j : Journal) (tally
             last = within.last;
             longer = omega (arith, within.longer, more, ap (λ (s : State). s.steps) ends, length-append within.runs (r ∷ []));
           }
-
-    -- fewer results are left
-    pub fewer : length there.jobs - there.judged < length core.jobs - core.judged
-    fewer =
-        let jobs_are : length core.jobs ≡ length within.runs + length within.judged.rest =
-        ap (λ (l : List Stage). length l) within.judged.jobs ∙ length-append (map (λ (x : EpochRun). Judged) within.runs) (map Taken within.judged.rest)
-        ∙ omega (arith, length-map within.runs (λ (x : EpochRun). Judged), length-map within.judged.rest Taken) in
-        let jobs_there : length there.jobs ≡ length (within.runs ++ r ∷ []) + length next.rest =
-        ap (λ (l : List Stage). length l) next.jobs ∙ length-append (map (λ (x : EpochRun). Judged) (within.runs ++ r ∷ [])) (map Taken next.rest)
-        ∙ omega (arith, length-map (within.runs ++ r ∷ []) (λ (x : EpochRun). Judged), length-map next.rest Taken) in
-        omega (arith, jobs_are, jobs_there, within.judged.judged, next.judged, length-append within.runs (r ∷ []), ap (λ (l : List Ran). length l) rest_is)
 
 -- ---- the mark after the last epoch
 
@@ -362,7 +379,10 @@ module _ (a : InRound) (now : Option History) (core : Core) (j : Journal) (tally
       supply_is = within.supply_is;
       can = within.can;
       results = within.results;
+      coming = within.coming;
+      all = within.all;
       raced = within.raced;
+      full = within.full;
       runs = within.runs;
       judged = within.judged;
       output = within.output;
@@ -377,22 +397,7 @@ module _ (a : InRound) (now : Option History) (core : Core) (j : Journal) (tally
 
   module _ (due : is_due a.setting.options.mark tally.since core.committed ≡ true) (added : List ℕ) (framed : added ≡ frame (body_of (mark (checkpoint_of core.committed)))) (short : length (state_bytes core.committed) < MAX_BODY_BYTES) (behind : Option History) where
     abbrev at_mark : RunOn a.setting.tells a.setting.options a.setting.start
-    at_mark = record {
-      run = within.run;
-      goes_on = within.goes_on;
-      draw = within.draw;
-      due = within.due;
-      results = within.results;
-      after = a.racer;
-      raced = subst (λ (x : Supplied). IsRaced within.run.racer a.setting.options (first_next within.run) within.run.end x within.results a.racer) within.supply_is within.raced;
-      runs = within.runs;
-      rest = within.judged.rest;
-      all = within.judged.all;
-      end = core.committed;
-      linked = within.judged.linked;
-      output = within.output;
-      chained = within.kept.chained;
-    }
+    at_mark = run_on false a now core j tally within
 
     is_mark_due : IsMarkDue a.setting.options a.setting.start committed_epochs core.committed
     is_mark_due = mark_due a.setting a.later now committed_epochs drawn within.output core.committed a.supply j tally within.kept within.since_is due added framed short behind

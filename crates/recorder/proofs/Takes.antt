@@ -26,7 +26,7 @@ not_both : (a b : Bool) → b ≡ false → (a && b) ≡ false
 not_both true b p = p
 not_both false b p = refl
 
-last_at : (xs : List Stage) (x : Stage) → slice_get (xs ++ x ∷ []) (length xs) ≡ Some x
+pub last_at : (xs : List Stage) (x : Stage) → slice_get (xs ++ x ∷ []) (length xs) ≡ Some x
 last_at [] x = refl
 last_at (y ∷ xs) x = last_at xs x
 

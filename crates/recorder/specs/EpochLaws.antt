@@ -23,6 +23,7 @@ pub record EpochLaws : Type 0 where
       → IsSuppliedBy w start.input end.input e.answers
   pub few : (start : State) (hints : Hints) (w : Supplied) (bounds : Bounds) (e : Epoch) (output : List ℕ) (end : State) → IsScheduled start hints w bounds e output end → steps_of e.slices ≤ bounds.steps
   pub writes : (start : State) (hints : Hints) (w : Supplied) (bounds : Bounds) (e : Epoch) (output : List ℕ) (end : State) → IsScheduled start hints w bounds e output end → length output < EPOCH_END_BYTES + MAX_CALL_BYTES
+  pub counts : (s : State) (slices : List Slice) (log : List Answer) (there : After) → run slices (at s [] log) ≡ Ok there → there.state.steps ≡ s.steps + steps_of slices
   pub reads : (s : State) (slices : List Slice) (log : List Answer) (there : After) → run slices (at s [] log) ≡ Ok there → there.state.input ≤ s.input + MAX_CALL_BYTES * steps_of slices
   pub goes_on : (s : State) (slices : List Slice) (log : List Answer) (there : After) → run slices (at s [] log) ≡ Ok there → CanGoOn s → CanGoOn there.state
   pub made : (s : State) (slices : List Slice) (log : List Answer) (there : After) → run slices (at s [] log) ≡ Ok there → AllByRecursion (λ (x : Slice). 0 < x.steps → x.tid.0 ≤ length there.state.threads) slices

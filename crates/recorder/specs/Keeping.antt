@@ -1,12 +1,12 @@
 -- What a recording is so far, between two rounds and within one. These serve the contracts of the crate's own steps. This project's own.
-use Rattle.std.specs.Prelude.{◌≡◌, ◌⊎◌, ◌<◌, ◌≤◌, ◌+◌, ◌-◌, ◌*◌, ℕ, Bool, true, false, List, [], ◌∷◌, ◌++◌, length, take, Option, Some, None, Result, Ok, Err, slice_get}
+use Rattle.std.specs.Prelude.{◌≡◌, ◌⊎◌, ◌<◌, ◌≤◌, ◌+◌, ◌-◌, ◌*◌, ◌^◌, ℕ, Bool, true, false, List, [], ◌∷◌, ◌++◌, length, take, Option, Some, None, Result, Ok, Err, slice_get}
 use Rattle.std.specs.List.{AllByRecursion, list_any}
 use Rattle.commit_core.specs.JudgedRound.{IsWithin}
 use Rattle.commit_core.specs.Judging.{Core}
 use Rattle.commit_core.specs.declared.stage.Stage.TheVariants.{Taken}
 use Rattle.dp_base.specs.declared.answer.Answer.{Answer}
 use Rattle.dp_base.specs.declared.answer.Answer.TheVariants.{Read}
-use Rattle.dp_base.specs.declared.limits.TheConstants.{EPOCH_END_BYTES, MAX_CALL_BYTES}
+use Rattle.dp_base.specs.declared.limits.TheConstants.{EPOCH_END_BYTES, MAX_CALL_BYTES, MAX_EPOCH_STEPS, MAX_JOBS}
 use Rattle.dp_base.specs.Encoding.{IsPrefixOf}
 use Rattle.dp_base.specs.Journal.{Epoch, IsAnswer, IsGuest, frame}
 use Rattle.disk_model.specs.History.{History, IsSynced}
@@ -147,7 +147,7 @@ pub record SoFar (a : Setting) (there : Option Input) (now : Option History) (ra
 -- ---- within a round
 
 -- what stays while the results of a round are judged: the input after its draw, what the racer tells after its race, the round's supply and start,
--- and how many results were squashed before
+-- how many results were squashed before, all results that will be taken in it, and whether they are those of all its jobs
 pub record InRound : Type 0 where
   pub setting : Setting
   pub later : Option Input
@@ -155,8 +155,10 @@ pub record InRound : Type 0 where
   pub supply : Supplied
   pub from : State
   pub squashes : ℕ
+  pub results : List Ran
+  pub whole : Bool
 
--- Some results were judged. The mark after the last epoch was judged too, or wasn't yet.
+-- Some results were taken, and some of these judged. The mark after the last epoch was judged too, or wasn't yet.
 pub record Within (marked : Bool) (a : InRound) (now : Option History) (core : Core) (j : Journal) (tally : Tally) : Type 0 where
   pub run : Run a.setting.tells a.setting.options a.setting.start
   pub from_is : run.end ≡ a.from
@@ -167,7 +169,10 @@ pub record Within (marked : Bool) (a : InRound) (now : Option History) (core : C
   pub supply_is : a.supply ≡ supply_of (supply run) draw
   pub can : can_step run.end a.supply ≡ true
   pub results : List Ran
-  pub raced : IsRaced run.racer a.setting.options (first_next run) run.end a.supply results a.racer
+  pub coming : List Ran
+  pub all : a.results ≡ results ++ coming
+  pub raced : IsRaced run.racer a.setting.options (first_next run) run.end a.supply a.results a.racer
+  pub full : a.whole ≡ true → length a.results ≡ length raced.offers + 1
   pub runs : List EpochRun
   pub judged : IsWithin run.end results runs core
   pub output : List ℕ
@@ -176,21 +181,28 @@ pub record Within (marked : Bool) (a : InRound) (now : Option History) (core : C
   pub last : IfInput (λ s t. IsLast a.supply.stamp (readings_since s t)) a.setting.given a.later
   pub longer : run.end.steps + length runs ≤ core.committed.steps
 
-abbrev pub IsInRoundOf : (every : ℕ) → (now : Option History) → Core → Journal → Tally → Type 0
-IsInRoundOf every now core j tally = (a : InRound) × (a.setting.options.mark ≡ every) × Within true a now core j tally
+-- What a committer's code stands on: all results that it took were committed, the counts of the committed state have room for those of the
+-- other jobs, and the journal takes more.
+pub record IsReady (core : Core) (j : Journal) : Type 0 where
+  pub not_closed : core.closed ≡ false
+  pub judged : core.judged ≡ length core.jobs
+  pub places : core.max_jobs ≡ MAX_JOBS
+  pub encodable : IsEncodable core.committed
+  pub early : core.committed.steps + (MAX_JOBS - length core.jobs) * MAX_EPOCH_STEPS < 2 ^ 63
+  pub little : core.committed.input + MAX_CALL_BYTES * ((MAX_JOBS - length core.jobs) * MAX_EPOCH_STEPS) < 2 ^ 63
+  pub works : j.failed ≡ false
 
 -- the round is over, and some steps were committed
 abbrev pub IsOver : InRound → (squashes : ℕ) → (now : Option History) → Core → Journal → Tally → Type 0
 IsOver a squashes now core j tally = SoFar a.setting a.later now a.racer core.committed a.supply j tally squashes × (a.from.steps < core.committed.steps)
 
--- the next result, if it is an epoch, starts in the committed state
-abbrev pub StartsHere : Core → Type 0
-StartsHere core = (run : EpochRun) → slice_get core.jobs core.judged ≡ Some (Taken (rans.Epoch run)) → run.start ≡ core.committed
+-- a recording stopped, with this left of its input
+abbrev pub HasStopped : Setting → (later : Option Input) → (now : Option History) → RecordFault → Type 0
+HasStopped a later now fault = Recorded a.guest a.tells a.start a.options a.given later a.before now (Err fault)
+    × EachMoment a.guest a.options.mark a.start a.given later a.before now
 
--- the recording stopped
 abbrev pub IsStopped : InRound → (now : Option History) → RecordFault → Type 0
-IsStopped a now fault = Recorded a.setting.guest a.setting.tells a.setting.start a.setting.options a.setting.given a.later a.setting.before now (Err fault)
-    × EachMoment a.setting.guest a.setting.options.mark a.setting.start a.setting.given a.later a.setting.before now
+IsStopped a now fault = HasStopped a.setting a.later now fault
 
 -- what became of the next result
 abbrev pub StepSays : InRound → (now : Option History) → Core → Journal → Tally → Result Next RecordFault → Type 0
@@ -208,18 +220,3 @@ MarkSays a now core j tally (Err fault) = IsStopped a now fault
 abbrev pub IsMarkFrame : (every since : ℕ) → State → Option (List ℕ) → Type 0
 IsMarkFrame every since s None = is_due every since s ≡ false
 IsMarkFrame every since s (Some added) = (is_due every since s ≡ true) × (added ≡ frame (body_of (mark (checkpoint_of s))))
-
--- the results that aren't judged yet
-abbrev pub results_left : Core → ℕ
-results_left core = length core.jobs - core.judged
-
-abbrev pub GoesFewer : Core → Core → Next → Type 0
-GoesFewer core there Committed = results_left there < results_left core
-GoesFewer core there Squashed = Unit {0}
-GoesFewer core there Over = Unit {0}
-
--- what became of all results of a round
-abbrev pub RoundSays : InRound → (now : Option History) → Core → Journal → Tally → Result Bool RecordFault → Type 0
-RoundSays a now core j tally (Ok true) = IsOver a (a.squashes + 1) now core j tally
-RoundSays a now core j tally (Ok false) = IsOver a a.squashes now core j tally
-RoundSays a now core j tally (Err fault) = IsStopped a now fault

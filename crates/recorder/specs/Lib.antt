@@ -7,6 +7,7 @@ pub mod Recording
 pub mod Telling
 pub mod Moments
 pub mod Keeping
+pub mod Taking
 pub mod EpochLaws
 pub mod Machine
 pub mod MachineKept

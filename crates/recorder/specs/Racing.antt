@@ -1,7 +1,6 @@
 -- The jobs of a round: where each starts, how far it may go, and what became of it. This project's own.
-use Rattle.std.specs.Prelude.{◌≡◌, ◌<◌, ◌-◌, min, ℕ, List, [], ◌∷◌, length, take}
+use Rattle.std.specs.Prelude.{◌≡◌, ◌<◌, ◌-◌, min, ℕ, ⊤, List, [], ◌∷◌, length, take}
 use Rattle.std.proofs.Math.Nat.{le_trans, min-le_left}
-use Rattle.epoch_pool.specs.declared.job.Job.{Job}
 use Rattle.epoch_runner.specs.declared.bounds.Bounds.{Bounds}
 use Rattle.epoch_runner.specs.declared.epoch_run.Ran.{Ran}
 use Rattle.epoch_runner.specs.Running.{HasRun}
@@ -43,30 +42,18 @@ plan_of options first s = record {
   few_jobs = options.ahead_range.1;
 }
 
--- ---- the jobs of a round
+-- ---- the results of a round
 
-abbrev pub IsJob : Options → (first : ℕ) → State → Hints → Job → Type 0
-IsJob options first s hints j = (j.start ≡ s) × (j.hints ≡ hints) × (j.bounds ≡ bounds_for options first s)
-
--- Job 1 starts in this state, each other one in the state of an offer. The hints of a job are those of the offer that ends it, and the last
--- job has none. After job 1 the first thread is sought from 1 on.
-abbrev pub AreJobs : Options → (first : ℕ) → State → List Offer → List Job → Type 0
-AreJobs options first s [] [] = ⊥
-AreJobs options first s [] (j ∷ []) = IsJob options first s no_hints j
-AreJobs options first s [] (j ∷ k ∷ jobs) = ⊥
-AreJobs options first s (o ∷ offers) [] = ⊥
-AreJobs options first s (o ∷ offers) (j ∷ jobs) = IsJob options first s o.hints j × AreJobs options 1 o.next offers jobs
-
--- What became of such jobs with a supply: one result each, in order.
+-- What became of the first jobs of a round with a supply: one result each, in order. Job 1 starts in this state, each other one in the state of an
+-- offer. The hints of a job are those of the offer that ends it, and the last job has none. After job 1 the first thread is sought from 1 on.
 abbrev pub AreResults : Options → (first : ℕ) → State → List Offer → Supplied → List Ran → Type 0
-AreResults options first s [] w [] = ⊥
+AreResults options first s offers w [] = ⊤
 AreResults options first s [] w (x ∷ []) = HasRun s no_hints w (bounds_for options first s) x
 AreResults options first s [] w (x ∷ y ∷ results) = ⊥
-AreResults options first s (o ∷ offers) w [] = ⊥
 AreResults options first s (o ∷ offers) w (x ∷ results) = HasRun s o.hints w (bounds_for options first s) x × AreResults options 1 o.next offers w results
 
--- These are the results of a round from a state, with its supply and the thread that is tried first, by a racer that tells this. Where it tells its
--- offers the round has the first of them, one for each job but job 1, and the racer tells the same afterwards.
+-- These are the first results of a round from a state, with its supply and the thread that is tried first, by a racer that tells this. Where it tells
+-- its offers the round has the first of them, one for each job but job 1, and the racer tells the same afterwards.
 pub record IsRaced (tells : Tells) (options : Options) (first : ℕ) (s : State) (w : Supplied) (results : List Ran) (after : Tells) : Type 0 where
   pub offers : List Offer
   pub told : IfTold (tells s w (plan_of options first s)) (λ list. offers ≡ take (options.ahead - 1) list)

@@ -62,14 +62,15 @@ is_squash used_up = false
 is_squash squashed = true
 is_squash over = false
 
--- A round from a state to another, by a racer that tells this: its jobs were run, and their results judged in order. At least one epoch
--- was committed.
+-- A round from a state to another, by a racer that tells this: its jobs were run, and their results judged in order, all of them unless one ended
+-- the round. At least one epoch was committed.
 pub record IsRound (tells : Tells) (options : Options) (first : ℕ) (s : State) (w : Supplied) (r : Round) (end : State) (after : Tells) : Type 0 where
   pub results : List Ran
   pub raced : IsRaced tells options first s w results after
   pub runs : List EpochRun
   pub stop : RoundEnd
   pub judged : IsJudged s results runs end stop
+  pub all : stop ≡ used_up → length results ≡ length raced.offers + 1
   pub some : 0 < length runs
   pub epochs_are : r.epochs ≡ epochs_of_runs runs
   pub squashed_is : r.squashed ≡ is_squash stop
@@ -115,7 +116,8 @@ supply r = supply_behind (empty MAX_ROOM) (draws r)
 abbrev pub first_next : {tells : Tells} {options : Options} {start : State} → Run tells options start → ℕ
 first_next r = first_after 1 (epochs r)
 
--- A run that goes on, and a round after it of whose results the first ones are committed. It isn't known of the rest whether they will be.
+-- A run that goes on, and a round after it of whose results the first ones are committed. It isn't known of the rest whether they will be, nor how
+-- many follow.
 pub record RunOn (tells : Tells) (options : Options) (start : State) : Type 0 where
   pub run : Run tells options start
   pub goes_on : GoesOn options run.end
@@ -275,14 +277,14 @@ HasLostSink guest tells start options i j before after =
     ⊎ ((r : Run tells options start) × (has_ended r.end.end ≡ true) × HasRoom guest options (records r) × RunDrawn r i j
     × IfKnown (λ s t. (count : ℕ) × IsRecorded guest (records r) r.output (take count (report_line (reported r))) s t) before after)
 
--- Memory ran out before the first epoch, between two rounds or while a round's jobs were made and run, or before the epoch that is next was
--- appended.
+-- Memory ran out before the first epoch, between two rounds, or within a round: while its jobs were made and run, or before the epoch that is next
+-- was appended.
 abbrev pub HasLostMemory : (guest : List ℕ) → (tells : Tells) → (start : State) → Options → (i j : Option Input) → (before after : Option History) → Type 0
 HasLostMemory guest tells start options i j before after =
     ((j ≡ i) × IfKnown IsUntouched before after)
     ⊎ ((r : Run tells options start) × ((has_ended r.end.end ≡ true) ⊎ GoesOn options r.end)
     × HasRoom guest options (records r) × HasDrawnOn r i j × IfKnown (IsRecorded guest (records r) r.output []) before after)
-    ⊎ ((on : RunOn tells options start) × NextEpoch on × HasRoom guest options (records_of options start (epochs_on on))
+    ⊎ ((on : RunOn tells options start) × HasRoom guest options (records_of options start (epochs_on on))
     × DrawnWithin on (epochs_on on) i j × IfKnown (IsRecorded guest (records_of options start (epochs_on on)) on.output []) before after)
 
 -- By the answer: the run that was recorded, by a racer that told this at first, what the journal holds and what was sent of it, and what was

@@ -31,7 +31,7 @@
 //! let state = start(alloc, &image)?;
 //! world.attach("journal", true)?;
 //! let (world, answer) = record_(
-//!     &rt, alloc, world, &mut inlet, file, state, options, &mut IdleRacer, &OpenGate,
+//!     &rt, alloc, world, &mut inlet, file, state, options, IdleRacer, &OpenGate,
 //! );
 //! match answer {
 //!     Ok(report) => ..,
@@ -42,10 +42,11 @@
 #![tactic(auto)]
 
 mod commit;
+mod committer;
 mod draw;
-mod jobs;
 pub mod laws;
 mod options;
+mod plan;
 mod ready;
 mod record_fault;
 mod recording;

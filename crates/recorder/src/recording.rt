@@ -1,26 +1,37 @@
 // A whole recording: begin, one round after another, and the report.
-ghost use Rattle.std.specs.Prelude.{◌≡◌, ◌<◌, ◌≤◌, ◌+◌, if◌then◌else◌, Err, IsErrOf};
+ghost use Rattle.std.specs.Prelude.{◌≡◌, ◌<◌, ◌≤◌, ℕ, false, Option, Err, IfErr, IfOk, IsErrOf};
+ghost use Rattle.disk_model.specs.Input.{Input};
+ghost use Rattle.racing_runner.specs.Offers.{Tells};
+ghost use Rattle.commit_core.specs.Judging.{fresh};
 ghost use Rattle.disk_model.specs.Counts.{Rose};
-ghost use Rattle.dp_base.specs.declared.limits.TheConstants.{MAX_JOURNAL_BYTES};
+ghost use Rattle.dp_base.specs.declared.limits.TheConstants.{MAX_JOBS};
 ghost use Rattle.guest_kernel.specs.Start.{IsGuestFile, start_state};
+ghost use Rattle.guest_kernel.specs.State.{has_ended};
 ghost use Rattle.recorder.specs.Faults.{MetNoOther};
+ghost use Rattle.recorder.specs.Keeping.{HasStopped, Setting, SoFar};
 ghost use Rattle.recorder.specs.Moments.{EachMoment};
 ghost use Rattle.recorder.specs.Recording.{Recorded};
+ghost use Rattle.recorder.specs.Taking.{outcome};
 ghost use Rattle.recorder.specs.declared.record_fault.RecordFault.TheVariants as faults;
 
+use crate::committer::Committer;
 use crate::draw::draw;
-use crate::jobs::run_round;
 use crate::options::Options;
+use crate::plan::plan_of;
 use crate::record_fault::RecordFault;
-use crate::results::{commit_results, core_of};
-use crate::tally::Tally;
+use crate::tally::{Next, Tally};
 use crate::telling::tell;
+use commit_core::Core;
 use disk_model::{Gate, Inlet, World};
+use dp_base::OutOfMemory;
+use dp_base::limits::MAX_JOBS;
 use dp_report::Report;
 use epoch_journal::Journal;
+use epoch_stream::stream;
 use guest_kernel::{State, laws};
 use racing_runner::Racer;
 use std::alloc::Global;
+use std::sync::Wait;
 use std::thread::Threads;
 use supply::{MAX_ROOM, Supply};
 
@@ -35,20 +46,26 @@ use supply::{MAX_ROOM, Supply};
 /// # Errors
 ///
 /// See [`RecordFault`]. The disk's length is looked at first; after `JournalInUse` nothing was written, sent or taken.
-pub fn record_<R: Threads + Sync, W: World, I: Inlet, Q: Racer, G: Gate + Sync>(
+pub fn record_<
+    R: Threads + Wait + Sync,
+    W: World + Drop,
+    I: Inlet,
+    Q: Racer + Drop + Send,
+    G: Gate + Sync,
+>(
     rt: &R,
     alloc: Global,
-    mut world: W,
+    world: W,
     inlet: &mut I,
     guest: &[u8],
     start: State,
     options: Options,
-    racer: &mut Q,
+    racer: Q,
     gate: &G,
 ) -> (W, Result<Report, RecordFault>)
     requires guest { IsGuestFile guest.now }
     requires starts { start ≡ start_state guest.now }
-    ensures recorded { Recorded guest.now (Q.tells racer.old) start options (I.input inlet.old) (I.input inlet.new)
+    ensures recorded { Recorded guest.now (Q.tells racer) start options (I.input inlet.old) (I.input inlet.new)
         (W.history world) (W.history result.0) result.1 }
     ensures moments { EachMoment guest.now options.mark start (I.input inlet.old) (I.input inlet.new)
         (W.history world) (W.history result.0) }
@@ -61,94 +78,225 @@ pub fn record_<R: Threads + Sync, W: World, I: Inlet, Q: Racer, G: Gate + Sync>(
     ensures disk_count { W.disk_faults world ≤ W.disk_faults result.0 }
     ensures sink_count { W.sink_faults world ≤ W.sink_faults result.0 }
 {
-    let answer = record_rounds(
-        rt, alloc, &mut world, inlet, guest, start, options, racer, gate,
+    let mut world = world;
+    let (journal, mut supply) = match begin(alloc, &mut world, guest, &start, &options) {
+        Ok(begun) => begun,
+        Err(fault) => return (world, Err(fault)),
+    };
+    let mut recording = Recording {
+        journal,
+        tally: Tally {
+            first: 1,
+            epochs: 0,
+            since: 0,
+            sent: 0,
+        },
+        state: start,
+        racer,
+        squashes: 0,
+    };
+    'rounds: while !recording.state.ended() {
+        let steps = recording.state.steps;
+        if steps >= options.limit {
+            return (world, Err(RecordFault::StepLimit(steps)));
+        }
+        let (back, next) = round(
+            rt,
+            alloc,
+            world,
+            inlet,
+            &options,
+            &mut supply,
+            recording,
+            gate,
+        );
+        world = back;
+        match next {
+            Ok(next) => recording = next,
+            Err(fault) => return (world, Err(fault)),
+        }
+    }
+    let tally = recording.tally;
+    let answer = tell(
+        alloc,
+        &mut world,
+        &recording.state,
+        tally.epochs,
+        recording.squashes,
+        tally.sent,
     );
     (world, answer)
 }
 
-fn record_rounds<R: Threads + Sync, W: World, I: Inlet, Q: Racer, G: Gate + Sync>(
-    rt: &R,
+// A recording between two rounds.
+#[derive(Drop)]
+struct Recording<Q: Drop> {
+    journal: Journal,
+    tally: Tally,
+    state: State,
+    racer: Q,
+    squashes: u32,
+}
+
+// Begins a journal, and makes the supply of the rounds.
+fn begin<W: World>(
     alloc: Global,
     world: &mut W,
-    inlet: &mut I,
     guest: &[u8],
-    start: State,
-    options: Options,
-    racer: &mut Q,
-    gate: &G,
-) -> Result<Report, RecordFault>
+    start: &State,
+    options: &Options,
+) -> Result<(Journal, Supply), RecordFault>
     requires guest { IsGuestFile guest.now }
-    requires starts { start ≡ start_state guest.now }
-    ensures recorded { Recorded guest.now (Q.tells racer.old) start options (I.input inlet.old) (I.input inlet.new)
-        (W.history world.old) (W.history world.new) result }
-    ensures moments { EachMoment guest.now options.mark start (I.input inlet.old) (I.input inlet.new)
-        (W.history world.old) (W.history world.new) }
-    ensures others { MetNoOther result (W.disk_faults world.old) (W.disk_faults world.new) (W.sink_faults world.old)
-        (W.sink_faults world.new) (I.input_faults inlet.old) (I.input_faults inlet.new) }
-    ensures input_cause { IsErrOf result RecordFault.InputFault →
-        Rose (I.input_faults inlet.old) (I.input_faults inlet.new) }
+    requires starts { start.now ≡ start_state guest.now }
+    ensures begun { (tells : Tells) (given : Option Input) → IfOk result (λ r. SoFar
+        (record { guest = guest.now; tells = tells; options = options.now; start = start.now; given = given; before = W.history world.old })
+        given (W.history world.new) tells start.now r.1 r.0 (record { first = 1; epochs = 0; since = 0; sent = 0 }) 0) }
+    ensures stopped { (tells : Tells) (given : Option Input) → IfErr result (λ fault. HasStopped
+        (record { guest = guest.now; tells = tells; options = options.now; start = start.now; given = given; before = W.history world.old })
+        given (W.history world.new) fault) }
+    ensures others { (input : ℕ) → MetNoOther result (W.disk_faults world.old) (W.disk_faults world.new)
+        (W.sink_faults world.old) (W.sink_faults world.new) input input }
+    ensures no_input { IsErrOf result RecordFault.InputFault → ⊥ }
+    ensures no_sink { IsErrOf result RecordFault.OutputFault → ⊥ }
     ensures disk_cause { IsErrOf result RecordFault.DiskFault →
         Rose (W.disk_faults world.old) (W.disk_faults world.new) }
-    ensures sink_cause { IsErrOf result RecordFault.OutputFault →
-        Rose (W.sink_faults world.old) (W.sink_faults world.new) }
-    ensures input_count { I.input_faults inlet.old ≤ I.input_faults inlet.new }
     ensures disk_count { W.disk_faults world.old ≤ W.disk_faults world.new }
-    ensures sink_count { W.sink_faults world.old ≤ W.sink_faults world.new }
+    ensures sink_count { W.sink_faults world.new ≡ W.sink_faults world.old }
 {
     elf_image::laws::a_file_without_fault_has_segments();
-    commit_core::laws::a_round_commits_what_joins_on();
     laws::a_guest_goes_on_while_a_thread_runs();
     laws::threads_are_few();
+    dp_base::laws::lengths();
+    checkpoint::laws::a_start_state_is_encodable();
+    let journal = Journal::begin(alloc, world, guest, options.room)?;
+    let supply = Supply::new(alloc, MAX_ROOM)?;
+    Ok((journal, supply))
+}
+
+// Runs a round, whose epochs are committed while later ones still run.
+fn round<
+    R: Threads + Wait + Sync,
+    W: World + Drop,
+    I: Inlet,
+    Q: Racer + Drop + Send,
+    G: Gate + Sync,
+>(
+    rt: &R,
+    alloc: Global,
+    world: W,
+    inlet: &mut I,
+    options: &Options,
+    supply: &mut Supply,
+    recording: Recording<Q>,
+    gate: &G,
+) -> (W, Result<Recording<Q>, RecordFault>)
+    requires so_far { (a : Setting) × (a.options ≡ options.now)
+        × SoFar a (I.input inlet.old) (W.history world) (Q.tells recording.racer) recording.state supply.old recording.journal recording.tally recording.squashes }
+    requires going { has_ended recording.state.end ≡ false }
+    requires left { recording.state.steps < options.now.limit }
+    ensures went { (a : Setting) → a.options ≡ options.now →
+        SoFar a (I.input inlet.old) (W.history world) (Q.tells recording.racer) recording.state supply.old recording.journal recording.tally recording.squashes →
+        IfOk result.1 (λ next. SoFar a (I.input inlet.new) (W.history result.0) (Q.tells next.racer) next.state supply.new next.journal next.tally next.squashes
+        × (recording.state.steps < next.state.steps)) }
+    ensures stopped { (a : Setting) → a.options ≡ options.now →
+        SoFar a (I.input inlet.old) (W.history world) (Q.tells recording.racer) recording.state supply.old recording.journal recording.tally recording.squashes →
+        IfErr result.1 (λ fault. HasStopped a (I.input inlet.new) (W.history result.0) fault) }
+    ensures others { MetNoOther result.1 (W.disk_faults world) (W.disk_faults result.0) (W.sink_faults world) (W.sink_faults result.0)
+        (I.input_faults inlet.old) (I.input_faults inlet.new) }
+    ensures input_cause { IsErrOf result.1 RecordFault.InputFault → Rose (I.input_faults inlet.old) (I.input_faults inlet.new) }
+    ensures disk_cause { IsErrOf result.1 RecordFault.DiskFault → Rose (W.disk_faults world) (W.disk_faults result.0) }
+    ensures sink_cause { IsErrOf result.1 RecordFault.OutputFault → Rose (W.sink_faults world) (W.sink_faults result.0) }
+    ensures input_count { I.input_faults inlet.old ≤ I.input_faults inlet.new }
+    ensures disk_count { W.disk_faults world ≤ W.disk_faults result.0 }
+    ensures sink_count { W.sink_faults world ≤ W.sink_faults result.0 }
+{
+    commit_core::laws::a_round_commits_what_joins_on();
     epoch_runner::laws::a_supply_lets_a_guest_step();
     supply::an_answer_is_of_the_input();
     supply::the_windows_are_the_input();
-    dp_base::laws::lengths();
-    checkpoint::laws::a_start_state_is_encodable();
-    let mut journal = Journal::begin(alloc, world, guest, options.room)?;
-    let mut supply = Supply::new(alloc, MAX_ROOM)?;
-    let mut state = start;
-    let mut tally = Tally {
-        first: 1,
-        epochs: 0,
-        since: 0,
-        sent: 0,
-    };
-    let mut squashes = 0;
-    'rounds: while !state.ended() {
-        if state.steps >= options.limit {
-            return Err(RecordFault::StepLimit(state.steps));
-        }
-        draw(inlet, &mut supply, &state)?;
-        let results = run_round(
-            rt,
-            alloc,
-            &options,
-            tally.first,
-            &state,
-            &supply,
-            racer,
-            gate,
-        )?;
-        let mut core = core_of(alloc, state, results)?;
-        let squashed = commit_results(
-            alloc,
-            &mut core,
-            &mut journal,
-            world,
-            &mut tally,
-            options.mark,
-        )?;
-        squashes = squashes_with(squashes, squashed);
-        state = core.into_committed();
+    if draw(inlet, supply, &recording.state).is_err() {
+        return (world, Err(RecordFault::InputFault));
     }
-    tell(alloc, world, &state, tally.epochs, squashes, tally.sent)
+    let Recording {
+        journal,
+        tally,
+        state,
+        racer,
+        squashes,
+    } = recording;
+    let core = match core_over(alloc, &state) {
+        Ok(core) => core,
+        Err(_) => return (world, Err(RecordFault::OutOfMemory)),
+    };
+    let plan = plan_of(options, tally.first, &state);
+    let committer = Committer {
+        alloc,
+        world,
+        journal,
+        core,
+        tally,
+        every: options.mark,
+        taken: 0,
+        last: Ok(Next::Committed),
+    };
+    let (committer, racer, answer) = stream(
+        rt,
+        alloc,
+        state,
+        racer,
+        supply,
+        &plan,
+        options.workers,
+        gate,
+        committer,
+    );
+    let Committer {
+        world,
+        journal,
+        core,
+        tally,
+        last,
+        ..
+    } = committer;
+    match outcome(last, answer) {
+        Ok(squashed) => {
+            let state = core.into_committed();
+            let squashes = squashes + squashed;
+            let next = Recording {
+                journal,
+                tally,
+                state,
+                racer,
+                squashes,
+            };
+            (world, Ok(next))
+        }
+        Err(fault) => (world, Err(fault)),
+    }
 }
 
-// The squashed results, with one more if a round's last one was squashed.
-fn squashes_with(squashes: u32, squashed: bool) -> u32
-    requires { squashes < MAX_JOURNAL_BYTES }
-    ensures { result ≡ squashes + (if squashed then 1 else 0) }
+// How many results a round has squashed, or why the recording stops: by what became of the last result that was taken, and by the round's answer.
+// Where the committer took no more, memory that ran out behind it stops nothing.
+fn outcome(
+    last: Result<Next, RecordFault>,
+    answer: Result<(), OutOfMemory>,
+) -> Result<u32, RecordFault>
+    ensures { result ≡ outcome last answer }
 {
-    if squashed { squashes + 1 } else { squashes }
+    match last {
+        Ok(Next::Committed) => match answer {
+            Ok(()) => Ok(0),
+            Err(_) => Err(RecordFault::OutOfMemory),
+        },
+        Ok(Next::Squashed) => Ok(1),
+        Ok(Next::Over) => Ok(0),
+        Err(fault) => Err(fault),
+    }
+}
+
+// A core over this committed state.
+fn core_over(alloc: Global, committed: &State) -> Result<Core, OutOfMemory>
+    ensures { IfOk result (λ core. core ≡ fresh committed.now MAX_JOBS) }
+{
+    Core::round(alloc, committed.share(alloc)?, MAX_JOBS)
 }

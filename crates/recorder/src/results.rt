@@ -1,6 +1,5 @@
-// The results of a round: they are judged in order, and each epoch that is to be committed is.
-ghost use Rattle.std.specs.Prelude.{◌≡◌, ◌<◌, ◌≤◌, ◌+◌, ◌-◌, ◌++◌, ◌∷◌, [], ℕ, IfOk, IsErrOf, false, true, length, map};
-ghost use Rattle.commit_core.specs.Judging.{HasApplied, fresh};
+// A result of a round is judged, and its epoch committed if it is to be.
+ghost use Rattle.std.specs.Prelude.{◌≡◌, ◌<◌, ◌≤◌, ◌+◌, ◌++◌, ◌∷◌, [], ℕ, IfOk, OnOk, IsErrOf, Some, false, true, length, slice_get};
 ghost use Rattle.commit_core.specs.declared.stage.Stage.TheVariants.{Taken};
 ghost use Rattle.disk_model.specs.Counts.{Rose};
 ghost use Rattle.dp_base.specs.declared.limits.TheConstants.{MAX_JOBS};
@@ -10,12 +9,12 @@ ghost use Rattle.recorder.specs.EpochLaws.{EpochLaws};
 ghost use Rattle.recorder.specs.Faults.{MetNoOther};
 ghost use Rattle.checkpoint.specs.State.{IsEncodable};
 ghost use Rattle.commit_core.specs.Judging.{Core};
-ghost use Rattle.recorder.specs.Keeping.{GoesFewer, InRound, IsInRoundOf, IsMarkFrame, MarkSays, RoundSays, StartsHere, StepSays, Within};
+ghost use Rattle.recorder.specs.Keeping.{InRound, IsMarkFrame, IsReady, MarkSays, StepSays, Within};
 
 use crate::commit::commit_epoch;
 use crate::ready::Ready;
 use crate::record_fault::RecordFault;
-use crate::tally::{Next, Tally, next_first};
+use crate::tally::{Next, Tally};
 use commit_core::{Core, Event, Verdict};
 use disk_model::World;
 use dp_base::OutOfMemory;
@@ -26,35 +25,7 @@ use guest_kernel::{State, laws};
 use journal_text::{Frame, MARK_KIND};
 use std::alloc::Global;
 
-// A core over the committed state that was told the results of all jobs, in order.
-pub(crate) fn core_of(
-    alloc: Global,
-    committed: State,
-    results: Vec<Ran>,
-) -> Result<Core, OutOfMemory>
-    requires some { 0 < length results.items }
-    requires few { length results.items ≤ MAX_JOBS }
-    ensures { IfOk result (λ core. core ≡ record (fresh committed (length results.items)) { jobs = map Taken results.items }) }
-{
-    let mut core = Core::round(alloc, committed, results.len() as u32)?;
-    take_all(&mut core, results);
-    Ok(core)
-}
-
-// Tells a new core the results of all jobs, in order.
-fn take_all(core: &mut Core, results: Vec<Ran>)
-    requires fresh { core.old ≡ fresh core.old.committed core.old.max_jobs }
-    requires jobs { length results.items ≤ MAX_JOBS }
-    requires few { length results.items ≤ core.old.max_jobs }
-    ensures { core.new ≡ record core.old { jobs = map Taken results.items } }
-{
-    let mut number = 0;
-    'results: for ran in results {
-        number += 1;
-        take_one(core, number, ran);
-    }
-}
-
+// Tells a core the result of the next job.
 fn take_one(core: &mut Core, number: u32, ran: Ran)
     requires number { number ≡ length core.old.jobs + 1 }
     requires room { number ≤ core.old.max_jobs }
@@ -66,56 +37,24 @@ fn take_one(core: &mut Core, number: u32, ran: Ran)
     core.apply(Event::Take(number, ran));
 }
 
-// Judges the results of a round, and commits each epoch that starts in the committed state, up to the first one that doesn't. Returns whether
-// that one was squashed.
-pub(crate) fn commit_results<W: World>(
+// Judges the result of the next job. Where its epoch is to be committed its record is appended, then its output is sent, and then the mark is
+// appended that is due. All memory is taken before.
+pub(crate) fn commit_next<W: World>(
     alloc: Global,
     core: &mut Core,
     journal: &mut Journal,
     world: &mut W,
     tally: &mut Tally,
     every: u32,
-) -> Result<bool, RecordFault>
-    requires round { IsInRoundOf every (W.history world.old) core.old journal.old tally.old }
-    requires fresh { core.old.judged ≡ 0 }
-    ensures says { (a : InRound) → a.setting.options.mark ≡ every → Within true a (W.history world.old) core.old journal.old tally.old →
-        RoundSays a (W.history world.new) core.new journal.new tally.new result }
-    ensures others { (input : ℕ) → MetNoOther result (W.disk_faults world.old) (W.disk_faults world.new)
-        (W.sink_faults world.old) (W.sink_faults world.new) input input }
-    ensures no_input { IsErrOf result RecordFault.InputFault → ⊥ }
-    ensures disk_cause { IsErrOf result RecordFault.DiskFault →
-        Rose (W.disk_faults world.old) (W.disk_faults world.new) }
-    ensures sink_cause { IsErrOf result RecordFault.OutputFault →
-        Rose (W.sink_faults world.old) (W.sink_faults world.new) }
-    ensures disk_count { W.disk_faults world.old ≤ W.disk_faults world.new }
-    ensures sink_count { W.sink_faults world.old ≤ W.sink_faults world.new }
-{
-    let mut is_first = true;
-    'results: loop {
-        match commit_next(alloc, core, journal, world, tally, every, is_first)? {
-            Next::Committed => is_first = false,
-            Next::Squashed => return Ok(true),
-            Next::Over => return Ok(false),
-        }
-    }
-}
-
-// Judges the next result. Where it is to be committed its record is appended, then its output is sent, and then the mark is appended that
-// is due. All memory is taken before.
-fn commit_next<W: World>(
-    alloc: Global,
-    core: &mut Core,
-    journal: &mut Journal,
-    world: &mut W,
-    tally: &mut Tally,
-    every: u32,
-    is_first: bool,
+    number: u32,
+    ran: Ran,
 ) -> Result<Next, RecordFault>
-    requires round { IsInRoundOf every (W.history world.old) core.old journal.old tally.old }
-    requires first { is_first ≡ true → core.old.judged ≡ 0 }
+    requires ready { IsReady core.old journal.old }
+    requires number { number ≡ length core.old.jobs + 1 }
+    requires room { number ≤ MAX_JOBS }
     ensures says { (a : InRound) → a.setting.options.mark ≡ every → Within true a (W.history world.old) core.old journal.old tally.old →
-        StepSays a (W.history world.new) core.new journal.new tally.new result }
-    ensures goes { IfOk result (λ next. GoesFewer core.old core.new next) }
+        slice_get a.results (length core.old.jobs) ≡ Some ran → StepSays a (W.history world.new) core.new journal.new tally.new result }
+    ensures goes { IfOk result (λ next. next ≡ Next.Committed → IsReady core.new journal.new × (length core.new.jobs ≡ number)) }
     ensures others { (input : ℕ) → MetNoOther result (W.disk_faults world.old) (W.disk_faults world.new)
         (W.sink_faults world.old) (W.sink_faults world.new) input input }
     ensures no_input { IsErrOf result RecordFault.InputFault → ⊥ }
@@ -128,37 +67,22 @@ fn commit_next<W: World>(
 {
     commit_core::laws::a_round_commits_what_joins_on();
     epoch_laws();
-    match judge_next(core, is_first) {
+    take_one(core, number, ran);
+    match core.apply(Event::Judge) {
         Verdict::Commit { epoch, out } => {
             let frame = frame_of(alloc, &epoch)?;
-            let since = tally.since + 1;
+            let since = tally.since.saturating_add(1);
             let mark = mark_frame(alloc, core.committed(), every, since)?;
             let ready = Ready { frame, out };
             commit_epoch(journal, world, &ready)?;
-            tally.first = next_first(tally.first, epoch.slices.as_slice());
-            tally.epochs += 1;
-            tally.since = since;
-            tally.sent += ready.out.len() as u64;
+            tally.count(epoch.slices.as_slice(), ready.out.len() as u64);
             append_mark(journal, world, tally, mark)?;
             Ok(Next::Committed)
         }
         Verdict::Squash { .. } => Ok(Next::Squashed),
         Verdict::Over { .. } => Ok(Next::Over),
-        Verdict::NotYet { .. } => Ok(Next::Over),
-        // A round whose results were all taken, and whose end wasn't seen, has no other verdict.
+        // A result that was taken just now has no other verdict.
         _ => unreachable!(),
-    }
-}
-
-// Judges the next result. The first one starts in the committed state, so nothing is compared.
-fn judge_next(core: &mut Core, is_first: bool) -> Verdict
-    requires { is_first ≡ true → StartsHere core.old }
-    ensures { HasApplied core.old Event.Judge result core.new }
-{
-    if is_first {
-        core.judge_known()
-    } else {
-        core.apply(Event::Judge)
     }
 }
 
@@ -192,6 +116,7 @@ fn append_mark<W: World>(
     mark: Option<Frame>,
 ) -> Result<(), RecordFault>
     requires { journal.old.failed ≡ false }
+    ensures works { OnOk result (journal.new.failed ≡ false) }
     ensures says { (a : InRound) (core : Core) → Within false a (W.history world.old) core journal.old tally.old →
         IsMarkFrame a.setting.options.mark tally.old.since core.committed mark → MarkSays a (W.history world.new) core journal.new tally.new result }
     ensures others { (input : ℕ) → MetNoOther result (W.disk_faults world.old) (W.disk_faults world.new)

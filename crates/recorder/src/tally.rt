@@ -1,5 +1,5 @@
 // What was committed so far.
-ghost use Rattle.std.specs.Prelude.{◌≡◌, ◌<◌};
+ghost use Rattle.std.specs.Prelude.{◌≡◌, ◌<◌, ◌+◌, ◌^◌};
 ghost use Rattle.std.specs.List.{AllByRecursion};
 ghost use Rattle.recorder.specs.Recording.{first_behind};
 
@@ -26,14 +26,28 @@ pub enum Next {
     Over,
 }
 
+impl Tally {
+    // Counts an epoch that was committed. What a recording counts is far below these limits.
+    pub(crate) fn count(&mut self, slices: &[Slice], sent: u64)
+        ensures first { AllByRecursion (λ x. x.tid.0 < 65535) slices.now → self.new.first ≡ first_behind self.old.first slices.now }
+        ensures epochs { self.old.epochs + 1 < 2 ^ 32 → self.new.epochs ≡ self.old.epochs + 1 }
+        ensures since { self.old.since + 1 < 2 ^ 32 → self.new.since ≡ self.old.since + 1 }
+        ensures sent { self.old.sent + sent < 2 ^ 64 → self.new.sent ≡ self.old.sent + sent }
+    {
+        self.first = next_first(self.first, slices);
+        self.epochs = self.epochs.saturating_add(1);
+        self.since = self.since.saturating_add(1);
+        self.sent = self.sent.saturating_add(sent);
+    }
+}
+
 // The thread that is first after these slices: one more than that of the last of them.
-pub(crate) fn next_first(first: u16, slices: &[Slice]) -> u16
-    requires { AllByRecursion (λ x. x.tid.0 < 65535) slices.now }
-    ensures { result ≡ first_behind first slices.now }
+fn next_first(first: u16, slices: &[Slice]) -> u16
+    ensures { AllByRecursion (λ x. x.tid.0 < 65535) slices.now → result ≡ first_behind first slices.now }
 {
     let mut next = first;
     for slice in slices {
-        next = slice.tid.0 + 1;
+        next = slice.tid.0.saturating_add(1);
     }
     next
 }

@@ -10,6 +10,7 @@ use racing_runner::IdleRacer;
 use recorder::{Options, RecordFault, record_};
 use std::alloc::Global;
 use std::test::Fail;
+use std::sync::Wait;
 use std::thread::Threads;
 use test_files::{EXITS, WRITES};
 use test_worlds::{Failing, letters_of, world_of};
@@ -64,7 +65,7 @@ fn look_at(world: &MemWorld, answer: Result<Report, RecordFault>, out: &[u8], no
 }
 
 // A recording of a guest in this world.
-fn recorded<R: Threads + Sync>(
+fn recorded<R: Threads + Wait + Sync>(
     rt: &R,
     alloc: Global,
     guest: &[u8],
@@ -81,13 +82,13 @@ fn recorded<R: Threads + Sync>(
         guest,
         state,
         options,
-        &mut IdleRacer,
+        IdleRacer,
         &OpenGate,
     ))
 }
 
 // A recording where no call fails.
-fn came_to<R: Threads + Sync>(
+fn came_to<R: Threads + Wait + Sync>(
     rt: &R,
     alloc: Global,
     guest: &[u8],
@@ -103,7 +104,7 @@ fn came_to<R: Threads + Sync>(
 }
 
 // Whether a recording of `WRITES` in epochs of one step makes these calls.
-fn makes_calls<R: Threads + Sync>(rt: &R, alloc: Global, letters: &[u8]) -> Result<bool, Fail> {
+fn makes_calls<R: Threads + Wait + Sync>(rt: &R, alloc: Global, letters: &[u8]) -> Result<bool, Fail> {
     let empty = world_of(alloc, Failing::Never, Failing::Never, 4096)?;
     let (after, _) = recorded(rt, alloc, &WRITES, options(1, LIMIT, ROOM), empty)?;
     let seen = letters_of(alloc, after.calls())?;
@@ -198,7 +199,7 @@ fn limits_and_rooms(rt: HostRuntime) -> Result<(), Fail> {
 }
 
 // Whether a recording of `EXITS` with a limit of two steps has these bytes in its journal from 111 on.
-fn has_slices<R: Threads + Sync>(rt: &R, alloc: Global, wanted: &[u8]) -> Result<bool, Fail> {
+fn has_slices<R: Threads + Wait + Sync>(rt: &R, alloc: Global, wanted: &[u8]) -> Result<bool, Fail> {
     let empty = world_of(alloc, Failing::Never, Failing::Never, 4096)?;
     let (after, _) = recorded(rt, alloc, &EXITS, options(20_000, 2, ROOM), empty)?;
     Ok(after.bytes().get(111..121) == Some(wanted))
@@ -212,7 +213,7 @@ fn a_slice_at_the_limit(rt: HostRuntime) -> Result<(), Fail> {
 }
 
 // What a recording in epochs of one step comes to, where some emits of one byte fail.
-fn emits_fail<R: Threads + Sync>(
+fn emits_fail<R: Threads + Wait + Sync>(
     rt: &R,
     alloc: Global,
     sink: Failing,
@@ -258,7 +259,7 @@ fn is_open(journal: &[u8], gate: usize) -> bool {
 
 // What a recording in epochs of one step comes to, where some calls on the disk fail: how many bytes were sent on Out and on Note,
 // and whether the sixth epoch's gate is open.
-fn calls_fail<R: Threads + Sync>(
+fn calls_fail<R: Threads + Wait + Sync>(
     rt: &R,
     alloc: Global,
     disk: Failing,

@@ -10,6 +10,7 @@ use racing_runner::{ChaosRacer, IdleRacer};
 use recorder::{Options, RecordFault};
 use std::alloc::Global;
 use std::test::Fail;
+use std::sync::Wait;
 use std::thread::Threads;
 use test_files::file_of;
 use test_worlds::{Failing, inlet_of, world_of};
@@ -21,8 +22,8 @@ use test_worlds::{Failing, inlet_of, world_of};
 // `ChaosRacer` of this number, and 1000 is `IdleRacer`. 2000 and more is `Reckless` over the `ChaosRacer` of the number less 2000. 3000 and
 // more is `Nonsense`: the last three digits are its kind of states, its kind of hints, and how often it offers a state.
 //
-// Then come lines of what the recording came to: its answer, how many rounds and jobs it had, its journal and what it sent, each with its
-// length and its hash; the steps of each epoch in the journal; and the report's line, if there is one.
+// Then come lines of what the recording came to: its answer, how many rounds it had, its journal and what it sent, each with its length and
+// its hash; the steps of each epoch in the journal; and the report's line, if there is one.
 pub(crate) type Line = &'static str;
 
 // A guest's words, the pieces of its input, and the readings of the clock.
@@ -70,7 +71,7 @@ fn options_of([_, epoch, slice, ahead, limit, room, _]: [u64; 7], workers: u32) 
     }
 }
 
-fn left_by<R: Threads + Sync>(
+fn left_by<R: Threads + Wait + Sync>(
     rt: &R,
     alloc: Global,
     guest: Guest,
@@ -88,24 +89,24 @@ fn left_by<R: Threads + Sync>(
     let options = options_of(numbers, workers);
     let number = word_of(numbers[0]);
     if number >= 3000 {
-        let mut racer = Nonsense {
+        let racer = Nonsense {
             state: number / 100 % 10,
             hints: number / 10 % 10,
             count: number % 10,
         };
-        return recorded(rt, alloc, file, options, inlet, world, &mut racer);
+        return recorded(rt, alloc, file, options, inlet, world, racer);
     }
     if number >= 2000 {
-        let mut racer = Reckless {
+        let racer = Reckless {
             racer: ChaosRacer::new(number - 2000),
         };
-        return recorded(rt, alloc, file, options, inlet, world, &mut racer);
+        return recorded(rt, alloc, file, options, inlet, world, racer);
     }
     if number == 1000 {
-        return recorded(rt, alloc, file, options, inlet, world, &mut IdleRacer);
+        return recorded(rt, alloc, file, options, inlet, world, IdleRacer);
     }
-    let mut racer = ChaosRacer::new(number);
-    recorded(rt, alloc, file, options, inlet, world, &mut racer)
+    let racer = ChaosRacer::new(number);
+    recorded(rt, alloc, file, options, inlet, world, racer)
 }
 
 fn push_answer(text: &mut String, alloc: Global, left: &Left) -> Result<(), Fail> {
@@ -161,7 +162,7 @@ fn push_steps(text: &mut String, alloc: Global, journal: &[u8]) -> Result<u32, F
 }
 
 // What a case comes to, as a table has it, if a replay of its journal sends the same.
-fn case_text<R: Threads + Sync>(
+fn case_text<R: Threads + Wait + Sync>(
     rt: &R,
     alloc: Global,
     guest: Guest,
@@ -175,9 +176,8 @@ fn case_text<R: Threads + Sync>(
     text.push_str("\n")?;
     push_answer(&mut text, alloc, &left)?;
     text.push_str(&format!(in alloc;
-        ", {} rounds, {} jobs, {} bytes {:016x}, {} sent {:016x}\n",
+        ", {} rounds, {} bytes {:016x}, {} sent {:016x}\n",
         left.rounds,
-        left.jobs,
         journal.len(),
         hash_of(journal),
         sent.len(),
@@ -192,7 +192,7 @@ fn case_text<R: Threads + Sync>(
 }
 
 // What the cases of a table come to, as the table has it, and the table.
-pub(crate) fn texts_of<R: Threads + Sync>(
+pub(crate) fn texts_of<R: Threads + Wait + Sync>(
     rt: &R,
     alloc: Global,
     guest: Guest,

@@ -8,6 +8,7 @@ use racing_runner::ChaosRacer;
 use recorder::{Options, RecordFault};
 use std::alloc::Global;
 use std::test::Fail;
+use std::sync::Wait;
 use std::thread::Threads;
 use test_files::file_of;
 use test_worlds::{Failing, inlet_of, world_of};
@@ -30,7 +31,7 @@ const NO_JOURNAL: u32 = 100;
 const OTHERS: u32 = 101;
 
 // A recording in epochs of 9 steps, by two workers, where some calls on the disk and some emits of one byte fail.
-fn left_by<R: Threads + Sync>(
+fn left_by<R: Threads + Wait + Sync>(
     rt: &R,
     alloc: Global,
     number: u32,
@@ -49,8 +50,8 @@ fn left_by<R: Threads + Sync>(
     };
     let inlet = inlet_of(alloc, &[], &[], Failing::Never)?;
     let world = world_of(alloc, disk, sink, 1)?;
-    let mut racer = ChaosRacer::new(number);
-    recorded(rt, alloc, &file, options, inlet, world, &mut racer)
+    let racer = ChaosRacer::new(number);
+    recorded(rt, alloc, &file, options, inlet, world, racer)
 }
 
 // How many epochs an image holds, if they are the first of the journal.
@@ -77,7 +78,7 @@ fn held(image: &[u8], journal: &[u8]) -> u32 {
 }
 
 // How many epochs each of the three images of a world holds, if each is replayed to the output of its epochs, and a prefix of that was sent.
-fn held_by_all<R: Threads + Sync>(
+fn held_by_all<R: Threads + Wait + Sync>(
     rt: &R,
     alloc: Global,
     left: &Left,
@@ -125,7 +126,7 @@ fn expected(number: u32) -> (u32, [u32; 3]) {
 }
 
 // The whole journal, of 154 bytes and 20 for each epoch.
-fn journal<R: Threads + Sync>(rt: &R, alloc: Global) -> Result<Vec<u8>, Fail> {
+fn journal<R: Threads + Wait + Sync>(rt: &R, alloc: Global) -> Result<Vec<u8>, Fail> {
     let left = left_by(rt, alloc, 0, Failing::Never, Failing::Never)?;
     if left.answer.is_err() || left.world.bytes().len() != 254 {
         return Err("a recording where nothing fails".into());
@@ -134,7 +135,7 @@ fn journal<R: Threads + Sync>(rt: &R, alloc: Global) -> Result<Vec<u8>, Fail> {
 }
 
 // Whether a recording answers this fault and has sent this, and how many epochs the images hold.
-fn faulted<R: Threads + Sync>(
+fn faulted<R: Threads + Wait + Sync>(
     rt: &R,
     alloc: Global,
     left: &Left,

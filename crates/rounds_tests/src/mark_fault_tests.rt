@@ -7,6 +7,7 @@ use epoch_replay::ReplayFault;
 use recorder::RecordFault;
 use std::alloc::Global;
 use std::test::Fail;
+use std::sync::Wait;
 use std::thread::Threads;
 use test_journals::{Kind, seen};
 use test_worlds::Failing;
@@ -54,7 +55,7 @@ fn held(image: &[u8], journal: &[u8]) -> u32 {
 }
 
 // How many records each of the three images of a world holds, if each is replayed to the output of its epochs, and a prefix of that was sent.
-fn held_by_all<R: Threads + Sync>(
+fn held_by_all<R: Threads + Wait + Sync>(
     rt: &R,
     alloc: Global,
     every: u32,
@@ -104,7 +105,7 @@ fn expected(number: u32) -> (u32, [u32; 3]) {
 }
 
 // A recording with a mark after every so many epochs.
-fn marked_by<R: Threads + Sync>(
+fn marked_by<R: Threads + Wait + Sync>(
     rt: &R,
     alloc: Global,
     every: u32,
@@ -155,7 +156,7 @@ const SIXTEENTH: Marked = Marked {
 };
 
 // The whole journal.
-fn journal<R: Threads + Sync>(rt: &R, alloc: Global, marked: Marked) -> Result<Vec<u8>, Fail> {
+fn journal<R: Threads + Wait + Sync>(rt: &R, alloc: Global, marked: Marked) -> Result<Vec<u8>, Fail> {
     let (disk, sink) = (Failing::Never, Failing::Never);
     let left = marked_by(rt, alloc, marked.every, 0, 1 << 30, disk, sink)?;
     let journal = left.world.bytes();
@@ -167,7 +168,7 @@ fn journal<R: Threads + Sync>(rt: &R, alloc: Global, marked: Marked) -> Result<V
 }
 
 // Whether a recording answers this fault and has sent this, and how many records the images hold.
-fn faulted<R: Threads + Sync>(
+fn faulted<R: Threads + Wait + Sync>(
     rt: &R,
     alloc: Global,
     every: u32,
@@ -185,7 +186,7 @@ fn faulted<R: Threads + Sync>(
 }
 
 // Whether a recording whose calls fail answers so, has sent the output of its epochs, and leaves images with as many records as expected.
-fn fails_at<R: Threads + Sync>(
+fn fails_at<R: Threads + Wait + Sync>(
     rt: &R,
     alloc: Global,
     every: u32,
@@ -210,7 +211,7 @@ fn fails_at<R: Threads + Sync>(
 }
 
 // Whether a recording with these marks does as expected at each call that fails: there are seven, and four for each record.
-fn fails_at_each<R: Threads + Sync>(rt: &R, alloc: Global, marked: Marked) -> Result<bool, Fail> {
+fn fails_at_each<R: Threads + Wait + Sync>(rt: &R, alloc: Global, marked: Marked) -> Result<bool, Fail> {
     let journal = journal(rt, alloc, marked)?;
     for number in 1..=marked.count.min(9) * 4 + 7 {
         let disk = Failing::At(u64::from(number));

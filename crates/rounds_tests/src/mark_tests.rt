@@ -5,12 +5,13 @@ use disk_model::Stream;
 use epoch_replay::ReplayFault;
 use std::alloc::Global;
 use std::test::Fail;
+use std::sync::Wait;
 use std::thread::Threads;
 use test_files::replaced;
 use test_worlds::Failing;
 
 // The journal of nine epochs of one step with a mark after every so many of them, if the recording sends the guest's output.
-fn journal_with<R: Threads + Sync>(rt: &R, alloc: Global, mark: u32) -> Result<Vec<u8>, Fail> {
+fn journal_with<R: Threads + Wait + Sync>(rt: &R, alloc: Global, mark: u32) -> Result<Vec<u8>, Fail> {
     let options = options(1, mark.min(1000), 1 << 30);
     let left = left_by(rt, alloc, 0, options, Failing::Never, Failing::Never)?;
     if left.answer.is_err() || left.world.sent(Stream::Out) != b"hi\n".as_slice() {
@@ -54,7 +55,7 @@ fn marks_of_nine_epochs(rt: HostRuntime) -> Result<(), Fail> {
 }
 
 // What a replay of a journal comes to of which one byte is replaced.
-fn changed<R: Threads + Sync>(
+fn changed<R: Threads + Wait + Sync>(
     rt: &R,
     alloc: Global,
     journal: &[u8],

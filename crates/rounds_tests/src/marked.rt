@@ -9,6 +9,7 @@ use racing_runner::ChaosRacer;
 use recorder::Options;
 use std::alloc::Global;
 use std::test::Fail;
+use std::sync::Wait;
 use std::thread::Threads;
 use test_files::WRITES;
 use test_journals::{Kind, seen};
@@ -42,7 +43,7 @@ pub(crate) fn options(epoch: u32, mark: u32, room: u64) -> Options
 }
 
 // A recording with a `ChaosRacer` of this number, where some calls on the disk and some emits of one byte fail.
-pub(crate) fn left_by<R: Threads + Sync>(
+pub(crate) fn left_by<R: Threads + Wait + Sync>(
     rt: &R,
     alloc: Global,
     number: u32,
@@ -52,8 +53,8 @@ pub(crate) fn left_by<R: Threads + Sync>(
 ) -> Result<Left, Fail> {
     let inlet = inlet_of(alloc, &[], &[], Failing::Never)?;
     let world = world_of(alloc, disk, sink, 1)?;
-    let mut racer = ChaosRacer::new(number);
-    recorded(rt, alloc, &WRITES, options, inlet, world, &mut racer)
+    let racer = ChaosRacer::new(number);
+    recorded(rt, alloc, &WRITES, options, inlet, world, racer)
 }
 
 // How many steps a mark's record says that the guest has taken.

@@ -9,6 +9,7 @@ use racing_runner::Racer;
 use recorder::{Options, RecordFault, record_};
 use std::alloc::Global;
 use std::test::Fail;
+use std::sync::Wait;
 use std::thread::Threads;
 use test_worlds::{Failing, disk_of};
 
@@ -22,14 +23,14 @@ pub(crate) struct Left {
 }
 
 // A recording of a guest in this world.
-pub(crate) fn recorded<R: Threads + Sync, Q: Racer>(
+pub(crate) fn recorded<R: Threads + Wait + Sync, Q: Racer + Drop + Send>(
     rt: &R,
     alloc: Global,
     guest: &[u8],
     options: Options,
     inlet: MemInlet,
     world: MemWorld,
-    racer: &mut Q,
+    racer: Q,
 ) -> Result<Left, Fail> {
     let state = start_from_file(alloc, guest)?;
     let mut inlet = inlet;
@@ -46,7 +47,7 @@ pub(crate) fn recorded<R: Threads + Sync, Q: Racer>(
 }
 
 // The epochs of a journal that is replayed by this many workers, and whether it sends these bytes.
-pub(crate) fn replayed<R: Threads + Sync>(
+pub(crate) fn replayed<R: Threads + Wait + Sync>(
     rt: &R,
     alloc: Global,
     journal: &[u8],

@@ -8,7 +8,7 @@ pub returns-then-is_err-clause-recorded : goal.returns-then-is_err-clause-record
 returns-then-is_err-clause-recorded g c = (
   Err faults.DiskFault,
   refl,
-  not_attached c.args.guest.now (g.Q.Racer.tells c.args.racer.now) c.args.start c.args.options _ _ _ _ refl c.attach.ensures.history,
+  not_attached c.args.guest.now (g.Q.Racer.tells c.args.racer) c.args.start c.args.options _ _ _ _ refl c.attach.ensures.history,
 )
 
 pub returns-then-is_err-clause-moments : goal.returns-then-is_err-clause-moments

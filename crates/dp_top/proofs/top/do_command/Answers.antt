@@ -59,5 +59,5 @@ returns-in-Ok-Selftest-clause-did g c =
     let asked : AskedSelfTest c.args.words.now = record { n = w.n; taken = w.ensures.taken; said = w.ensures.command ∙ ap Some w.field-0-is } in
     inr (inr (inr (inr (inr (asked, refl {a = g.I.Inlet.input c.args.inlet.now}, c.test_guest.ensures.tested)))))
 
-pub returns-in-Err-OutOfMemory-clause-replay_moments : goal.returns-in-Err-OutOfMemory-clause-replay_moments
-returns-in-Err-OutOfMemory-clause-replay_moments g c = λ asked. quiet_moments _ _ refl
+pub returns-clause-replay_moments : goal.returns-clause-replay_moments
+returns-clause-replay_moments g c = λ asked. quiet_moments _ _ refl
