@@ -7,6 +7,7 @@ ghost use Rattle.epoch_stream.specs.Takes.{AreWaiting, IsBehindAll, IsCount, Lon
 ghost use Rattle.epoch_runner.specs.declared.epoch_run.Ran.{Ran};
 ghost use Rattle.racing_runner.specs.declared.offer.More.TheVariants.{Yes};
 
+use crate::bell::Bells;
 use crate::deposit::{Deposit, EpochBoard};
 use crate::taker::Taker;
 use dp_base::OutOfMemory;
@@ -16,7 +17,6 @@ use job_board::{Collected, Collector};
 use racing_runner::More;
 use std::alloc::Global;
 use std::sync::Wait;
-use std::thread;
 use supply::Supply;
 
 /// What the taker's part leaves.
@@ -83,10 +83,15 @@ pub struct Tray {
 
 // Waits for the deposit whose turn it is. Returns `None` if all have had it.
 //
-// While nothing is ready, it looks at the board again and again, and yields its processor before each further look. A worker or a racer that
-// waits for a processor gets it then. If none does, the wait keeps a processor busy that nobody else uses: each look is one attempt to take
-// from the queue and one system call, a fraction of a microsecond.
-fn wait_for<R: Wait>(rt: &R, board: &EpochBoard, tray: &mut Tray, place: usize) -> Option<Deposit>
+// While nothing is ready, it looks at the board again and again, and yields its processor before each further look. After 64 looks it sleeps until
+// a worker rings.
+fn wait_for<R: Wait>(
+    rt: &R,
+    board: &EpochBoard,
+    bells: &Bells,
+    tray: &mut Tray,
+    place: usize,
+) -> Option<Deposit>
     requires collector { IsCollectorOf board.now tray.old.collector }
     requires waiting { AreWaiting tray.old.waiting.items (collected tray.old.collector) }
     requires count { IsCount tray.old.count (counts tray.old.collector) }
@@ -99,6 +104,7 @@ fn wait_for<R: Wait>(rt: &R, board: &EpochBoard, tray: &mut Tray, place: usize) 
     ensures within { IfSome result (λ d. place < length tray.old.waiting.items) }
     ensures all { IsNone result → IsBehindAll place (counts tray.new.collector) }
 {
+    let mut looks = 0u32;
     'turns: for _ in rt.forever() {
         if let Some(deposit) = pick(&mut tray.waiting, place) {
             return Some(deposit);
@@ -108,13 +114,17 @@ fn wait_for<R: Wait>(rt: &R, board: &EpochBoard, tray: &mut Tray, place: usize) 
                 return None;
             }
         }
+        let rings = bells.results.rings(rt);
         match board.collect(rt, &mut tray.collector) {
             Collected::Result {
                 index,
                 result: deposit,
             } => put(&mut tray.waiting, index, deposit),
             Collected::Count(n) => tray.count = Some(n),
-            Collected::Empty => thread::yield_now(),
+            Collected::Empty => {
+                bells.results.wait(rt, looks, rings);
+                looks = looks.saturating_add(1);
+            }
         }
     }
     unreachable!()
@@ -125,6 +135,7 @@ pub fn take_all<R: Wait, T: Taker + Drop>(
     rt: &R,
     alloc: Global,
     board: &EpochBoard,
+    bells: &Bells,
     supply: &Supply,
     mut taker: T,
     mut tray: Tray,
@@ -140,7 +151,7 @@ pub fn take_all<R: Wait, T: Taker + Drop>(
 {
     let mut next = 0;
     'takes: for _ in rt.forever() {
-        let Some(deposit) = wait_for(rt, board, &mut tray, next) else {
+        let Some(deposit) = wait_for(rt, board, bells, &mut tray, next) else {
             return ended(taker, tray, Ok(More::Yes));
         };
         match result_of(alloc, supply, deposit) {

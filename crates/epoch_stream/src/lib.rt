@@ -14,11 +14,13 @@
 //! ```
 #![tactic(auto)]
 
+mod bell;
 mod deposit;
 mod hand_over;
 mod race;
 mod ready;
 mod round;
+mod single;
 mod start;
 mod streaming;
 mod taker;

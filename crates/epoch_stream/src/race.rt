@@ -5,6 +5,7 @@ ghost use Rattle.stop_word.specs.Seats.{IsWatcherOf};
 ghost use Rattle.epoch_stream.specs.Offers.{HasClosed, IsOpen, bounds_for, whole_of};
 ghost use Rattle.epoch_stream.specs.Racers.{HasReturned};
 
+use crate::bell::Bells;
 use crate::deposit::{Deposit, EpochBoard};
 use dp_base::OutOfMemory;
 use epoch_pool::Job;
@@ -25,6 +26,7 @@ use sync_hints::Hints;
 pub struct Desk<'b, R: Wait> {
     rt: &'b R,
     board: &'b EpochBoard,
+    bells: &'b Bells,
     stop: &'b StopWord,
     publisher: Publisher<Job, Deposit>,
     watcher: Watcher,
@@ -60,6 +62,7 @@ impl<'b, R: Wait> JobSink for Desk<'b, R> {
         let start = mem::replace(&mut self.start, next);
         let job = job_of(&self.plan, self.limit, self.index, self.first, start, hints);
         self.board.publish(self.rt, &mut self.publisher, job);
+        self.bells.jobs.ring(self.rt);
         self.index += 1;
         self.first = 1;
         if self.index >= self.plan.jobs {
@@ -116,7 +119,14 @@ fn is_whole(answer: &Result<(), OutOfMemory>, stopped: bool) -> bool
     }
 }
 
-fn job_of(plan: &Plan, limit: u64, index: u32, first: u16, start: State, hints: Hints) -> Job
+pub(crate) fn job_of(
+    plan: &Plan,
+    limit: u64,
+    index: u32,
+    first: u16,
+    start: State,
+    hints: Hints,
+) -> Job
     ensures start { result.start ≡ start }
     ensures hints { result.hints ≡ hints }
     ensures index { result.index ≡ index }
@@ -183,6 +193,7 @@ pub fn run_racer<R: Threads + Wait + Sync, Q: Racer + Drop>(
     rt: &R,
     alloc: Global,
     board: &EpochBoard,
+    bells: &Bells,
     stop: &StopWord,
     supply: &Supply,
     plan: &Plan,
@@ -207,6 +218,7 @@ pub fn run_racer<R: Threads + Wait + Sync, Q: Racer + Drop>(
     let mut desk = Desk {
         rt,
         board,
+        bells,
         stop,
         publisher,
         watcher,
@@ -220,6 +232,8 @@ pub fn run_racer<R: Threads + Wait + Sync, Q: Racer + Drop>(
     let answer = racer.race(rt, alloc, &start, supply, plan, &mut desk);
     let stopped = desk.stopped;
     let (receipt, watcher) = desk.close(alloc, is_whole(&answer, stopped));
+    bells.jobs.ring(rt);
+    bells.results.ring(rt);
     Raced {
         end: RaceEnd {
             racer,

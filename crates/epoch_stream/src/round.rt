@@ -6,6 +6,7 @@ ghost use Rattle.racing_runner.specs.declared.offer.More.TheVariants.{Yes};
 ghost use Rattle.epoch_stream.specs.Finishing.{HasFinished};
 ghost use Rattle.epoch_stream.specs.Streams.{IsReady};
 
+use crate::bell::Bells;
 use crate::deposit::{Deposit, EpochBoard};
 use crate::hand_over::{Taken, take_all};
 use crate::race::{RaceEndOf, Raced, RacingOf};
@@ -60,6 +61,7 @@ fn in_scope<
     rt: &'s R,
     alloc: Global,
     board: &'s EpochBoard,
+    bells: &'s Bells,
     stop: &'s StopWord,
     supply: &'s Supply,
     plan: &'s Plan,
@@ -86,9 +88,11 @@ fn in_scope<
         started,
         workers,
     } = ready;
-    let racer = start_racer(scope, rt, alloc, board, stop, supply, plan, racing);
-    let started = start_all(scope, rt, alloc, board, stop, supply, gate, passes, started);
-    let taken = take_all(rt, alloc, board, supply, taker, tray);
+    let racer = start_racer(scope, rt, alloc, board, bells, stop, supply, plan, racing);
+    let started = start_all(
+        scope, rt, alloc, board, bells, stop, supply, gate, passes, started,
+    );
+    let taken = take_all(rt, alloc, board, bells, supply, taker, tray);
     stop_rest(stop, &mut stopper, &taken.end);
     let workers = join_all(rt, board, supply, started, workers);
     let Raced { end, watcher } = join_racer(rt, board, stop, supply, plan, &was, racer);
@@ -105,6 +109,7 @@ pub fn run_round<R: Threads + Wait + Sync, Q: Racer + Drop + Send, G: Gate + Syn
     rt: &R,
     alloc: Global,
     board: &EpochBoard,
+    bells: &Bells,
     stop: &StopWord,
     supply: &Supply,
     plan: &Plan,
@@ -138,7 +143,7 @@ pub fn run_round<R: Threads + Wait + Sync, Q: Racer + Drop + Send, G: Gate + Syn
             ensures { HasFinished Q.tells T.takes board.entry.now racing.racer racing.start supply.entry.now plan.entry.now taker result.taken.taker result.taken.collector result.taken.end result.raced result.workers.items }
         {
             in_scope(
-                scope, rt, alloc, board, stop, supply, plan, gate, racing, ready, taker,
+                scope, rt, alloc, board, bells, stop, supply, plan, gate, racing, ready, taker,
             )
         },
     )

@@ -3,10 +3,12 @@ ghost use Rattle.std.specs.Prelude.{◌≡◌, ◌≤◌, ◌<◌, ◌+◌, ◌^
 ghost use Rattle.dp_base.specs.declared.limits.TheConstants.{MAX_WORKERS};
 ghost use Rattle.epoch_stream.specs.Streams.{Streamed, and_then};
 
+use crate::bell::Bells;
 use crate::hand_over::Taken;
 use crate::race::{RaceEnd, Racing};
 use crate::ready::{SetUp, set_up};
 use crate::round::{Finished, run_round};
+use crate::single::run_one;
 use crate::taker::Taker;
 use disk_model::Gate;
 use dp_base::OutOfMemory;
@@ -21,7 +23,8 @@ use supply::Supply;
 /// their results in the order of the jobs, on the caller's own thread, while later ones still run. Before each job its worker passes
 /// the gate. The taker and the racer are handed back.
 ///
-/// Once the taker has enough, the racer is told so at its next offer, and no further job is begun.
+/// Once the taker has enough, the racer is told so at its next offer, and no further job is begun. A round of one job needs no thread, and no racer
+/// races in it.
 ///
 /// # Errors
 ///
@@ -43,6 +46,9 @@ pub fn stream<R: Threads + Wait + Sync, Q: Racer + Drop + Send, G: Gate + Sync, 
     requires taker { T.ready taker × (T.taken taker ≡ 0) }
     ensures { Streamed Q.tells T.takes supply.now plan.now start racer result.1 taker result.0 result.2 }
 {
+    if plan.jobs == 1 {
+        return run_one(alloc, start, racer, supply, plan, gate, taker);
+    }
     // A worker without a job needs no thread.
     let most = workers.min(plan.jobs);
     match set_up(alloc, plan.jobs, most, &start) {
@@ -55,6 +61,7 @@ pub fn stream<R: Threads + Wait + Sync, Q: Racer + Drop + Send, G: Gate + Sync, 
                 watcher,
                 ready,
             } = round;
+            let bells = Bells::new();
             let racing = Racing {
                 racer,
                 publisher,
@@ -67,7 +74,7 @@ pub fn stream<R: Threads + Wait + Sync, Q: Racer + Drop + Send, G: Gate + Sync, 
                 raced,
                 workers: all,
             } = run_round(
-                rt, alloc, &board, &stop, supply, plan, gate, racing, ready, taker,
+                rt, alloc, &board, &bells, &stop, supply, plan, gate, racing, ready, taker,
             );
             let Taken {
                 taker,

@@ -5,6 +5,7 @@ ghost use Rattle.stop_word.specs.Seats.{IsWatcherOf, has_seen};
 ghost use Rattle.epoch_stream.specs.Deposits.{AreFor, IsFor, IsSkipped};
 ghost use Rattle.epoch_stream.specs.Rounds.{IsPass, IsReturned};
 
+use crate::bell::Bells;
 use crate::deposit::{Deposit, EpochBoard};
 use disk_model::Gate;
 use epoch_pool::Job;
@@ -12,7 +13,6 @@ use epoch_runner::run_epoch;
 use job_board::{Claim, Worker};
 use std::alloc::Global;
 use std::sync::Wait;
-use std::thread;
 use stop_word::{StopWord, Watcher};
 use supply::Supply;
 
@@ -59,6 +59,7 @@ pub fn work<R: Wait, G: Gate>(
     rt: &R,
     alloc: Global,
     board: &EpochBoard,
+    bells: &Bells,
     stop: &StopWord,
     supply: &Supply,
     gate: &G,
@@ -72,7 +73,9 @@ pub fn work<R: Wait, G: Gate>(
         mut worker,
         mut watcher,
     } = pass;
+    let mut looks = 0u32;
     'jobs: for _ in rt.forever() {
+        let rings = bells.jobs.rings(rt);
         match board.claim(rt, &mut worker) {
             Claim::Job { index: _, job } => {
                 let deposit = deposit_for(
@@ -85,9 +88,14 @@ pub fn work<R: Wait, G: Gate>(
                     job,
                 );
                 board.deposit(rt, &mut worker, deposit);
+                bells.results.ring(rt);
+                looks = 0;
             }
             Claim::Stop => break,
-            Claim::Empty => thread::yield_now(),
+            Claim::Empty => {
+                bells.jobs.wait(rt, looks, rings);
+                looks = looks.saturating_add(1);
+            }
         }
     }
     Pass { worker, watcher }

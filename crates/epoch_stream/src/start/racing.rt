@@ -5,6 +5,7 @@ ghost use Rattle.stop_word.specs.Seats.{IsWatcherOf};
 ghost use Rattle.epoch_stream.specs.Racers.{HasReturned, IsRacing};
 
 use super::{RacerPromise, Racers};
+use crate::bell::Bells;
 use crate::deposit::EpochBoard;
 use crate::race::{RacedOf, RacingOf, run_racer};
 use racing_runner::{Plan, Racer};
@@ -21,6 +22,7 @@ pub fn start_racer<'s, E, R: Threads + Wait + Sync, Q: Racer + Drop + Send + 's>
     rt: &'s R,
     alloc: Global,
     board: &'s EpochBoard,
+    bells: &'s Bells,
     stop: &'s StopWord,
     supply: &'s Supply,
     plan: &'s Plan,
@@ -51,7 +53,7 @@ pub fn start_racer<'s, E, R: Threads + Wait + Sync, Q: Racer + Drop + Send + 's>
             requires nothing { published racing.publisher ≡ [] }
             requires watcher { IsWatcherOf stop.now racing.watcher }
             ensures { HasReturned Q.tells board.entry.now stop.entry.now racing supply.entry.now plan.entry.now result }
-        { run_racer(rt, alloc, board, stop, supply, plan, racing) },
+        { run_racer(rt, alloc, board, bells, stop, supply, plan, racing) },
     ) {
         Ok(handle) => Racers::There(handle),
         Err(refused) => Racers::Here((refused.value)()),

@@ -3,6 +3,7 @@ ghost use Rattle.std.specs.Prelude.{◌≡◌, ◌≤◌, [], length, vec_capaci
 ghost use Rattle.epoch_stream.specs.Rounds.{AreDone, ArePasses, AreStarted, IsPass, IsReturned, IsStarted};
 
 use super::{Started, WorkerPromise};
+use crate::bell::Bells;
 use crate::deposit::{Deposit, EpochBoard};
 use crate::work::{Pass, work};
 use disk_model::Gate;
@@ -21,6 +22,7 @@ fn start_one<'s, E, R: Threads + Wait + Sync, G: Gate + Sync>(
     rt: &'s R,
     alloc: Global,
     board: &'s EpochBoard,
+    bells: &'s Bells,
     stop: &'s StopWord,
     supply: &'s Supply,
     gate: &'s G,
@@ -40,7 +42,19 @@ fn start_one<'s, E, R: Threads + Wait + Sync, G: Gate + Sync>(
         move || -> Pass
             requires { IsPass board.now stop.now worker_number pass }
             ensures { IsReturned board.entry.now supply.entry.now worker_number result.worker }
-        { work(rt, alloc, board, stop, supply, gate, worker_number, pass) },
+        {
+            work(
+                rt,
+                alloc,
+                board,
+                bells,
+                stop,
+                supply,
+                gate,
+                worker_number,
+                pass,
+            )
+        },
     ) {
         Ok(handle) => Started::There(handle),
         Err(refused) => Started::Here((refused.value)()),
@@ -53,6 +67,7 @@ pub fn start_all<'s, E, R: Threads + Wait + Sync, G: Gate + Sync>(
     rt: &'s R,
     alloc: Global,
     board: &'s EpochBoard,
+    bells: &'s Bells,
     stop: &'s StopWord,
     supply: &'s Supply,
     gate: &'s G,
@@ -72,6 +87,7 @@ pub fn start_all<'s, E, R: Threads + Wait + Sync, G: Gate + Sync>(
             rt,
             alloc,
             board,
+            bells,
             stop,
             supply,
             gate,

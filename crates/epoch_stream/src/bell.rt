@@ -1,0 +1,66 @@
+// How a thread of a round waits for another.
+use std::sync::{Condvar, Mutex, Wait};
+use std::thread;
+
+// How often a thread that finds nothing yields its processor before it sleeps: some twenty microseconds, about as long as a wake takes.
+const LOOKS: u32 = 64;
+
+/// Wakes those that wait for something. Promises nothing: who wakes looks again.
+#[derive(Drop)]
+pub struct Bell {
+    // How often it was rung.
+    rings: Mutex<u32>,
+    rung: Condvar,
+}
+
+impl Bell {
+    pub fn new() -> Bell {
+        Bell {
+            rings: Mutex::new(0),
+            rung: Condvar::new(),
+        }
+    }
+
+    /// Wakes all that wait.
+    pub fn ring<R: Wait>(&self, rt: &R) {
+        {
+            let mut rings = self.rings.lock(rt);
+            *rings = rings.wrapping_add(1);
+        }
+        self.rung.notify_all();
+    }
+
+    /// How often it was rung. Whoever asks before a look at a queue sleeps past no ring that comes after the look.
+    pub fn rings<R: Wait>(&self, rt: &R) -> u32 {
+        *self.rings.lock(rt)
+    }
+
+    /// Waits after a look that found nothing, the so many-th in a row: yields the processor at first, and sleeps later until the bell is rung once
+    /// more than it was then.
+    pub fn wait<R: Wait>(&self, rt: &R, looks: u32, rings: u32) {
+        if looks < LOOKS {
+            thread::yield_now();
+            return;
+        }
+        drop(
+            self.rung
+                .wait_while(rt, self.rings.lock(rt), |now| *now == rings),
+        );
+    }
+}
+
+/// The bells of a round: for jobs that were published, and for results that were deposited. Both are rung at the end of the jobs.
+#[derive(Drop)]
+pub struct Bells {
+    pub jobs: Bell,
+    pub results: Bell,
+}
+
+impl Bells {
+    pub fn new() -> Bells {
+        Bells {
+            jobs: Bell::new(),
+            results: Bell::new(),
+        }
+    }
+}
