@@ -1,8 +1,8 @@
 -- What a status says, by the answer of the recording.
 use Rattle.std.proofs.Common.{◌≡◌, ◌<◌, ◌≤◌, inl, inr, arith, ℕ, List, [], length, take, Option, Some, None, Result, Ok, Err, String, refl, sym, ap, subst, ◌∙◌}
 use Rattle.std.proofs.lemmas.Bool.{cases_lt}
-use Rattle.std.proofs.lemmas.Option.{same_Some}
-use Rattle.std.specs.Prelude.{Bool, true, false, is_ok, IsErr}
+use Rattle.std.proofs.lemmas.Option.{none-some, same_Some}
+use Rattle.std.specs.Prelude.{Bool, true, false, is_ok, IsErr, ◌⊎◌}
 use Rattle.std.specs.declared.alloc.Global.{Global}
 use Rattle.dp_base.specs.Field.{AreBytes}
 use Rattle.disk_model.specs.Counts.{Rose}
@@ -27,7 +27,10 @@ use Rattle.dp_report.specs.declared.status.Status.{Status}
 use Rattle.dp_report.specs.declared.status.Status.TheVariants as statuses
 use Rattle.dp_words.specs.declared.command.Command.{Command}
 use Rattle.dp_words.specs.declared.command.Command.TheVariants.{Inspect, Record, Replay, Selftest}
-use Rattle.dp_top.specs.Answer.{status_of}
+use Rattle.elf_image.specs.Faults.{image_fault, number_of}
+use Rattle.elf_image.specs.declared.image_fault.ImageFault.{ImageFault}
+use Rattle.elf_image.specs.declared.image_fault.ImageFault.TheVariants as image_faults
+use Rattle.dp_top.specs.Answer.{status_of, status_of_image}
 use Rattle.dp_top.specs.Asking.{Asked, AskedInspection, AskedReplay, AskedSelfTest}
 use Rattle.dp_top.specs.Running.{RecordedAs, CameTo, Did, NamesGuest, IsKnownEmpty, IsNoFault}
 
@@ -52,6 +55,21 @@ came_by tells name options files i j before after guest loaded there state answe
       moments = subst (λ (s : State). EachMoment guest options.mark s i j before after) started (subst (λ (g : List ℕ). EachMoment g options.mark state i j before after) there_is moments);
     } in
     inr (inr (answer, status_is, as_))
+
+-- why a file is refused, by the fault's number
+pub why_refused : (fault : ImageFault) (file : List ℕ) → (fault ≡ image_faults.OutOfMemory) ⊎ (image_fault file ≡ number_of fault)
+    → (number_of fault ≡ None) ⊎ (image_fault file ≡ number_of fault)
+why_refused fault file (inl lost) = inl (ap number_of lost)
+why_refused fault file (inr refused) = inr refused
+
+-- the guest that was fetched is refused by the fault of this number, or by none: memory ran out
+pub came_refused : (tells : Tells) (name : List ℕ) (options : Options) (files : Option (List File)) (i j : Option Input) (before after : Option History) (guest loaded : List ℕ) (number : Option ℕ) (status : Status)
+    → IsFetched files name guest → loaded ≡ guest → status ≡ status_of_image number → (number ≡ None) ⊎ (image_fault loaded ≡ number)
+    → j ≡ i → after ≡ before → CameTo tells name options files i j before after status
+came_refused tells name options files i j before after guest loaded None status fetched loaded_is status_is why kept same = inl (inr status_is, kept, same)
+came_refused tells name options files i j before after guest loaded (Some fault) status fetched loaded_is status_is (inl none) kept same = absurd (none-some fault (sym none))
+came_refused tells name options files i j before after guest loaded (Some fault) status fetched loaded_is status_is (inr refused) kept same =
+    inr (inl (guest, fault, status_is, fetched, subst (λ (file : List ℕ). image_fault file ≡ Some fault) loaded_is refused, kept, same))
 
 -- ---- the counts of faults at Ok
 

@@ -2,7 +2,9 @@
 use Rattle.std.proofs.Common.{◌≡◌, ◌⊎◌, inl, inr, ℕ, zero, suc, ◌+◌, ◌-◌, List, [], ◌∷◌, length, slice_get, take, Option, Some, None, Result, Ok, Err, refl, sym, ap, subst, ◌∙◌, arith}
 use Rattle.dp_base.specs.declared.out_of_memory.OutOfMemory.{OutOfMemory}
 use Rattle.epoch_pool.specs.declared.job.Job.{Job}
+use Rattle.epoch_runner.specs.declared.epoch_run.EpochRun.{EpochRun}
 use Rattle.epoch_runner.specs.declared.epoch_run.Ran.{Ran}
+use Rattle.epoch_runner.specs.declared.epoch_run.Ran.TheVariants.{Epoch}
 use Rattle.guest_kernel.specs.declared.state.State.{State}
 use Rattle.racing_runner.specs.declared.offer.More.{More}
 use Rattle.racing_runner.specs.declared.offer.More.TheVariants.{Enough, Yes}
@@ -22,6 +24,10 @@ told_none racer plan one (Some list) = let none : 0 ≡ plan.jobs - 1 = omega (a
 have_one : (supply : Supplied) (job : Job) (ran : Ran) → IsResultOf supply job ran → HaveJobs supply ((1, job) ∷ []) (ran ∷ [])
 have_one supply job ran is zero x e = let same : ran ≡ x = cc in (job, refl, subst (IsResultOf supply job) same is)
 have_one supply job ran is (suc k) x e = absurd cc
+
+-- an epoch starts where its job does
+pub starts_there : (supply : Supplied) (job : Job) (ran : Ran) (run : EpochRun) → IsResultOf supply job ran → ran ≡ Epoch run → run.start ≡ job.start
+starts_there supply job ran run is same = (subst (IsResultOf supply job) same is).from
 
 module _ {Q T : Type 0} (tells : Q → Tells) (takes : T → Ran → More → T → Type 0) (supply : Supplied) (plan : Plan) (start : State) (racer : Q) (taker after : T) (one : plan.jobs ≡ 1) where
   -- it was taken

@@ -27,6 +27,7 @@ pub fn run_one<Q: Racer + Drop, G: Gate, T: Taker + Drop>(
     requires one { plan.now.jobs ≡ 1 }
     requires countable { start.steps + plan.now.left < 2 ^ 63 }
     requires taker { T.ready taker × (T.taken taker ≡ 0) }
+    requires expected { T.expects taker start }
     ensures { Streamed Q.tells T.takes supply.now plan.now start racer result.1 taker result.0 result.2 }
 {
     let mut taker = taker;
@@ -41,7 +42,7 @@ pub fn run_one<Q: Racer + Drop, G: Gate, T: Taker + Drop>(
     } = job;
     match run_epoch(alloc, start, &hints, supply, bounds) {
         Ok(ran) => {
-            taker.take(ran);
+            taker.take_known(ran);
             (taker, racer, Ok(()))
         }
         Err(error) => (taker, racer, Err(error)),

@@ -44,6 +44,7 @@ pub fn stream<R: Threads + Wait + Sync, Q: Racer + Drop + Send, G: Gate + Sync, 
     requires few { workers ≤ MAX_WORKERS }
     requires countable { start.steps + plan.now.left < 2 ^ 63 }
     requires taker { T.ready taker × (T.taken taker ≡ 0) }
+    requires expected { T.expects taker start }
     ensures { Streamed Q.tells T.takes supply.now plan.now start racer result.1 taker result.0 result.2 }
 {
     if plan.jobs == 1 {

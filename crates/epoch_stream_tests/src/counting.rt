@@ -42,6 +42,8 @@ impl<'a> Taker for Counting<'a> {
 
     ghost ready = { λ taker. ⊤ };
 
+    ghost expects = { λ taker start. ⊤ };
+
     ghost taken = { λ taker. taker.taken };
 
     fn take(&mut self, ran: Ran) -> More {
@@ -61,5 +63,9 @@ impl<'a> Taker for Counting<'a> {
         } else {
             More::Yes
         }
+    }
+
+    fn take_known(&mut self, ran: Ran) -> More {
+        self.take(ran)
     }
 }

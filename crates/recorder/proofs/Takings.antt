@@ -138,6 +138,13 @@ module _ (core told : Core) (j : Journal) (ran : Ran) (ready : IsReady core j) (
       let going : told.closed ≡ false = ap (λ (c : Core). c.closed) told_is ∙ ready.not_closed in
       subst (λ s. JudgesNext told s verdict there) next_stage (subst (λ b. JudgesWhere b told verdict there) going judged)
 
+  -- a result that starts in the committed state does so when it is judged
+  pub starts_known : (run : EpochRun) → slice_get told.jobs told.judged ≡ Some (Taken (Epoch run)) → ((r : EpochRun) → ran ≡ Epoch r → r.start ≡ core.committed) → run.start ≡ told.committed
+  starts_known run found known =
+      let both : Some (Taken ran) ≡ Some (Taken (Epoch run)) = sym next_stage ∙ found in
+      let same : ran ≡ Epoch run = cc in
+      known run same ∙ sym (ap (λ (c : Core). c.committed) told_is)
+
   pub commit_of : (epoch : records.Epoch) (out : List ℕ) (there : Core) → HasJudged told (Commit epoch out) there → IsCommitOf core told ran epoch out there
   commit_of epoch out there judged = by_result ran refl (judged_so (Commit epoch out) there judged)
     where

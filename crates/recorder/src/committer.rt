@@ -42,6 +42,8 @@ impl<W: World + Drop> Taker for Committer<W> {
 
     ghost ready = { λ c. IsReady c.core c.journal × (length c.core.jobs ≡ c.taken) };
 
+    ghost expects = { λ c start. start ≡ c.core.committed };
+
     ghost taken = { λ c. c.taken };
 
     fn take(&mut self, ran: Ran) -> More {
@@ -55,6 +57,23 @@ impl<W: World + Drop> Taker for Committer<W> {
             self.every,
             self.taken,
             ran,
+            false,
+        );
+        more_after(&self.last)
+    }
+
+    fn take_known(&mut self, ran: Ran) -> More {
+        self.taken += 1;
+        self.last = commit_next(
+            self.alloc,
+            &mut self.core,
+            &mut self.journal,
+            &mut self.world,
+            &mut self.tally,
+            self.every,
+            self.taken,
+            ran,
+            true,
         );
         more_after(&self.last)
     }

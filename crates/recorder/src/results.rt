@@ -8,7 +8,9 @@ ghost use Rattle.epoch_record.specs.Epoch.{epoch_of};
 ghost use Rattle.recorder.specs.EpochLaws.{EpochLaws};
 ghost use Rattle.recorder.specs.Faults.{MetNoOther};
 ghost use Rattle.checkpoint.specs.State.{IsEncodable};
-ghost use Rattle.commit_core.specs.Judging.{Core};
+ghost use Rattle.commit_core.specs.Judging.{Core, HasApplied};
+ghost use Rattle.epoch_runner.specs.declared.epoch_run.EpochRun.{EpochRun};
+ghost use Rattle.epoch_runner.specs.declared.epoch_run.Ran.TheVariants as rans;
 ghost use Rattle.recorder.specs.Keeping.{InRound, IsMarkFrame, IsReady, MarkSays, StepSays, Within};
 
 use crate::commit::commit_epoch;
@@ -37,8 +39,8 @@ fn take_one(core: &mut Core, number: u32, ran: Ran)
     core.apply(Event::Take(number, ran));
 }
 
-// Judges the result of the next job. Where its epoch is to be committed its record is appended, then its output is sent, and then the mark is
-// appended that is due. All memory is taken before.
+// Judges the result of the next job. If its epoch is to be committed its record is appended, then its output is sent, and then the mark is
+// appended that is due. All memory is taken before. An epoch that is known to start in the committed state isn't compared with it.
 pub(crate) fn commit_next<W: World>(
     alloc: Global,
     core: &mut Core,
@@ -48,10 +50,12 @@ pub(crate) fn commit_next<W: World>(
     every: u32,
     number: u32,
     ran: Ran,
+    is_known: bool,
 ) -> Result<Next, RecordFault>
     requires ready { IsReady core.old journal.old }
     requires number { number ≡ length core.old.jobs + 1 }
     requires room { number ≤ MAX_JOBS }
+    requires known { is_known ≡ true → (run : EpochRun) → ran ≡ rans.Epoch run → run.start ≡ core.old.committed }
     ensures says { (a : InRound) → a.setting.options.mark ≡ every → Within true a (W.history world.old) core.old journal.old tally.old →
         slice_get a.results (length core.old.jobs) ≡ Some ran → StepSays a (W.history world.new) core.new journal.new tally.new result }
     ensures goes { IfOk result (λ next. next ≡ Next.Committed → IsReady core.new journal.new × (length core.new.jobs ≡ number)) }
@@ -68,7 +72,7 @@ pub(crate) fn commit_next<W: World>(
     commit_core::laws::a_round_commits_what_joins_on();
     epoch_laws();
     take_one(core, number, ran);
-    match core.apply(Event::Judge) {
+    match judge_next(core, is_known) {
         Verdict::Commit { epoch, out } => {
             let frame = frame_of(alloc, &epoch)?;
             let since = tally.since.saturating_add(1);
@@ -83,6 +87,18 @@ pub(crate) fn commit_next<W: World>(
         Verdict::Over { .. } => Ok(Next::Over),
         // A result that was taken just now has no other verdict.
         _ => unreachable!(),
+    }
+}
+
+// Judges the next result. The start of an epoch isn't compared if it is known to be the committed state.
+fn judge_next(core: &mut Core, is_known: bool) -> Verdict
+    requires { is_known ≡ true → (run : EpochRun) → slice_get core.old.jobs core.old.judged ≡ Some (Taken (rans.Epoch run)) → run.start ≡ core.old.committed }
+    ensures { HasApplied core.old Event.Judge result core.new }
+{
+    if is_known {
+        core.judge_known()
+    } else {
+        core.apply(Event::Judge)
     }
 }
 

@@ -18,17 +18,21 @@ use Rattle.recorder.specs.Committing.{Committed}
 use Rattle.recorder.specs.Keeping.{IsMarkFrame, IsOver}
 use Rattle.recorder.specs.Recording.{first_behind}
 use Rattle.recorder.proofs.RoundRuns.{commit_failed, committed, few_written, is_over, low_here, no_memory}
-use Rattle.recorder.proofs.Takings.{commit_of, encodable_there, few_counts, is_body_of, is_epoch_of, judged_so, one_more, ready_there, taken_in}
+use Rattle.recorder.proofs.Takings.{commit_of, encodable_there, few_counts, is_body_of, is_epoch_of, judged_so, one_more, ready_there, starts_known, taken_in}
 use Rattle.recorder.proofs.results.commit_next.Goals as goal
+
+pub judge_next-requires : goal.judge_next-requires
+judge_next-requires g c = λ known run e.
+    starts_known c.args.core.now c.take_one.new.core c.args.journal.now c.args.ran c.requires.ready c.take_one.ensures run e (c.requires.known known)
 
 pub frame_of-requires-clause-epoch : goal.frame_of-requires-clause-epoch
 frame_of-requires-clause-epoch g c =
-    let k = (commit_of c.args.core.now c.take_one.new.core c.args.journal.now c.args.ran c.requires.ready c.take_one.ensures c.in-Commit.epoch c.in-Commit.out c.apply.new.self c.in-Commit.ensures) in
+    let k = (commit_of c.args.core.now c.take_one.new.core c.args.journal.now c.args.ran c.requires.ready c.take_one.ensures c.in-Commit.epoch c.in-Commit.out c.judge_next.new.core c.in-Commit.ensures) in
     subst (λ (e : Epoch). IsEpoch (epoch_of e)) (sym k.epoch_is) (is_epoch_of k.run)
 
 pub frame_of-requires-clause-fits : goal.frame_of-requires-clause-fits
 frame_of-requires-clause-fits g c =
-    let k = (commit_of c.args.core.now c.take_one.new.core c.args.journal.now c.args.ran c.requires.ready c.take_one.ensures c.in-Commit.epoch c.in-Commit.out c.apply.new.self c.in-Commit.ensures) in
+    let k = (commit_of c.args.core.now c.take_one.new.core c.args.journal.now c.args.ran c.requires.ready c.take_one.ensures c.in-Commit.epoch c.in-Commit.out c.judge_next.new.core c.in-Commit.ensures) in
     subst (λ (e : Epoch). IsBody (epoch_body (epoch_of e))) (sym k.epoch_is) (is_body_of k.run)
 
 pub returns-in_err-frame-in-Commit-clause-says : goal.returns-in_err-frame-in-Commit-clause-says
@@ -39,10 +43,10 @@ returns-in_err-frame-in-Commit-clause-says g c = λ a is w next.
 
 pub mark_frame-requires : goal.mark_frame-requires
 mark_frame-requires g c =
-    let k = (commit_of c.args.core.now c.take_one.new.core c.args.journal.now c.args.ran c.requires.ready c.take_one.ensures c.in-Commit.epoch c.in-Commit.out c.apply.new.self c.in-Commit.ensures) in
+    let k = (commit_of c.args.core.now c.take_one.new.core c.args.journal.now c.args.ran c.requires.ready c.take_one.ensures c.in-Commit.epoch c.in-Commit.out c.judge_next.new.core c.in-Commit.ensures) in
     let number = c.requires.number in
     let room = c.requires.room in
-    subst IsEncodable (sym (c.committed.ensures ∙ ap (λ (d : Core). d.committed) k.there_is)) (encodable_there c.args.core.now c.take_one.new.core c.args.journal.now c.args.ran c.requires.ready c.take_one.ensures c.in-Commit.epoch c.in-Commit.out c.apply.new.self k c.epoch_laws.ensures (omega (arith, number, room)))
+    subst IsEncodable (sym (c.committed.ensures ∙ ap (λ (d : Core). d.committed) k.there_is)) (encodable_there c.args.core.now c.take_one.new.core c.args.journal.now c.args.ran c.requires.ready c.take_one.ensures c.in-Commit.epoch c.in-Commit.out c.judge_next.new.core k c.epoch_laws.ensures (omega (arith, number, room)))
 
 pub returns-in_err-mark-in-Commit-clause-says : goal.returns-in_err-mark-in-Commit-clause-says
 returns-in_err-mark-in-Commit-clause-says g c = λ a is w next.
@@ -53,33 +57,33 @@ returns-in_err-mark-in-Commit-clause-says g c = λ a is w next.
 pub returns-in_err-commit_epoch-in-Commit-clause-says : goal.returns-in_err-commit_epoch-in-Commit-clause-says
 returns-in_err-commit_epoch-in-Commit-clause-says g c = λ a is w next.
     let here = (taken_in a _ c.args.core.now c.args.journal.now c.args.tally.now w c.requires.ready.judged c.args.ran next c.take_one.new.core c.take_one.ensures) in
-    let s = c.a_round_commits_what_joins_on.ensures.judged here.run.end here.results here.runs c.take_one.new.core c.apply.new.self (Commit c.in-Commit.epoch c.in-Commit.out) here.judged c.in-Commit.ensures in
+    let s = c.a_round_commits_what_joins_on.ensures.judged here.run.end here.results here.runs c.take_one.new.core c.judge_next.new.core (Commit c.in-Commit.epoch c.in-Commit.out) here.judged c.in-Commit.ensures in
     let p = err_from_is_err_and c.from_residual-in_err-commit_epoch-in-Commit.result c.from_residual-in_err-commit_epoch-in-Commit.ensures.1 in
     let fault = c.in_err-commit_epoch-in-Commit.field-0.0 in
     let added = c.in_ok-frame-in-Commit.frame in
     let framed = c.in_ok-frame-in-Commit.ensures.frame ∙ ap (λ (e : Epoch). frame (epoch_body (epoch_of e))) s.1.0 in
     let known = subst (λ (l : List ℕ). IfKnown (Committed c.args.journal.now added l (Err fault)) (g.W.World.history c.args.world.now) (g.W.World.history c.commit_epoch.new.world)) s.1.1.0 c.in_err-commit_epoch-in-Commit.ensures.history in
-    rw (p.1 ∙ ap (λ e. Err e) p.2) (commit_failed a _ c.take_one.new.core c.args.journal.now c.args.tally.now here c.epoch_laws.ensures s.0 c.apply.new.self s.1.1.1.1 s.1.1.1.0 added framed c.commit_epoch.new.journal _ fault c.in_err-commit_epoch-in-Commit.ensures.numbers known)
+    rw (p.1 ∙ ap (λ e. Err e) p.2) (commit_failed a _ c.take_one.new.core c.args.journal.now c.args.tally.now here c.epoch_laws.ensures s.0 c.judge_next.new.core s.1.1.1.1 s.1.1.1.0 added framed c.commit_epoch.new.journal _ fault c.in_err-commit_epoch-in-Commit.ensures.numbers known)
 
 pub returns-in_err-append_mark-in-Commit-clause-says : goal.returns-in_err-append_mark-in-Commit-clause-says
 returns-in_err-append_mark-in-Commit-clause-says g c = λ a is w next.
     let here = (taken_in a _ c.args.core.now c.args.journal.now c.args.tally.now w c.requires.ready.judged c.args.ran next c.take_one.new.core c.take_one.ensures) in
-    let s = c.a_round_commits_what_joins_on.ensures.judged here.run.end here.results here.runs c.take_one.new.core c.apply.new.self (Commit c.in-Commit.epoch c.in-Commit.out) here.judged c.in-Commit.ensures in
+    let s = c.a_round_commits_what_joins_on.ensures.judged here.run.end here.results here.runs c.take_one.new.core c.judge_next.new.core (Commit c.in-Commit.epoch c.in-Commit.out) here.judged c.in-Commit.ensures in
     let added = c.in_ok-frame-in-Commit.frame in
     let framed = c.in_ok-frame-in-Commit.ensures.frame ∙ ap (λ (e : Epoch). frame (epoch_body (epoch_of e))) s.1.0 in
     let known = subst (λ (l : List ℕ). IfKnown (Committed c.args.journal.now added l (Ok tt)) (g.W.World.history c.args.world.now) (g.W.World.history c.commit_epoch.new.world)) s.1.1.0 c.in_ok-commit_epoch-in-Commit.ensures.history in
-    let low = subst (AllByRecursion (λ (x : Slice). x.tid.0 < 65535)) (sym (c.as_slice.ensures ∙ ap (λ (e : Epoch). (epoch_of e).slices) s.1.0)) (low_here a _ c.take_one.new.core c.args.journal.now c.args.tally.now here c.epoch_laws.ensures s.0 c.apply.new.self s.1.1.1.1 s.1.1.1.0) in
+    let low = subst (AllByRecursion (λ (x : Slice). x.tid.0 < 65535)) (sym (c.as_slice.ensures ∙ ap (λ (e : Epoch). (epoch_of e).slices) s.1.0)) (low_here a _ c.take_one.new.core c.args.journal.now c.args.tally.now here c.epoch_laws.ensures s.0 c.judge_next.new.core s.1.1.1.1 s.1.1.1.0) in
     let few = few_counts a _ c.take_one.new.core c.args.journal.now c.args.tally.now here in
-    let written = few_written a _ c.take_one.new.core c.args.journal.now c.args.tally.now here c.epoch_laws.ensures s.0 c.apply.new.self s.1.1.1.1 s.1.1.1.0 in
+    let written = few_written a _ c.take_one.new.core c.args.journal.now c.args.tally.now here c.epoch_laws.ensures s.0 c.judge_next.new.core s.1.1.1.1 s.1.1.1.0 in
     let size : c.len.result ≡ length s.0.out = c.len.ensures ∙ ap (λ (l : List ℕ). length l) s.1.1.0 in
-    let within = committed a _ c.take_one.new.core c.args.journal.now c.args.tally.now here c.epoch_laws.ensures s.0 c.apply.new.self s.1.1.1.1 s.1.1.1.0 added framed c.commit_epoch.new.journal _ c.in_ok-frame-in-Commit.ensures.some
+    let within = committed a _ c.take_one.new.core c.args.journal.now c.args.tally.now here c.epoch_laws.ensures s.0 c.judge_next.new.core s.1.1.1.1 s.1.1.1.0 added framed c.commit_epoch.new.journal _ c.in_ok-frame-in-Commit.ensures.some
     c.in_ok-commit_epoch-in-Commit.ensures.numbers known c.count.new.self
     (c.count.ensures.first low ∙ ap (λ xs. first_behind c.args.tally.now.first xs) (c.as_slice.ensures ∙ ap (λ (e : Epoch). (epoch_of e).slices) s.1.0))
     (c.count.ensures.epochs (omega (arith, few.0)))
     (c.count.ensures.sent (omega (arith, few.0, few.1, few.2, written, size)) ∙ omega (arith, size))
     (c.count.ensures.since (omega (arith, few.0, few.2))) in
     let since_is : c.saturating_add-since.result ≡ c.count.new.self.since = omega (arith, c.saturating_add-since.ensures, c.count.ensures.since (omega (arith, few.0, few.2)), few.0, few.2) in
-    let due = subst (λ (n : ℕ). IsMarkFrame n c.count.new.self.since c.apply.new.self.committed c.in_ok-mark-in-Commit.mark) (sym is)
+    let due = subst (λ (n : ℕ). IsMarkFrame n c.count.new.self.since c.judge_next.new.core.committed c.in_ok-mark-in-Commit.mark) (sym is)
     (subst (λ (s : State). IsMarkFrame c.args.every c.count.new.self.since s c.in_ok-mark-in-Commit.mark) c.committed.ensures
     (subst (λ (n : ℕ). IsMarkFrame c.args.every n c.committed.result.now c.in_ok-mark-in-Commit.mark) since_is c.in_ok-mark-in-Commit.ensures)) in
     let p = err_from_is_err_and c.from_residual-in_err-append_mark-in-Commit.result c.from_residual-in_err-append_mark-in-Commit.ensures.1 in
@@ -88,33 +92,33 @@ returns-in_err-append_mark-in-Commit-clause-says g c = λ a is w next.
 pub returns-in_ok-append_mark-in-Commit-clause-says : goal.returns-in_ok-append_mark-in-Commit-clause-says
 returns-in_ok-append_mark-in-Commit-clause-says g c = λ a is w next.
     let here = (taken_in a _ c.args.core.now c.args.journal.now c.args.tally.now w c.requires.ready.judged c.args.ran next c.take_one.new.core c.take_one.ensures) in
-    let s = c.a_round_commits_what_joins_on.ensures.judged here.run.end here.results here.runs c.take_one.new.core c.apply.new.self (Commit c.in-Commit.epoch c.in-Commit.out) here.judged c.in-Commit.ensures in
+    let s = c.a_round_commits_what_joins_on.ensures.judged here.run.end here.results here.runs c.take_one.new.core c.judge_next.new.core (Commit c.in-Commit.epoch c.in-Commit.out) here.judged c.in-Commit.ensures in
     let added = c.in_ok-frame-in-Commit.frame in
     let framed = c.in_ok-frame-in-Commit.ensures.frame ∙ ap (λ (e : Epoch). frame (epoch_body (epoch_of e))) s.1.0 in
     let known = subst (λ (l : List ℕ). IfKnown (Committed c.args.journal.now added l (Ok tt)) (g.W.World.history c.args.world.now) (g.W.World.history c.commit_epoch.new.world)) s.1.1.0 c.in_ok-commit_epoch-in-Commit.ensures.history in
-    let low = subst (AllByRecursion (λ (x : Slice). x.tid.0 < 65535)) (sym (c.as_slice.ensures ∙ ap (λ (e : Epoch). (epoch_of e).slices) s.1.0)) (low_here a _ c.take_one.new.core c.args.journal.now c.args.tally.now here c.epoch_laws.ensures s.0 c.apply.new.self s.1.1.1.1 s.1.1.1.0) in
+    let low = subst (AllByRecursion (λ (x : Slice). x.tid.0 < 65535)) (sym (c.as_slice.ensures ∙ ap (λ (e : Epoch). (epoch_of e).slices) s.1.0)) (low_here a _ c.take_one.new.core c.args.journal.now c.args.tally.now here c.epoch_laws.ensures s.0 c.judge_next.new.core s.1.1.1.1 s.1.1.1.0) in
     let few = few_counts a _ c.take_one.new.core c.args.journal.now c.args.tally.now here in
-    let written = few_written a _ c.take_one.new.core c.args.journal.now c.args.tally.now here c.epoch_laws.ensures s.0 c.apply.new.self s.1.1.1.1 s.1.1.1.0 in
+    let written = few_written a _ c.take_one.new.core c.args.journal.now c.args.tally.now here c.epoch_laws.ensures s.0 c.judge_next.new.core s.1.1.1.1 s.1.1.1.0 in
     let size : c.len.result ≡ length s.0.out = c.len.ensures ∙ ap (λ (l : List ℕ). length l) s.1.1.0 in
-    let within = committed a _ c.take_one.new.core c.args.journal.now c.args.tally.now here c.epoch_laws.ensures s.0 c.apply.new.self s.1.1.1.1 s.1.1.1.0 added framed c.commit_epoch.new.journal _ c.in_ok-frame-in-Commit.ensures.some
+    let within = committed a _ c.take_one.new.core c.args.journal.now c.args.tally.now here c.epoch_laws.ensures s.0 c.judge_next.new.core s.1.1.1.1 s.1.1.1.0 added framed c.commit_epoch.new.journal _ c.in_ok-frame-in-Commit.ensures.some
     c.in_ok-commit_epoch-in-Commit.ensures.numbers known c.count.new.self
     (c.count.ensures.first low ∙ ap (λ xs. first_behind c.args.tally.now.first xs) (c.as_slice.ensures ∙ ap (λ (e : Epoch). (epoch_of e).slices) s.1.0))
     (c.count.ensures.epochs (omega (arith, few.0)))
     (c.count.ensures.sent (omega (arith, few.0, few.1, few.2, written, size)) ∙ omega (arith, size))
     (c.count.ensures.since (omega (arith, few.0, few.2))) in
     let since_is : c.saturating_add-since.result ≡ c.count.new.self.since = omega (arith, c.saturating_add-since.ensures, c.count.ensures.since (omega (arith, few.0, few.2)), few.0, few.2) in
-    let due = subst (λ (n : ℕ). IsMarkFrame n c.count.new.self.since c.apply.new.self.committed c.in_ok-mark-in-Commit.mark) (sym is)
+    let due = subst (λ (n : ℕ). IsMarkFrame n c.count.new.self.since c.judge_next.new.core.committed c.in_ok-mark-in-Commit.mark) (sym is)
     (subst (λ (s : State). IsMarkFrame c.args.every c.count.new.self.since s c.in_ok-mark-in-Commit.mark) c.committed.ensures
     (subst (λ (n : ℕ). IsMarkFrame c.args.every n c.committed.result.now c.in_ok-mark-in-Commit.mark) since_is c.in_ok-mark-in-Commit.ensures)) in
     c.in_ok-append_mark-in-Commit.ensures.says a _ within due
 
 pub returns-in_ok-append_mark-in-Commit-clause-goes : goal.returns-in_ok-append_mark-in-Commit-clause-goes
 returns-in_ok-append_mark-in-Commit-clause-goes g c = λ committed.
-    let k = (commit_of c.args.core.now c.take_one.new.core c.args.journal.now c.args.ran c.requires.ready c.take_one.ensures c.in-Commit.epoch c.in-Commit.out c.apply.new.self c.in-Commit.ensures) in
+    let k = (commit_of c.args.core.now c.take_one.new.core c.args.journal.now c.args.ran c.requires.ready c.take_one.ensures c.in-Commit.epoch c.in-Commit.out c.judge_next.new.core c.in-Commit.ensures) in
     let number = c.requires.number in
     let room = c.requires.room in
-    let more = one_more c.args.core.now c.take_one.new.core c.args.journal.now c.args.ran c.requires.ready c.take_one.ensures c.in-Commit.epoch c.in-Commit.out c.apply.new.self k in
-    (ready_there c.args.core.now c.take_one.new.core c.args.journal.now c.args.ran c.requires.ready c.take_one.ensures c.in-Commit.epoch c.in-Commit.out c.apply.new.self k c.epoch_laws.ensures (omega (arith, number, room)) c.append_mark.new.journal c.in_ok-append_mark-in-Commit.ensures.works, more ∙ sym number)
+    let more = one_more c.args.core.now c.take_one.new.core c.args.journal.now c.args.ran c.requires.ready c.take_one.ensures c.in-Commit.epoch c.in-Commit.out c.judge_next.new.core k in
+    (ready_there c.args.core.now c.take_one.new.core c.args.journal.now c.args.ran c.requires.ready c.take_one.ensures c.in-Commit.epoch c.in-Commit.out c.judge_next.new.core k c.epoch_laws.ensures (omega (arith, number, room)) c.append_mark.new.journal c.in_ok-append_mark-in-Commit.ensures.works, more ∙ sym number)
 
 pub returns-in_ok-append_mark-in-Commit-clause-others : goal.returns-in_ok-append_mark-in-Commit-clause-others
 returns-in_ok-append_mark-in-Commit-clause-others g c = λ input. (
@@ -126,11 +130,11 @@ returns-in_ok-append_mark-in-Commit-clause-others g c = λ input. (
 pub returns-in-Squash-clause-says : goal.returns-in-Squash-clause-says
 returns-in-Squash-clause-says g c = λ a is w next.
     let here = (taken_in a _ c.args.core.now c.args.journal.now c.args.tally.now w c.requires.ready.judged c.args.ran next c.take_one.new.core c.take_one.ensures) in
-    let s = c.a_round_commits_what_joins_on.ensures.judged here.run.end here.results here.runs c.take_one.new.core c.apply.new.self (Squash c.in-Squash.i) here.judged c.in-Squash.ensures in
-    is_over a _ c.take_one.new.core c.args.journal.now c.args.tally.now here c.apply.new.self squashed s.1 (λ up. absurd cc)
+    let s = c.a_round_commits_what_joins_on.ensures.judged here.run.end here.results here.runs c.take_one.new.core c.judge_next.new.core (Squash c.in-Squash.i) here.judged c.in-Squash.ensures in
+    is_over a _ c.take_one.new.core c.args.journal.now c.args.tally.now here c.judge_next.new.core squashed s.1 (λ up. absurd cc)
 
 pub returns-in-Over-clause-says : goal.returns-in-Over-clause-says
 returns-in-Over-clause-says g c = λ a is w next.
     let here = (taken_in a _ c.args.core.now c.args.journal.now c.args.tally.now w c.requires.ready.judged c.args.ran next c.take_one.new.core c.take_one.ensures) in
-    let s = c.a_round_commits_what_joins_on.ensures.judged here.run.end here.results here.runs c.take_one.new.core c.apply.new.self (Over c.in-Over.i) here.judged c.in-Over.ensures in
-    subst (λ (n : ℕ). IsOver a n (g.W.World.history c.args.world.now) c.apply.new.self c.args.journal.now c.args.tally.now) (omega arith) (is_over a _ c.take_one.new.core c.args.journal.now c.args.tally.now here c.apply.new.self over s.1 (λ up. absurd cc))
+    let s = c.a_round_commits_what_joins_on.ensures.judged here.run.end here.results here.runs c.take_one.new.core c.judge_next.new.core (Over c.in-Over.i) here.judged c.in-Over.ensures in
+    subst (λ (n : ℕ). IsOver a n (g.W.World.history c.args.world.now) c.judge_next.new.core c.args.journal.now c.args.tally.now) (omega arith) (is_over a _ c.take_one.new.core c.args.journal.now c.args.tally.now here c.judge_next.new.core over s.1 (λ up. absurd cc))
