@@ -22,7 +22,7 @@ many=$(mktemp -d -p /dev/shm 2>/dev/null || mktemp -d) || exit 1
 trap 'rm -rf "$work" "$many"' EXIT
 cd "$work" || exit 1
 
-checks=1352 # how many there are below; one that isn't made must be missed
+checks=1353 # how many there are below; one that isn't made must be missed
 passed=0
 failed=0
 
@@ -302,6 +302,44 @@ check "a folder as a guest: a journal is left" is_missing folder.dpj
 run record "$guests/hello.c" text.dpj </dev/null
 check "a text as a guest: the status is $status, not BadImage" ended_with 4
 check "a text as a guest: another line" note_has "dpcli: guest refused: 2 NotElf"
+
+# Devices and pipes as guests: their bytes count.
+run record /dev/null device.dpj </dev/null
+check "the null device as a guest: the status is $status, not BadImage" ended_with 4
+check "the null device as a guest: another line" note_has "dpcli: guest refused: 2 NotElf"
+run record /dev/zero device.dpj </dev/null
+check "an endless device as a guest: the status is $status, not BadImage" ended_with 4
+check "an endless device as a guest: another line" note_has "dpcli: guest refused: 1 TooLong"
+check "devices as guests: a journal is left" is_missing device.dpj
+mkfifo guest_pipe
+cat "$guests/hello.elf" >guest_pipe &
+run record guest_pipe guest_pipe.dpj </dev/null
+wait $!
+check "a pipe as a guest: the status is $status" ended_with 0
+replays "a pipe as a guest" guest_pipe.dpj "$guests/hello.out"
+
+# A folder that takes no file, and a device as the journal.
+run record "$guests/hello.elf" /proc/hello.dpj </dev/null
+check "a journal in a folder that takes none: the status is $status, not DiskFault" ended_with 6
+check "a journal in a folder that takes none: some output" is_empty out
+run record "$guests/hello.elf" /dev/null </dev/null
+check "a device as the journal: the status is $status, not DiskFault" ended_with 6
+check "a device as the journal: some output" is_empty out
+run replay /dev/zero
+check "the replay of a device: the status is $status, not DiskFault" ended_with 6
+
+# Few file descriptors. A recording holds three streams, its journal, and one file more for a moment.
+for number in 3 4 5 6; do
+  rm -f few.dpj
+  status=$(ulimit -n "$number" && timeout 60 "$dpcli" record "$guests/hello.elf" few.dpj >out 2>note </dev/null; echo $?)
+  case $number in
+    3) expected=3 ;;
+    *) expected=6 ;;
+  esac
+  ((number < 6)) || expected=0
+  check "$number file descriptors: the status is $status, not $expected" ended_with "$expected"
+done
+replays "six file descriptors" few.dpj "$guests/hello.out"
 
 run replay nobody.dpj
 check "the replay of no file: the status is $status, not DiskFault" ended_with 6
@@ -748,6 +786,8 @@ done
 # record_many FOLDER NAME COUNT INPUT OPTIONS..: records a guest COUNT times, and replays each recording. Leaves in the folder's file `right`
 # how many were right, and how many squashes they had: recording and replay end with 0, send the same, and report the same but for the
 # squashes. Each output is right if the command in $is_right says so of its file. Leaves in `why` what was wrong with the first other one.
+# $processors, if it isn't empty, is a list of processors on which the program may run.
+processors=
 record_many() {
   local folder=$1 guest=$2 count=$3 input=$4 number right=0 squashes=0 recorded replayed line
   shift 4
@@ -755,7 +795,7 @@ record_many() {
   : >"$folder/why"
   for ((number = 0; number < count; number++)); do
     rm -f "$folder/journal"
-    timeout 60 "$dpcli" record "$guest" "$folder/journal" "$@" >"$folder/out" 2>"$folder/note" <"$input"
+    timeout 60 ${processors:+taskset -c "$processors"} "$dpcli" record "$guest" "$folder/journal" "$@" >"$folder/out" 2>"$folder/note" <"$input"
     recorded=$?
     timeout 60 "$dpcli" replay "$folder/journal" --workers "$((1 + number % 4))" >"$folder/replayed" 2>"$folder/again" </dev/null
     replayed=$?
@@ -818,6 +858,24 @@ done
 wait
 sum_up "${folders[@]}"
 check "a thousand recordings of guests that race: $right were right; $why" test "$right" = 1008
+
+# Sixty-four workers, the racing run's threads and the committer on one processor. They wait for each other, and none of them in vain.
+folders=()
+processors=$(taskset -cp $$ | sed -E 's/.*: ([0-9]+).*/\1/')
+for name in counter_locked producer_consumer words; do
+  is_right="is_output_of $name"
+  input=/dev/null
+  [[ ! -e $guests/$name.in ]] || input=$guests/$name.in
+  for epoch in 500 20000; do
+    record_many "$many/one_processor$name$epoch" "$guests/$name.elf" 10 "$input" --workers 64 --ahead 64 --epoch "$epoch" &
+    folders+=("$many/one_processor$name$epoch")
+  done
+done
+wait
+processors=
+sum_up "${folders[@]}"
+check "sixty recordings by 64 workers on one processor: $right were right; $why" test "$right" = 60
+rm -rf "${folders[@]}"
 
 if ((failed == 0 && passed != checks)); then
   failed=1
