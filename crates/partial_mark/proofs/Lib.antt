@@ -1,0 +1,3 @@
+mod Skipping
+pub mod PartialCode
+mod Applying

@@ -1,0 +1,3 @@
+pub mod Partial
+pub mod Base
+pub mod View
