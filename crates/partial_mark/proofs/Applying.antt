@@ -25,12 +25,12 @@ module _ (base : List Page) where
   same_bytes None bytes e = absurd cc
   same_bytes (Some q) bytes e = ap (λ (b : List ℕ). Some b) ((bytes_eq-Decides q.bytes bytes).0 e)
 
-  bytes_back : (p : Page) → bytes_over base p.number (content_against base p) ≡ Some p.bytes
+  bytes_back : (p : Page) → bytes_over (page_at base p.number) (content_against (page_at base p.number) p) ≡ Some p.bytes
   bytes_back p = by_test (has_bytes p.bytes (page_at base p.number)) refl
     where
-      by_test : (b : Bool) → has_bytes p.bytes (page_at base p.number) ≡ b → bytes_over base p.number (content_against base p) ≡ Some p.bytes
-      by_test true e = ap (λ (c : Bool). bytes_over base p.number (cond c None (Some p.bytes))) e ∙ same_bytes (page_at base p.number) p.bytes e
-      by_test false e = ap (λ (c : Bool). bytes_over base p.number (cond c None (Some p.bytes))) e
+      by_test : (b : Bool) → has_bytes p.bytes (page_at base p.number) ≡ b → bytes_over (page_at base p.number) (content_against (page_at base p.number) p) ≡ Some p.bytes
+      by_test true e = ap (λ (c : Bool). bytes_over (page_at base p.number) (cond c None (Some p.bytes))) e ∙ same_bytes (page_at base p.number) p.bytes e
+      by_test false e = ap (λ (c : Bool). bytes_over (page_at base p.number) (cond c None (Some p.bytes))) e
 
   page_back : (p : Page) → page_over base (page_against base p) ≡ Some p
   page_back p = ap (λ (o : Option (List ℕ)). o >>= λ bytes. Some (record { number = p.number; flags = p.flags; bytes = bytes })) (bytes_back p)
@@ -90,7 +90,7 @@ found_page (p ∷ base) number q are e =
     ]
 
 module _ (base : List Page) (are : AllByRecursion IsPageContent base) where
-  content_is : (number : ℕ) (content : Option (List ℕ)) (bytes : List ℕ) → IsContent content → bytes_over base number content ≡ Some bytes → IsContent (Some bytes)
+  content_is : (number : ℕ) (content : Option (List ℕ)) (bytes : List ℕ) → IsContent content → bytes_over (page_at base number) content ≡ Some bytes → IsContent (Some bytes)
   content_is number (Some own) bytes is e = subst (λ (b : List ℕ). IsContent (Some b)) (same_Some _ _ e) is
   content_is number None bytes is e = from_base (page_at base number) refl e
     where
@@ -110,7 +110,7 @@ module _ (base : List Page) (are : AllByRecursion IsPageContent base) where
 
   page_stands : (m : PartialPage) (p : Page) → IsPartialPage m → page_over base m ≡ Some p → Stands m p
   page_stands m p is e =
-      let a = bind_some (bytes_over base m.number m.content) (λ bytes. Some (record { number = m.number; flags = m.flags; bytes = bytes })) p e in
+      let a = bind_some (bytes_over (page_at base m.number) m.content) (λ bytes. Some (record { number = m.number; flags = m.flags; bytes = bytes })) p e in
       let content = content_is m.number m.content a.0 is.content a.1 in
       subst (Stands m) (same_Some _ _ a.2) (record { is = record { number = is.number; flags = is.flags; count = content.0; bytes = content.1 }; number = refl })
 

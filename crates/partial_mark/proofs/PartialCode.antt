@@ -46,7 +46,7 @@ fields_found f rest is =
     (find_first word_code _ f.brk (end_bytes f.end) rest found is.brk
     (find_step end_code _ f.end rest found is.end refl))))
 
-fields_code : IsPrefixCode fields_from fields_bytes AreFields
+pub fields_code : IsPrefixCode fields_from fields_bytes AreFields
 fields_code = code_from fields_from fields_bytes AreFields fields_found fields_taken
 
 -- ---- pages

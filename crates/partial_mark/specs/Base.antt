@@ -3,25 +3,26 @@
 use Rattle.std.specs.Prelude.{ℕ, Bool, false, List, [], ◌∷◌, map, Option, Some, None, option_map, if◌then◌else◌}
 use Rattle.std.specs.Str.{bytes_eq}
 use Rattle.dp_base.specs.declared.page.Page.{Page}
+use Rattle.dp_base.specs.Encoding.{whole}
 use Rattle.dp_base.specs.Field.{◌>>=◌}
 use Rattle.dp_base.specs.Memory.{page_at}
 use Rattle.guest_state.specs.Checkpoint.{Checkpoint}
 use Rattle.partial_mark.specs.declared.fields.Fields.{Fields}
-use Rattle.partial_mark.specs.Partial.{Partial, PartialPage, checkpoint_with}
+use Rattle.partial_mark.specs.Partial.{Partial, PartialPage, checkpoint_with, partial_from}
 
 -- ---- the checkpoint that a partial mark stands for
 
--- the bytes of a page: those that it has, or those of the page with its number in the base
-abbrev pub bytes_over : (base : List Page) → (number : ℕ) → Option (List ℕ) → Option (List ℕ)
-bytes_over base number (Some bytes) = Some bytes
-bytes_over base number None = option_map (λ p. p.bytes) (page_at base number)
+-- the bytes of a page: its own, or those of the page with its number in the base
+abbrev pub bytes_over : Option Page → Option (List ℕ) → Option (List ℕ)
+bytes_over same_number (Some bytes) = Some bytes
+bytes_over same_number None = option_map (λ p. p.bytes) same_number
 
 abbrev pub page_over : (base : List Page) → PartialPage → Option Page
 page_over base p = do
-  bytes ← bytes_over base p.number p.content
+  bytes ← bytes_over (page_at base p.number) p.content
   Some (record { number = p.number; flags = p.flags; bytes = bytes })
 
--- none if the base lacks one that has no bytes of its own
+-- none if the base lacks a page that has no bytes of its own
 unfoldable pub pages_over : (base : List Page) → List PartialPage → Option (List Page)
 pages_over base [] = Some []
 pages_over base (p ∷ pages) = do
@@ -34,6 +35,10 @@ applied base m = do
   pages ← pages_over base.pages m.pages
   Some (checkpoint_with m.fields m.threads pages)
 
+-- of the bytes of a partial mark, which have nothing behind them
+abbrev pub restored : (base : Checkpoint) → List ℕ → Option Checkpoint
+restored base bytes = whole partial_from bytes >>= applied base
+
 -- ---- the partial mark that is written of a checkpoint
 
 -- whether the base's page has these bytes
@@ -42,11 +47,11 @@ has_bytes bytes None = false
 has_bytes bytes (Some p) = bytes_eq p.bytes bytes
 
 -- bytes are left out exactly if the base's page with this number has the same
-abbrev pub content_against : (base : List Page) → Page → Option (List ℕ)
-content_against base p = if has_bytes p.bytes (page_at base p.number) then None else Some p.bytes
+abbrev pub content_against : Option Page → Page → Option (List ℕ)
+content_against same_number p = if has_bytes p.bytes same_number then None else Some p.bytes
 
 abbrev pub page_against : (base : List Page) → Page → PartialPage
-page_against base p = record { number = p.number; flags = p.flags; content = content_against base p }
+page_against base p = record { number = p.number; flags = p.flags; content = content_against (page_at base p.number) p }
 
 abbrev pub fields_of : Checkpoint → Fields
 fields_of c = record { steps = c.steps; input = c.input; heap = c.heap; brk = c.brk; end = c.end }
