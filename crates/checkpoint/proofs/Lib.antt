@@ -11,3 +11,6 @@ mod TurnKept
 mod Running
 mod Starting
 mod Sizes
+mod BasePages
+mod Restoring
+mod Decoded

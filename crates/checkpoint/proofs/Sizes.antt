@@ -1,11 +1,13 @@
 -- How long an encoding may be.
-use Rattle.std.proofs.Common.{◌≡◌, ◌≤◌, ◌<◌, ◌*◌, ℕ, List, [], ◌∷◌, ◌++◌, length, refl, arith, length-append}
+use Rattle.std.proofs.Common.{◌≡◌, ◌≤◌, ◌<◌, ◌*◌, ℕ, List, [], ◌∷◌, ◌++◌, length, Option, Some, None, refl, arith, length-append}
 use Rattle.std.specs.List.{flat_map, AllByRecursion}
+use Rattle.std.proofs.lemmas.List.{length-map}
 use Rattle.guest_state.proofs.CheckpointCode.{bounds_of}
 use Rattle.byteorder.specs.Endian.{little_bytes}
 use Rattle.dp_base.specs.declared.limits.TheConstants.{MAX_BODY_BYTES}
 use Rattle.dp_base.specs.declared.page.Page.{Page}
 use Rattle.guest_state.specs.Checkpoint.{Checkpoint, IsCheckpoint, IsFreeHart, IsPageContent, IsThread, checkpoint_bytes, end_bytes, hart_bytes, page_bytes, thread_bytes, word}
+use Rattle.partial_mark.specs.Partial.{IsContent, IsPartial, IsPartialPage, Partial, PartialPage, content_bytes, fields_bytes, outline, page_outline, partial_bytes, partial_page_bytes}
 use Rattle.guest_state.specs.declared.end.End.{End}
 use Rattle.guest_state.specs.declared.end.End.TheVariants as ends
 use Rattle.guest_state.specs.declared.hart.Hart.{Hart}
@@ -60,4 +62,40 @@ encoding_short c is =
       length-append (little_bytes 2 (length c.pages)) pages,
       length-append (little_bytes 2 (length c.threads)) (threads ++ counted),
       length-append (end_bytes c.end) rest,
+    )
+
+-- ---- of partial marks
+
+content_long : (content : Option (List ℕ)) → IsContent content → length (content_bytes content) ≤ 4097
+content_long None is = omega arith
+content_long (Some bytes) is = omega (arith, is.0)
+
+partial_page_long : (p : PartialPage) → IsPartialPage p → length (partial_page_bytes p) ≤ 4102
+partial_page_long p is =
+    omega (arith, content_long p.content is.content, length-append (word p.number) (little_bytes 1 p.flags ++ content_bytes p.content), length-append (little_bytes 1 p.flags) (content_bytes p.content))
+
+partial_pages_long : (ps : List PartialPage) → AllByRecursion IsPartialPage ps → length (flat_map partial_page_bytes ps) ≤ 4102 * length ps
+partial_pages_long [] are = omega arith
+partial_pages_long (p ∷ ps) are = let more = partial_pages_long ps are.1 in omega (arith, more, partial_page_long p are.0, length-append (partial_page_bytes p) (flat_map partial_page_bytes ps))
+
+-- a partial mark is shorter than a body may be
+pub partial_short : (m : Partial) → IsPartial m → length (partial_bytes m) < MAX_BODY_BYTES
+partial_short m is =
+    let b = bounds_of (outline m) is.bounded in
+    let pages : List ℕ = flat_map partial_page_bytes m.pages in
+    let threads : List ℕ = flat_map thread_bytes m.threads in
+    let counted : List ℕ = little_bytes 2 (length m.pages) ++ pages in
+    let counted_threads : List ℕ = little_bytes 2 (length m.threads) ++ threads in
+    omega (
+      arith,
+      b.few_threads,
+      b.few_pages,
+      length-map m.pages page_outline,
+      threads_long m.threads is.threads,
+      partial_pages_long m.pages is.pages,
+      end_long m.fields.end,
+      length-append (little_bytes 2 (length m.pages)) pages,
+      length-append (little_bytes 2 (length m.threads)) threads,
+      length-append counted_threads counted,
+      length-append (fields_bytes m.fields) (counted_threads ++ counted),
     )

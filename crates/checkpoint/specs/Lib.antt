@@ -1,3 +1,4 @@
 pub mod State
 pub mod Sink
 pub mod Reading
+pub mod Against

@@ -12,8 +12,8 @@ use std::alloc::Global;
 
 // A vector as a sink.
 #[derive(Drop)]
-struct Buffer {
-    bytes: Vec<u8>,
+pub struct Buffer {
+    pub bytes: Vec<u8>,
 }
 
 impl Sink for Buffer {

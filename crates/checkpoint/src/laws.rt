@@ -14,6 +14,7 @@ ghost use Rattle.guest_kernel.specs.Slices.{at, run, chain};
 ghost use Rattle.guest_kernel.specs.Start.{IsGuestFile, start_state};
 ghost use Rattle.guest_kernel.specs.State.{without_reservation};
 ghost use Rattle.guest_kernel.specs.Turn.{turn};
+ghost use Rattle.partial_mark.specs.Partial.{IsPartial, Partial, partial_bytes};
 ghost use Rattle.checkpoint.specs.State.{IsEncodable, state_bytes};
 ghost use Rattle.dp_base.specs.declared.limits.TheConstants.{MAX_BODY_BYTES};
 
@@ -29,6 +30,11 @@ pub fn a_start_state_is_encodable()
 /// The encoding of a state is shorter than the body of a record may be, so a mark of it fits.
 pub fn an_encoding_is_short()
     ensures { (s : State) → IsEncodable s → length (state_bytes s) < MAX_BODY_BYTES }
+{}
+
+/// A partial mark is shorter than the body of a record may be.
+pub fn a_partial_is_short()
+    ensures { (m : Partial) → IsPartial m → length (partial_bytes m) < MAX_BODY_BYTES }
 {}
 
 /// Behind a turn a state has an encoding once the reservation of the thread whose turn it was is dropped, if it was so
