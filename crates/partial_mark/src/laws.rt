@@ -4,7 +4,7 @@ ghost use Rattle.std.specs.Prelude.{◌≡◌, Some};
 ghost use Rattle.std.specs.List.{AllByRecursion};
 ghost use Rattle.dp_base.specs.Encoding.{IsPrefixCode, IsWholeCode};
 ghost use Rattle.guest_state.specs.Checkpoint.{Checkpoint, IsCheckpoint};
-ghost use Rattle.partial_mark.specs.Base.{applied, partial_of};
+ghost use Rattle.partial_mark.specs.Base.{applied, partial_of, restored};
 ghost use Rattle.partial_mark.specs.Partial.{IsPartial, IsPartialPage, Partial, partial_bytes, partial_from, partial_page_bytes, partial_page_from};
 
 /// A page of a partial mark has one encoding.
@@ -23,10 +23,12 @@ pub fn whole_partials()
     ensures { IsWholeCode partial_from partial_bytes IsPartial }
 {}
 
-/// The partial mark that is written of a checkpoint has an encoding, and with the same base it stands for that checkpoint.
+/// The partial mark that is written of a checkpoint has an encoding. With the same base it stands for that checkpoint, and so do its
+/// bytes.
 pub fn a_partial_stands_for_its_checkpoint()
     ensures encodable { (base c : Checkpoint) → IsCheckpoint c → IsPartial (partial_of base c) }
     ensures applied { (base c : Checkpoint) → applied base (partial_of base c) ≡ Some c }
+    ensures restored { (base c : Checkpoint) → IsCheckpoint c → restored base (partial_bytes (partial_of base c)) ≡ Some c }
 {}
 
 /// What a partial mark stands for, if its base is a checkpoint, is a checkpoint.
