@@ -18,12 +18,17 @@ pub(crate) fn cost_of_pass(pages: u32, blocks: u32) -> u64 {
     PASS_STEPS + PAGE_STEPS * u64::from(pages) + BLOCK_STEPS * u64::from(blocks)
 }
 
-// Which stretches race. The first one does. After a stretch that didn't pay the next ones don't race: 2, then 4, and so on up to 32.
+// Which stretches race. The first one does. After a stretch that didn't pay the next ones don't race: 2, then 4, and so on up to 32. So it
+// is after a round of which a job was squashed: what racing gained there was lost.
 #[derive(Clone, Copy)]
 pub(crate) struct Pace {
     is_new: bool,
     rest: u32,
     next_rest: u32,
+    // Whether a stretch of this round has raced.
+    has_raced: bool,
+    // Whether a job was squashed, and no round that raced has been kept since. A stretch that pays doesn't shorten the rests then.
+    is_doubtful: bool,
 }
 
 impl Pace {
@@ -32,7 +37,20 @@ impl Pace {
             is_new: true,
             rest: 0,
             next_rest: LEAST_REST,
+            has_raced: false,
+            is_doubtful: false,
         }
+    }
+
+    // Begins a round. Takes note of whether a job of the one before was squashed.
+    pub(crate) fn begin_round(&mut self, was_squashed: bool) {
+        if was_squashed {
+            self.is_doubtful = true;
+            self.put_off();
+        } else if self.has_raced {
+            self.is_doubtful = false;
+        }
+        self.has_raced = false;
     }
 
     // Whether a stretch races that may have so many steps, if a pass costs this many.
@@ -53,11 +71,16 @@ impl Pace {
 
     // Takes note of whether a race has paid.
     pub(crate) fn raced(&mut self, paid: bool) {
-        if paid {
+        self.has_raced = true;
+        if !paid {
+            self.put_off();
+        } else if !self.is_doubtful {
             self.next_rest = LEAST_REST;
-        } else {
-            self.rest = self.next_rest;
-            self.next_rest = self.next_rest.saturating_mul(2).min(MOST_REST);
         }
+    }
+
+    fn put_off(&mut self) {
+        self.rest = self.next_rest;
+        self.next_rest = self.next_rest.saturating_mul(2).min(MOST_REST);
     }
 }

@@ -6,6 +6,7 @@ use crate::gated::Gated;
 use crate::kept_words::KeptWords;
 use crate::pace::Pace;
 use crate::stretch::run_stretch;
+use crate::turns::can_step;
 use disk_model::{Gate, OpenGate};
 use dp_base::OutOfMemory;
 use guest_kernel::State;
@@ -21,6 +22,8 @@ pub struct ThreadRacer<G> {
     gate: G,
     pace: Pace,
     kept: Option<KeptWords>,
+    // The least number of steps with which the next round starts, unless a job was squashed.
+    least_start: u64,
     ghost some: { 0 < workers },
     ghost few: { workers ≤ MAX_WORKERS },
 }
@@ -37,6 +40,7 @@ impl ThreadRacer<OpenGate> {
             gate: OpenGate,
             pace: Pace::new(),
             kept: None,
+            least_start: 0,
         }
     }
 }
@@ -54,6 +58,7 @@ impl<'a, G: Gate> ThreadRacer<Gated<'a, G>> {
             gate: Gated { gate },
             pace: Pace::new(),
             kept: None,
+            least_start: 0,
         }
     }
 }
@@ -79,12 +84,15 @@ impl<G: Gate + Sync> ThreadRacer<G> {
     {
         let mut state = start.share(alloc)?;
         let mut left = plan.left;
+        self.pace.begin_round(start.steps < self.least_start);
+        self.least_start = 0;
         for job in 1..plan.jobs {
             let before = state.steps;
             let Some(offer) = self.next_offer(rt, alloc, &mut state, supply, plan.epoch, left)?
             else {
                 return Ok(());
             };
+            self.least_start = least_start_after(&state, supply);
             match sink.offer(offer.hints, offer.next) {
                 More::Yes => {}
                 More::Enough => return Ok(()),
@@ -124,6 +132,18 @@ impl<G: Gate + Sync> ThreadRacer<G> {
         };
         let next = state.share(alloc)?;
         Ok(Some(Offer { hints, next }))
+    }
+}
+
+// The least number of steps with which a round starts, if this state is the last one that was offered in the round before and no job of that
+// round was squashed. The round's last job starts in this state, and takes a step if a thread can. If none can, the next round starts here,
+// with more input. Where a job was squashed the round ends at an offered state's number of steps, this one's at most. All else that
+// ends a round early ends the recording too.
+fn least_start_after(state: &State, supply: &Supply) -> u64 {
+    if can_step(state, supply) {
+        state.steps.saturating_add(1)
+    } else {
+        state.steps
     }
 }
 

@@ -43,6 +43,24 @@ fn answer_to(
     }
 }
 
+// Whether a thread can take a step, as far as the input is known.
+pub(crate) fn can_step(state: &State, supply: &Supply) -> bool {
+    for index in 0..state.threads.len() {
+        let can = match state.peek(Tid(index as u16 + 1)) {
+            Peek::NotRunnable => false,
+            Peek::Plain => true,
+            Peek::Sync => true,
+            Peek::Sc => true,
+            Peek::Clock => true,
+            Peek::Read { place, max } => supply.answer(place, max).is_some(),
+        };
+        if can {
+            return true;
+        }
+    }
+    false
+}
+
 // Takes a thread's turn if its answer is known. Returns whether it was taken.
 fn turn(
     alloc: Global,
