@@ -149,6 +149,25 @@ pub(crate) const READS_A_PIECE: [u32; 8] = [
     0x0000_0073,
 ];
 
+// Thread 1 takes five steps, which spawn thread 2. Then both count down from 20,480 in 40,961 steps, and read with their fifth step
+// after that, over and over.
+pub(crate) const BOTH_READ: [u32; 14] = [
+    0x0000_0517,
+    0x0145_0513,
+    0xf001_0593,
+    0x0040_0893,
+    0x0000_0073,
+    0x0000_54b7,
+    0xfff4_8493,
+    0xfe04_9ee3,
+    0x0000_0513,
+    0x0001_0593,
+    0x00a0_0613,
+    0x0030_0893,
+    0x0000_0073,
+    0xfe1f_f06f,
+];
+
 // Thread 1 spawns three, and the four add one to a word three times each, under a lock of LR, SC, wait and wake. Then it waits
 // for the three by their clear addresses, and ends the guest with the word as its code.
 pub(crate) const LOCKED: [u32; 58] = [

@@ -13,4 +13,6 @@ mod hint_tests;
 #[cfg(test)]
 mod offer_tests;
 #[cfg(test)]
+mod pace_tests;
+#[cfg(test)]
 mod trap_tests;
