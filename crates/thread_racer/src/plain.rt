@@ -53,7 +53,7 @@ pub(crate) fn run_to_end(
     Ok(())
 }
 
-// Lets each thread go on. Returns whether a step was taken.
+// Lets each thread go on, and take the turn of the call or trap at which it stops. Returns whether a step was taken.
 fn run_each(
     alloc: Global,
     state: &mut State,
@@ -64,29 +64,57 @@ fn run_each(
 ) -> Result<bool, OutOfMemory> {
     let mut moved = false;
     for index in 0..threads.len() {
-        if run_thread(alloc, state, supply, &mut threads[index], course, memory)? {
+        let went = match threads.get_mut(index) {
+            Some(thread) => run_thread(state, thread, course, memory)?,
+            None => Went::Nowhere,
+        };
+        if went.has_stopped() && take_turn(alloc, state, supply, threads, index, course)? {
+            moved = true;
+        }
+        if went.has_moved() {
             moved = true;
         }
     }
     Ok(moved)
 }
 
-// Lets a thread go on until it has used its quota, the stretch is over, or it has done the call or trap at which it stops. Returns
-// whether a step was taken.
+// How far a thread went.
+#[derive(Clone, Copy)]
+enum Went {
+    Nowhere,
+    // To the end of its quota or of the stretch.
+    ToItsEnd,
+    // To a call or a trap, with or without a step.
+    ToACall { moved: bool },
+}
+
+impl Went {
+    fn has_stopped(self) -> bool {
+        matches!(self, Went::ToACall { .. })
+    }
+
+    fn has_moved(self) -> bool {
+        match self {
+            Went::Nowhere => false,
+            Went::ToItsEnd => true,
+            Went::ToACall { moved } => moved,
+        }
+    }
+}
+
+// Lets a thread go on until it has used its quota, the stretch is over, or it stops at a call or a trap.
 fn run_thread(
-    alloc: Global,
     state: &mut State,
-    supply: &Supply,
     thread: &mut ThreadRun,
     course: &mut Course,
     memory: &mut NotedPages,
-) -> Result<bool, OutOfMemory> {
+) -> Result<Went, OutOfMemory> {
     let limit = course.left(state).min(u64::from(thread.quota)) as u32;
     if limit == 0 {
-        return Ok(false);
+        return Ok(Went::Nowhere);
     }
     let Some(hart) = running(state, thread.tid) else {
-        return Ok(false);
+        return Ok(Went::Nowhere);
     };
     memory.tickets = course.tickets;
     let mut hart = hart;
@@ -103,8 +131,9 @@ fn run_thread(
     thread.note(run.steps, 0, 1, &memory.entries)?;
     memory.entries.clear();
     if matches!(stop, Stepped::Went) {
-        return Ok(true);
+        return Ok(Went::ToItsEnd);
     }
-    let taken = take_turn(alloc, state, supply, thread, course)?;
-    Ok(taken || run.steps > 0)
+    Ok(Went::ToACall {
+        moved: run.steps > 0,
+    })
 }

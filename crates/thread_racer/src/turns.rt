@@ -2,15 +2,19 @@
 ghost use Rattle.std.specs.Prelude.{◌≡◌};
 
 use crate::course::Course;
-use crate::thread_run::ThreadRun;
+use crate::thread_run::{ThreadRun, running};
 use dp_base::{Answer, Bytes, OutOfMemory, Tid};
 use guest_kernel::{Peek, State, Turn};
 use std::alloc::Global;
+use std::mem;
 use supply::Supply;
 use sync_hints::Sc;
 
 // No turn is taken once the steps or the bytes of input are so many.
 const MOST: u64 = u64::MAX - 8192;
+
+// No thread goes on before an exit once the steps are so many.
+const MOST_BEFORE_EXIT: u64 = u64::MAX / 2;
 
 // The answer that a turn takes.
 #[derive(Drop)]
@@ -80,22 +84,77 @@ fn turn(
     Ok(matches!(turned, Turn::Stepped { .. }))
 }
 
+// The register of a call's number, and the number by which a thread exits.
+const CALL: u8 = 17;
+
+const EXIT_THREAD: u32 = 0;
+
+// Whether a thread that stopped at a call exits by it.
+fn exits(state: &State, tid: Tid) -> bool {
+    match running(state, tid) {
+        Some(hart) => hart.register(CALL) == EXIT_THREAD,
+        None => false,
+    }
+}
+
+// Lets the other threads take their plain steps before a thread exits. The exit clears a word, for which others may look by plain loads. An
+// epoch by hints takes the plain steps of all threads before a call too. Others may take the steps that the thread has left, but for one.
+fn go_before_exit(
+    state: &mut State,
+    threads: &mut [ThreadRun],
+    exiting: usize,
+    course: &Course,
+) -> Result<(), OutOfMemory> {
+    let mut spare = match threads.get(exiting) {
+        Some(thread) => thread.quota.saturating_sub(1),
+        None => 0,
+    };
+    let before = spare;
+    for index in 0..threads.len() {
+        if index == exiting || state.steps >= MOST_BEFORE_EXIT {
+            continue;
+        }
+        let thread = &mut threads[index];
+        let limit = u64::from(thread.quota.saturating_add(spare)).min(
+            course.left(state).saturating_sub(1),
+        ) as u32;
+        let over = thread.quota;
+        let steps = state.go_plain(thread.tid, limit);
+        spare = spare.saturating_sub(steps.saturating_sub(over));
+        thread.note(steps, 0, 1, &[])?;
+    }
+    if let Some(thread) = threads.get_mut(exiting) {
+        thread.quota = thread.quota.saturating_sub(before.saturating_sub(spare));
+    }
+    Ok(())
+}
+
 // Takes a thread's turn at a call or a trap, if the thread may take a step and the answer is known. The turn gets the next ticket.
 // Returns whether it was taken.
 pub(crate) fn take_turn(
     alloc: Global,
     state: &mut State,
     supply: &Supply,
-    thread: &mut ThreadRun,
+    threads: &mut [ThreadRun],
+    index: usize,
     course: &mut Course,
 ) -> Result<bool, OutOfMemory> {
-    if thread.quota == 0 || course.left(state) == 0 {
+    let (tid, quota) = match threads.get(index) {
+        Some(thread) => (thread.tid, thread.quota),
+        None => return Ok(false),
+    };
+    if quota == 0 || course.left(state) == 0 {
         return Ok(false);
     }
-    if !turn(alloc, state, supply, thread.tid, &mut course.out)? {
+    if exits(state, tid) {
+        go_before_exit(state, threads, index, course)?;
+    }
+    if !turn(alloc, state, supply, tid, &mut course.out)? {
         return Ok(false);
     }
-    thread.note(1, course.tickets, 1, &[(0, Sc::NotSc)])?;
+    if let Some(thread) = threads.get_mut(index) {
+        thread.note(1, course.tickets, 1, &[(0, Sc::NotSc)])?;
+    }
     course.tickets = course.tickets.saturating_add(1);
     Ok(true)
 }
@@ -109,9 +168,12 @@ pub(crate) fn take_turns(
     course: &mut Course,
 ) -> Result<(), OutOfMemory> {
     for index in 0..threads.len() {
-        if threads[index].at_call {
-            threads[index].at_call = false;
-            take_turn(alloc, state, supply, &mut threads[index], course)?;
+        let at_call = match threads.get_mut(index) {
+            Some(thread) => mem::replace(&mut thread.at_call, false),
+            None => false,
+        };
+        if at_call {
+            take_turn(alloc, state, supply, threads, index, course)?;
         }
     }
     Ok(())
