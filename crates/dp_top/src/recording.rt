@@ -20,7 +20,13 @@ use std::sync::Wait;
 use std::thread::Threads;
 
 /// Attaches the journal and records into it.
-pub fn record_guest<R: Threads + Wait + Sync, I: Inlet, W: World + Drop, Q: Racer + Drop + Send, G: Gate + Sync>(
+pub fn record_guest<
+    R: Threads + Wait + Sync,
+    I: Inlet,
+    W: World + Drop,
+    Q: Racer + Drop + Send,
+    G: Gate + Sync,
+>(
     rt: &R,
     alloc: Global,
     inlet: &mut I,

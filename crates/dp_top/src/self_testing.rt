@@ -64,7 +64,11 @@ pub fn test_guest<R: Threads + Wait + Sync, W: World>(
 }
 
 // The report of guest `n`'s recording, once it was replayed.
-fn tested_report<R: Threads + Wait + Sync>(rt: &R, alloc: Global, n: u32) -> Result<Report, SelfTestFault>
+fn tested_report<R: Threads + Wait + Sync>(
+    rt: &R,
+    alloc: Global,
+    n: u32,
+) -> Result<Report, SelfTestFault>
     ensures { Tested n result }
 {
     let (world, answer) = record_made(rt, alloc, n)?;

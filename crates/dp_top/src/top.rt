@@ -40,7 +40,14 @@ use std::thread::Threads;
 /// journal's guest and its records, and for an inspection the disk and the journal's records. A status's line that can't be sent changes no status. A recording's jobs run on threads of the runtime
 /// `rt`, at most as many as the words' `--workers`. They start in states that the racer offers, at most `--ahead` in a round, and before each
 /// of them its worker passes the gate. The parts of a journal between marks are replayed on as many threads as the words of a replay say.
-pub fn run<R: Threads + Wait + Sync, F: Files, I: Inlet, W: World + Drop, Q: Racer + Drop + Send, G: Gate + Sync>(
+pub fn run<
+    R: Threads + Wait + Sync,
+    F: Files,
+    I: Inlet,
+    W: World + Drop,
+    Q: Racer + Drop + Send,
+    G: Gate + Sync,
+>(
     rt: &R,
     alloc: Global,
     words: &[String],
@@ -131,7 +138,14 @@ pub fn run<R: Threads + Wait + Sync, F: Files, I: Inlet, W: World + Drop, Q: Rac
 }
 
 // Does what the words say, but for the status's line.
-fn do_command<R: Threads + Wait + Sync, F: Files, I: Inlet, W: World + Drop, Q: Racer + Drop + Send, G: Gate + Sync>(
+fn do_command<
+    R: Threads + Wait + Sync,
+    F: Files,
+    I: Inlet,
+    W: World + Drop,
+    Q: Racer + Drop + Send,
+    G: Gate + Sync,
+>(
     rt: &R,
     alloc: Global,
     words: &[String],
@@ -209,7 +223,14 @@ fn do_command<R: Threads + Wait + Sync, F: Files, I: Inlet, W: World + Drop, Q: 
 }
 
 // Records the guest whose file has this name.
-fn record_named<R: Threads + Wait + Sync, F: Files, I: Inlet, W: World + Drop, Q: Racer + Drop + Send, G: Gate + Sync>(
+fn record_named<
+    R: Threads + Wait + Sync,
+    F: Files,
+    I: Inlet,
+    W: World + Drop,
+    Q: Racer + Drop + Send,
+    G: Gate + Sync,
+>(
     rt: &R,
     alloc: Global,
     files: &mut F,

@@ -4,8 +4,8 @@ use super::*;
 use crate::recorded::{Came, came_to, ok};
 use dp_report::Status;
 use std::alloc::Global;
-use std::test::Fail;
 use std::sync::Wait;
+use std::test::Fail;
 use std::thread::Threads;
 use test_worlds::{Failing, inlet_of};
 

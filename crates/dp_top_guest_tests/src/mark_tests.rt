@@ -18,14 +18,7 @@ fn marks_by_the_words(rt: HostRuntime) -> Result<(), Fail> {
         let mut inlet = inlet_of(alloc, &[], &[], Failing::Never)?;
         let world = disk_of(alloc, &[], Failing::Never)?;
         let (world, status) = run(
-            &rt,
-            alloc,
-            &texts,
-            &mut files,
-            &mut inlet,
-            world,
-            IdleRacer,
-            &OpenGate,
+            &rt, alloc, &texts, &mut files, &mut inlet, world, IdleRacer, &OpenGate,
         );
         assert_eq!(rt; status, Status::Ok);
         assert_eq!(rt; world.bytes().len(), length);

@@ -5,8 +5,8 @@ use dp_report::Status;
 use dp_top::run;
 use racing_runner::IdleRacer;
 use std::alloc::Global;
-use std::test::Fail;
 use std::sync::Wait;
+use std::test::Fail;
 use std::thread::Threads;
 use test_files::file_of;
 use test_worlds::{Failing, disk_of, file_named, inlet_of, texts_of};
@@ -45,14 +45,7 @@ fn ran<R: Threads + Wait + Sync>(
     let mut inlet = inlet;
     let world = disk_of(alloc, disk, Failing::Never)?;
     let (after, status) = run(
-        rt,
-        alloc,
-        &texts,
-        &mut files,
-        &mut inlet,
-        world,
-        IdleRacer,
-        &OpenGate,
+        rt, alloc, &texts, &mut files, &mut inlet, world, IdleRacer, &OpenGate,
     );
     look_at(alloc, &after, status, inlet.takes())
 }

@@ -7,8 +7,8 @@ use dp_report::Status;
 use dp_top::run;
 use racing_runner::IdleRacer;
 use std::alloc::Global;
-use std::test::Fail;
 use std::sync::Wait;
+use std::test::Fail;
 use std::thread::Threads;
 use test_worlds::{Failing, file_named, inlet_of, texts_of, world_of};
 
@@ -59,14 +59,7 @@ fn tested<R: Threads + Wait + Sync>(
     let mut inlet = inlet_of(alloc, &[b"abc"], &[7], Failing::From(1))?;
     let world = world_of(alloc, Failing::From(1), sink, piece)?.of_disk(alloc, DISK)?;
     let (world, status) = run(
-        rt,
-        alloc,
-        &words,
-        &mut files,
-        &mut inlet,
-        world,
-        IdleRacer,
-        &OpenGate,
+        rt, alloc, &words, &mut files, &mut inlet, world, IdleRacer, &OpenGate,
     );
     if world.disk_calls() != 0 || world.bytes() != DISK || inlet.takes() != 0 {
         return Err("a self-test only sends its line".into());
@@ -93,7 +86,12 @@ fn comes_to<R: Threads + Wait + Sync>(
 }
 
 // Whether a self-test answers `Ok` with this line.
-fn says<R: Threads + Wait + Sync>(rt: &R, alloc: Global, n: u32, line: &[u8]) -> Result<bool, Fail> {
+fn says<R: Threads + Wait + Sync>(
+    rt: &R,
+    alloc: Global,
+    n: u32,
+    line: &[u8],
+) -> Result<bool, Fail> {
     comes_to(rt, alloc, n, Failing::Never, 4096, (Status::Ok, line, b""))
 }
 
@@ -158,7 +156,11 @@ fn guests_of_one_epoch(rt: HostRuntime) -> Result<(), Fail> {
 }
 
 // Emits of sixteen bytes: the one with this number fails, and then all from it on. What was sent before it stays sent.
-fn emit_fails<R: Threads + Wait + Sync>(rt: &R, alloc: Global, number: usize) -> Result<bool, Fail> {
+fn emit_fails<R: Threads + Wait + Sync>(
+    rt: &R,
+    alloc: Global,
+    number: usize,
+) -> Result<bool, Fail> {
     let (before, _) = LINE_0.split_at(
         number
             .saturating_sub(1)

@@ -4,8 +4,8 @@ use disk_model::OpenGate;
 use dp_top::{Status, run};
 use racing_runner::IdleRacer;
 use std::alloc::Global;
-use std::test::Fail;
 use std::sync::Wait;
+use std::test::Fail;
 use std::thread::Threads;
 use test_worlds::{Failing, file_named, inlet_of, texts_of};
 
@@ -23,13 +23,6 @@ pub(crate) fn ran<R: Threads + Wait + Sync>(
     let mut files = file_named(alloc, "g", guest, fetch)?;
     let mut inlet = inlet_of(alloc, pieces, &[], Failing::Never)?;
     Ok(run(
-        rt,
-        alloc,
-        &texts,
-        &mut files,
-        &mut inlet,
-        world,
-        IdleRacer,
-        &OpenGate,
+        rt, alloc, &texts, &mut files, &mut inlet, world, IdleRacer, &OpenGate,
     ))
 }

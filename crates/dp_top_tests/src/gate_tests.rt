@@ -5,8 +5,8 @@
 use crate::stopped::{Faults, Plays, Stopped, plays, recording, replay};
 use dp_report::Status;
 use std::alloc::Global;
-use std::test::Fail;
 use std::sync::Wait;
+use std::test::Fail;
 use std::thread::Threads;
 use test_files::WRITES_WORDS;
 use test_worlds::Failing;

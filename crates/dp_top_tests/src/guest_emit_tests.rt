@@ -3,8 +3,8 @@ use crate::stopped::{Faults, Left, what_is_left};
 use dp_report::Status;
 use dp_top_guest_tests::{FILTER, PRODUCER_AND_CONSUMER};
 use std::alloc::Global;
-use std::test::Fail;
 use std::sync::Wait;
+use std::test::Fail;
 use std::thread::Threads;
 use test_worlds::Failing;
 

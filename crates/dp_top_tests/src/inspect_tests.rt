@@ -2,8 +2,8 @@
 use crate::replay_tests::{plays_as, recorded, replays_as, world_with};
 use dp_report::Status;
 use std::alloc::Global;
-use std::test::Fail;
 use std::sync::Wait;
+use std::test::Fail;
 use std::thread::Threads;
 use test_files::{EXITS, WRITES};
 use test_journals::{THREE_STEPS, journal_of};
@@ -45,7 +45,10 @@ fn records_that_do_not_run(rt: HostRuntime) -> Result<(), Fail> {
 }
 
 // A recording of nine epochs of one step, listed.
-fn nine_epochs_listed<R: Threads + Wait + Sync>(rt: &R, alloc: Global) -> Result<(Status, u8), Fail> {
+fn nine_epochs_listed<R: Threads + Wait + Sync>(
+    rt: &R,
+    alloc: Global,
+) -> Result<(Status, u8), Fail> {
     let words = ["dpcli", "record", "g", "j", "--epoch", "1"];
     let (world, _) = recorded(rt, alloc, &words, &WRITES)?;
     let text =

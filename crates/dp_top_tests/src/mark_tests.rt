@@ -5,8 +5,8 @@
 use crate::stopped::{Faults, NO_JOURNAL, Plays, plays, recording, replay};
 use dp_report::Status;
 use std::alloc::Global;
-use std::test::Fail;
 use std::sync::Wait;
+use std::test::Fail;
 use std::thread::Threads;
 use test_files::{WRITES_WORDS, file_of};
 use test_worlds::Failing;

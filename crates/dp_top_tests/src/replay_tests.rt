@@ -6,8 +6,8 @@ use disk_mem::{Call, MemWorld};
 use disk_model::Stream;
 use dp_report::Status;
 use std::alloc::Global;
-use std::test::Fail;
 use std::sync::Wait;
+use std::test::Fail;
 use std::thread::Threads;
 use test_files::{EXITS, WRITES};
 use test_journals::journal_of;
@@ -192,7 +192,10 @@ fn each_disk_call_of_a_replay_fails(rt: HostRuntime) -> Result<(), Fail> {
 }
 
 // Where the calls behind the last would fail.
-fn behind_the_disk_calls<R: Threads + Wait + Sync>(rt: &R, alloc: Global) -> Result<(Status, u8), Fail> {
+fn behind_the_disk_calls<R: Threads + Wait + Sync>(
+    rt: &R,
+    alloc: Global,
+) -> Result<(Status, u8), Fail> {
     let (_, calls) = calls_of_writes(rt, alloc)?;
     let behind = Failing::From(calls.saturating_add(1));
     writes_play_as(

@@ -4,8 +4,8 @@ use clap::{Arg, ArgAction, Command};
 use dp_base::limits::{MAX_EPOCH_STEPS, MAX_JOBS, MAX_WORKERS};
 use std::alloc::{AllocError, Global};
 
-// The toolchain's line is that of `rt version`.
-const VERSION: &str = "0.1, proved by rattle-kit-13f logic dac8208d650f15bf";
+// `rt version` names the logic too. Kits with the same logic prove the same.
+const VERSION: &str = "0.1, proved by Rattle, logic dac8208d650f15bf";
 
 /// The whole command line. It fails only if an allocation does.
 pub(crate) fn command_line<'a>(alloc: Global) -> Result<Command<'a>, AllocError> {

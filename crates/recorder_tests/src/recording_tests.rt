@@ -9,8 +9,8 @@ use guest_kernel::{End, start_from_file};
 use racing_runner::IdleRacer;
 use recorder::{Options, RecordFault, record_};
 use std::alloc::Global;
-use std::test::Fail;
 use std::sync::Wait;
+use std::test::Fail;
 use std::thread::Threads;
 use test_files::{EXITS, WRITES};
 use test_worlds::{Failing, letters_of, world_of};
@@ -75,15 +75,7 @@ fn recorded<R: Threads + Wait + Sync>(
     let state = start_from_file(alloc, guest)?;
     let mut inlet = MemInlet::new(Vec::new(alloc), Vec::new(alloc), Fails::Never);
     Ok(record_(
-        rt,
-        alloc,
-        world,
-        &mut inlet,
-        guest,
-        state,
-        options,
-        IdleRacer,
-        &OpenGate,
+        rt, alloc, world, &mut inlet, guest, state, options, IdleRacer, &OpenGate,
     ))
 }
 
@@ -104,7 +96,11 @@ fn came_to<R: Threads + Wait + Sync>(
 }
 
 // Whether a recording of `WRITES` in epochs of one step makes these calls.
-fn makes_calls<R: Threads + Wait + Sync>(rt: &R, alloc: Global, letters: &[u8]) -> Result<bool, Fail> {
+fn makes_calls<R: Threads + Wait + Sync>(
+    rt: &R,
+    alloc: Global,
+    letters: &[u8],
+) -> Result<bool, Fail> {
     let empty = world_of(alloc, Failing::Never, Failing::Never, 4096)?;
     let (after, _) = recorded(rt, alloc, &WRITES, options(1, LIMIT, ROOM), empty)?;
     let seen = letters_of(alloc, after.calls())?;
@@ -199,7 +195,11 @@ fn limits_and_rooms(rt: HostRuntime) -> Result<(), Fail> {
 }
 
 // Whether a recording of `EXITS` with a limit of two steps has these bytes in its journal from 111 on.
-fn has_slices<R: Threads + Wait + Sync>(rt: &R, alloc: Global, wanted: &[u8]) -> Result<bool, Fail> {
+fn has_slices<R: Threads + Wait + Sync>(
+    rt: &R,
+    alloc: Global,
+    wanted: &[u8],
+) -> Result<bool, Fail> {
     let empty = world_of(alloc, Failing::Never, Failing::Never, 4096)?;
     let (after, _) = recorded(rt, alloc, &EXITS, options(20_000, 2, ROOM), empty)?;
     Ok(after.bytes().get(111..121) == Some(wanted))

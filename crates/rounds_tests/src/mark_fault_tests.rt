@@ -6,8 +6,8 @@ use disk_model::Stream;
 use epoch_replay::ReplayFault;
 use recorder::RecordFault;
 use std::alloc::Global;
-use std::test::Fail;
 use std::sync::Wait;
+use std::test::Fail;
 use std::thread::Threads;
 use test_journals::{Kind, seen};
 use test_worlds::Failing;
@@ -156,7 +156,11 @@ const SIXTEENTH: Marked = Marked {
 };
 
 // The whole journal.
-fn journal<R: Threads + Wait + Sync>(rt: &R, alloc: Global, marked: Marked) -> Result<Vec<u8>, Fail> {
+fn journal<R: Threads + Wait + Sync>(
+    rt: &R,
+    alloc: Global,
+    marked: Marked,
+) -> Result<Vec<u8>, Fail> {
     let (disk, sink) = (Failing::Never, Failing::Never);
     let left = marked_by(rt, alloc, marked.every, 0, 1 << 30, disk, sink)?;
     let journal = left.world.bytes();
@@ -211,7 +215,11 @@ fn fails_at<R: Threads + Wait + Sync>(
 }
 
 // Whether a recording with these marks does as expected at each call that fails: there are seven, and four for each record.
-fn fails_at_each<R: Threads + Wait + Sync>(rt: &R, alloc: Global, marked: Marked) -> Result<bool, Fail> {
+fn fails_at_each<R: Threads + Wait + Sync>(
+    rt: &R,
+    alloc: Global,
+    marked: Marked,
+) -> Result<bool, Fail> {
     let journal = journal(rt, alloc, marked)?;
     for number in 1..=marked.count.min(9) * 4 + 7 {
         let disk = Failing::At(u64::from(number));

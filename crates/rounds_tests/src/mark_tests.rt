@@ -4,14 +4,18 @@ use crate::recorded::replayed;
 use disk_model::Stream;
 use epoch_replay::ReplayFault;
 use std::alloc::Global;
-use std::test::Fail;
 use std::sync::Wait;
+use std::test::Fail;
 use std::thread::Threads;
 use test_files::replaced;
 use test_worlds::Failing;
 
 // The journal of nine epochs of one step with a mark after every so many of them, if the recording sends the guest's output.
-fn journal_with<R: Threads + Wait + Sync>(rt: &R, alloc: Global, mark: u32) -> Result<Vec<u8>, Fail> {
+fn journal_with<R: Threads + Wait + Sync>(
+    rt: &R,
+    alloc: Global,
+    mark: u32,
+) -> Result<Vec<u8>, Fail> {
     let options = options(1, mark.min(1000), 1 << 30);
     let left = left_by(rt, alloc, 0, options, Failing::Never, Failing::Never)?;
     if left.answer.is_err() || left.world.sent(Stream::Out) != b"hi\n".as_slice() {

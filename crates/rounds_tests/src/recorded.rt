@@ -8,8 +8,8 @@ use guest_kernel::start_from_file;
 use racing_runner::Racer;
 use recorder::{Options, RecordFault, record_};
 use std::alloc::Global;
-use std::test::Fail;
 use std::sync::Wait;
+use std::test::Fail;
 use std::thread::Threads;
 use test_worlds::{Failing, disk_of};
 
