@@ -839,7 +839,8 @@ each_time counter_locked /dev/null
 each_time producer_consumer /dev/null
 each_time deadlock /dev/null
 
-# A guest that takes a lock often, in epochs of so many steps that its threads race on several processors. Forty recordings, four at once.
+# A guest that takes a lock often, in epochs of so many steps that its threads race on several processors. Forty recordings, four at once, of
+# 3,400 epochs. If AMOs aren't put in order some seventy are squashed. One in some fifty thousand is all the same.
 is_of_locked() { same "$1" "$here/../bench/locked_4.out"; }
 is_right=is_of_locked
 folders=()
@@ -850,7 +851,7 @@ done
 wait
 sum_up "${folders[@]}"
 check "forty recordings of a guest that takes a lock often: $right were right; $why" test "$right" = 40
-check "forty recordings of a guest that takes a lock often: $squashes squashes" test "$squashes" = 0
+check "forty recordings of a guest that takes a lock often: $squashes squashes" test "$squashes" -le 4
 rm -rf "${folders[@]}"
 
 # A thousand recordings of guests that race, sixteen at once.

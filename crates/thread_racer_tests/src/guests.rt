@@ -168,6 +168,48 @@ pub(crate) const BOTH_READ: [u32; 14] = [
     0xfe1f_f06f,
 ];
 
+// Thread 1 takes 15 steps, which spawn threads 2 and 3. Each of the two exits with its 14th step. Thread 1 waits for them by their clear
+// addresses, one after the other, and loads each word before it waits. Then it counts.
+pub(crate) const TWO_EXIT: [u32; 37] = [
+    0x7fff_0437,
+    0x0010_0293,
+    0x0054_2823,
+    0x0054_2a23,
+    0x0000_0517,
+    0x06c5_0513,
+    0xf001_0593,
+    0x0104_0693,
+    0x0040_0893,
+    0x0000_0073,
+    0x0000_0517,
+    0x0545_0513,
+    0xe001_0593,
+    0x0144_0693,
+    0x0000_0073,
+    0x0104_2283,
+    0x0002_8c63,
+    0x0104_0513,
+    0x0002_8593,
+    0x0050_0893,
+    0x0000_0073,
+    0xfe9f_f06f,
+    0x0144_2283,
+    0x0002_8c63,
+    0x0144_0513,
+    0x0002_8593,
+    0x0050_0893,
+    0x0000_0073,
+    0xfe9f_f06f,
+    0x0014_8493,
+    0xffdf_f06f,
+    0x0050_0313,
+    0xfff3_0313,
+    0xfe03_1ee3,
+    0x0000_0513,
+    0x0000_0893,
+    0x0000_0073,
+];
+
 // Thread 1 spawns three, and the four add one to a word three times each, under a lock of LR, SC, wait and wake. Then it waits
 // for the three by their clear addresses, and ends the guest with the word as its code.
 pub(crate) const LOCKED: [u32; 58] = [

@@ -45,6 +45,33 @@ fn calls(rt: HostRuntime) -> Result<(), Fail> {
     Ok(())
 }
 
+// Two threads exit at once, for both of which a third one waits. It looks for the second by a load, before or after that has exited.
+#[test]
+fn exits(rt: HostRuntime) -> Result<(), Fail> {
+    let alloc = rt.alloc();
+    assert_eq!(rt;
+        followed(&rt, alloc, &TWO_EXIT, Case::of_two(15, 60, 5))?,
+        (4, 4, 4)
+    );
+    assert_eq!(rt;
+        followed(
+            &rt,
+            alloc,
+            &TWO_EXIT,
+            Case {
+                workers: 1,
+                ..Case::of_two(15, 60, 5)
+            }
+        )?,
+        (4, 4, 4)
+    );
+    assert_eq!(rt;
+        followed(&rt, alloc, &TWO_EXIT, Case::of_two(0, 7, 9))?,
+        (8, 8, 8)
+    );
+    Ok(())
+}
+
 // Four threads that share a word under a lock of LR, SC, wait and wake. A schedule may lose an SC that the race didn't, so only the
 // hints of one worker are sure to be followed to the end.
 #[test]

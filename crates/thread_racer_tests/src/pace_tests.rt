@@ -59,7 +59,7 @@ enum RoundStart {
 }
 
 // A round: where it starts, and whether its threads race.
-fn rounds() -> [(RoundStart, bool); 13] {
+fn rounds() -> [(RoundStart, bool); 14] {
     [
         (RoundStart::LastJob, true),
         (RoundStart::LastJob, true),
@@ -77,6 +77,7 @@ fn rounds() -> [(RoundStart, bool); 13] {
         (RoundStart::LastJob, true),
         (RoundStart::First, false),
         (RoundStart::LastJob, false),
+        (RoundStart::LastJob, true),
     ]
 }
 
@@ -99,7 +100,7 @@ fn as_expected<R: Threads + Sync>(rt: &R, alloc: Global) -> Result<usize, Fail> 
         if matches!(from, RoundStart::LastJob) {
             run(alloc, &mut next, 1, 10)?;
         }
-        let (offered, raced) = round(rt, alloc, &mut racer, &gate, &next, &supply, 40_000)?;
+        let (offered, raced) = round(rt, alloc, &mut racer, &gate, &next, &supply, 32_000)?;
         if raced == races {
             count = count.saturating_add(1);
         }
@@ -110,7 +111,7 @@ fn as_expected<R: Threads + Sync>(rt: &R, alloc: Global) -> Result<usize, Fail> 
 
 #[test]
 fn rests_after_squashes(rt: HostRuntime) -> Result<(), Fail> {
-    assert_eq!(rt; as_expected(&rt, rt.alloc())?, 13);
+    assert_eq!(rt; as_expected(&rt, rt.alloc())?, 14);
     Ok(())
 }
 
