@@ -118,9 +118,9 @@ fn go_before_exit(
         let limit = u64::from(thread.quota.saturating_add(spare)).min(
             course.left(state).saturating_sub(1),
         ) as u32;
-        let over = thread.quota;
+        let own = thread.quota;
         let steps = state.go_plain(thread.tid, limit);
-        spare = spare.saturating_sub(steps.saturating_sub(over));
+        spare = spare.saturating_sub(steps.saturating_sub(own));
         thread.note(steps, 0, 1, &[])?;
     }
     if let Some(thread) = threads.get_mut(exiting) {
