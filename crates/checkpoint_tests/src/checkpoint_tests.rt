@@ -15,7 +15,7 @@ const DIGEST: [u8; 32] = [
     0x40, 0x74, 0x81, 0xc9, 0x6f, 0x7b, 0x1c, 0x17, 0x87, 0x8d, 0x62, 0xbf, 0xbd, 0x54, 0x0c, 0xe7,
 ];
 
-fn started(alloc: Global, file: &[u8]) -> Result<State, Fail>
+pub(crate) fn started(alloc: Global, file: &[u8]) -> Result<State, Fail>
     ensures encodable { IfOk result IsEncodable }
     ensures steps { IfOk result (λ state. state.steps ≡ 0) }
     ensures input { IfOk result (λ state. state.input ≡ 0) }
