@@ -840,7 +840,7 @@ each_time producer_consumer /dev/null
 each_time deadlock /dev/null
 
 # A guest that takes a lock often, in epochs of so many steps that its threads race on several processors. Forty recordings, four at once, of
-# 3,400 epochs. If AMOs aren't put in order some seventy are squashed. One in some fifty thousand is all the same.
+# 3,400 epochs. If AMOs aren't put in order some seventy are squashed. One in some hundred thousand is all the same.
 is_of_locked() { same "$1" "$here/../bench/locked_4.out"; }
 is_right=is_of_locked
 folders=()
