@@ -396,9 +396,9 @@ def run_cases(seed, first, step, until, folder, corpus, results, stopped):
             run_case(seed, number, folder, corpus, tally)
             number += step
         results.put((tally, None))
-    except Wrong as wrong:
+    except Exception as wrong:  # also one of this program's own, or nobody would hear of the case
         stopped.set()
-        results.put((tally, f"case {number} of seed {seed}: {wrong}; its files are in {folder}"))
+        results.put((tally, f"case {number} of seed {seed}: {wrong!r}; its files are in {folder}"))
 
 
 def main():
