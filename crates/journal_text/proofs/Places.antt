@@ -9,9 +9,10 @@ use Rattle.dp_base.specs.Field.{AreBytes}
 use Rattle.dp_base.specs.Journal.{Epoch, epoch_body_at, record_of}
 use Rattle.dp_base.proofs.Fields.{AreBytes-drop, AreBytes-take}
 use Rattle.guest_state.specs.Checkpoint.{Checkpoint}
+use Rattle.partial_mark.specs.Partial.{Partial, partial_from}
 use Rattle.guest_state.proofs.Many.{given, not_given}
 use Rattle.journal_text.specs.Reading.{first_bytes}
-use Rattle.journal_text.specs.Records.{Record, bad, body_of, ended, epoch, first_of, fitting_at, found, mark, mark_in, next_at, next_of, record_in}
+use Rattle.journal_text.specs.Records.{Record, bad, body_of, ended, epoch, first_of, fitting_at, found, mark, mark_in, next_at, next_of, partial, record_in}
 use Rattle.journal_text.proofs.Records.{fitting_taken, next_none, next_nothing, next_some, record_taken}
 
 -- a body that fits at a place, and the bytes behind it
@@ -81,11 +82,16 @@ no_value None none = refl
 
 in_epoch : (body : List ℕ) (e : Epoch) → whole epoch_body_at body ≡ Some e → record_in body ≡ Some (epoch e)
 unfolding record_in
-in_epoch body e is = ap (λ (o : Option Epoch). first_of (option_map epoch o) (option_map mark (mark_in body))) is
+in_epoch body e is = ap (λ (o : Option Epoch). first_of (option_map epoch o) (first_of (option_map mark (mark_in body)) (option_map partial (whole partial_from body)))) is
 
-not_epoch : (body : List ℕ) (m : Option Checkpoint) → whole epoch_body_at body ≡ None → mark_in body ≡ m → record_in body ≡ option_map mark m
+not_epoch : (body : List ℕ) (m : Option Checkpoint) → whole epoch_body_at body ≡ None → mark_in body ≡ m → record_in body ≡ first_of (option_map mark m) (option_map partial (whole partial_from body))
 unfolding record_in
-not_epoch body m none is = ap (λ (o : Option Epoch). first_of (option_map epoch o) (option_map mark (mark_in body))) none ∙ ap (λ (o : Option Checkpoint). first_of None (option_map mark o)) is
+not_epoch body m none is =
+    let third = option_map partial (whole partial_from body) in
+    ap (λ (o : Option Epoch). first_of (option_map epoch o) (first_of (option_map mark (mark_in body)) third)) none ∙ ap (λ (o : Option Checkpoint). first_of (option_map mark o) third) is
+
+not_full : (body : List ℕ) (p : Option Partial) → whole epoch_body_at body ≡ None → mark_in body ≡ None → whole partial_from body ≡ p → record_in body ≡ option_map partial p
+not_full body p no_epoch no_mark is = not_epoch body None no_epoch no_mark ∙ ap (λ (o : Option Partial). option_map partial o) is
 
 pub epoch_found : (file : List ℕ) (at : ℕ) (body rest : List ℕ) → Took file at body rest → length body ≤ MAX_BODY_BYTES → is_some (whole epoch_body_at body) ≡ true
     → (e : Epoch) × Found file at body (length file - length rest) (epoch e)
@@ -99,10 +105,16 @@ mark_found file at body rest took few is_not is =
     let c = some_value (mark_in body) is in
     (c.0, found_by file at body rest (mark c.0) took few (not_epoch body (Some c.0) (no_value _ is_not) c.1))
 
+pub partial_found : (file : List ℕ) (at : ℕ) (body rest : List ℕ) → Took file at body rest → length body ≤ MAX_BODY_BYTES → is_some (whole epoch_body_at body) ≡ false → is_some (mark_in body) ≡ false → is_some (whole partial_from body) ≡ true
+    → (m : Partial) × Found file at body (length file - length rest) (partial m)
+partial_found file at body rest took few no_epoch no_mark is =
+    let m = some_value (whole partial_from body) is in
+    (m.0, found_by file at body rest (partial m.0) took few (not_full body (Some m.0) (no_value _ no_epoch) (no_value _ no_mark) m.1))
+
 -- ---- no record
 
-pub bad_found : (file : List ℕ) (at : ℕ) (body rest : List ℕ) → Took file at body rest → is_some (whole epoch_body_at body) ≡ false → is_some (mark_in body) ≡ false → next_at (drop at file) ≡ bad
-bad_found file at body rest took no_epoch no_mark = next_some (drop at file) (body, rest) took.fits ∙ bad_body body rest (not_epoch body None (no_value _ no_epoch) (no_value _ no_mark))
+pub bad_found : (file : List ℕ) (at : ℕ) (body rest : List ℕ) → Took file at body rest → is_some (whole epoch_body_at body) ≡ false → is_some (mark_in body) ≡ false → is_some (whole partial_from body) ≡ false → next_at (drop at file) ≡ bad
+bad_found file at body rest took no_epoch no_mark no_partial = next_some (drop at file) (body, rest) took.fits ∙ bad_body body rest (not_full body None (no_value _ no_epoch) (no_value _ no_mark) (no_value _ no_partial))
   where
     in_neither : (few : Bool) → cond few bad bad ≡ bad
     in_neither true = refl

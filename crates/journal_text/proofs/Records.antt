@@ -4,6 +4,7 @@ use Rattle.std.specs.Prelude.{is_some, option_map}
 use Rattle.std.proofs.lemmas.Bool.{eqb-true, leb-true, le-leb}
 use Rattle.std.proofs.lemmas.List.{length-drop}
 use Rattle.std.proofs.lemmas.Option.{cond_some, same_Some}
+use Rattle.byteorder.specs.Endian.{little_bytes}
 use Rattle.dp_base.specs.declared.limits.TheConstants.{MAX_BODY_BYTES}
 use Rattle.dp_base.specs.Encoding.{whole}
 use Rattle.dp_base.specs.Field.{AreBytes, ◌>>=◌, bytes_at, number_at}
@@ -14,8 +15,10 @@ use Rattle.dp_base.proofs.Sizes.{length-epoch_body}
 use Rattle.dp_base.proofs.Whole.{whole_code}
 use Rattle.guest_state.specs.Checkpoint.{Checkpoint, IsCheckpoint, checkpoint_bytes, checkpoint_from}
 use Rattle.guest_state.proofs.CheckpointCode.{checkpoint_code}
+use Rattle.partial_mark.specs.Partial.{Partial, partial_bytes, partial_from, parts_bytes}
+use Rattle.partial_mark.proofs.PartialCode.{partial_code}
 use Rattle.journal_text.specs.View.{IsRecordBody}
-use Rattle.journal_text.specs.Records.{IsContent, IsRecord, Record, bad, body_of, ended, epoch, first_of, fitting_at, found, found_in, mark, mark_in, mark_kind, next_at, next_of, record_bytes, record_in}
+use Rattle.journal_text.specs.Records.{IsContent, IsRecord, Record, bad, body_of, ended, epoch, first_of, fitting_at, found, found_in, mark, mark_in, mark_kind, next_at, next_of, partial, record_bytes, record_in}
 
 -- ---- a body that fits
 
@@ -80,18 +83,18 @@ fitting_behind_closed rest =
 
 -- ---- the record of a body
 
--- a mark's body is no epoch's
+-- a mark's body is no epoch's, and a partial mark's is no full mark's
 no_epoch_of_another_kind : (kind : ℕ × List ℕ) → eqb kind.0 0 ≡ false → epoch_kind kind ≡ None
 no_epoch_of_another_kind kind other =
     none_after (number_at 4 kind.1) _ (λ slice_count. none_after (many_at slice_at slice_count.0 slice_count.1) _ (λ slices. none_after (number_at 4 slices.1) _ (λ answer_count.
     none_after (many_at answer_at answer_count.0 answer_count.1) (epoch_end kind slice_count slices) (λ answers. rw other refl))))
 
-epoch_of_a_mark : (state : List ℕ) → epoch_body_at (mark_kind ∷ state) ≡ None
+epoch_of_a_mark : (kind : ℕ) (behind : List ℕ) → kind < 256 → eqb kind 0 ≡ false → epoch_body_at (little_bytes 1 kind ++ behind) ≡ None
 unfolding epoch_body_at
-epoch_of_a_mark state = bind_at (number_at 1 (mark_kind ∷ state)) epoch_kind (1, state) None (number_found 1 1 state (omega arith)) (no_epoch_of_another_kind (1, state) refl)
+epoch_of_a_mark kind behind small other = bind_at (number_at 1 (little_bytes 1 kind ++ behind)) epoch_kind (kind, behind) None (number_found 1 kind behind (omega (arith, small))) (no_epoch_of_another_kind (kind, behind) other)
 
-whole_epoch_of_a_mark : (state : List ℕ) → whole epoch_body_at (mark_kind ∷ state) ≡ None
-whole_epoch_of_a_mark state = rw (epoch_of_a_mark state) refl
+whole_epoch_of_a_mark : (kind : ℕ) (behind : List ℕ) → kind < 256 → eqb kind 0 ≡ false → whole epoch_body_at (little_bytes 1 kind ++ behind) ≡ None
+whole_epoch_of_a_mark kind behind small other = rw (epoch_of_a_mark kind behind small other) refl
 
 abbrev of_kind : ℕ × List ℕ → Option Checkpoint
 of_kind kind = cond (eqb kind.0 mark_kind) (whole checkpoint_from kind.1) None
@@ -109,29 +112,44 @@ mark_taken body c fits e =
     let state = (whole_code checkpoint_code).encoded a.0.1 c kind.left g.1 in
     (kind.joined ∙ ap (λ (t : List ℕ). mark_kind ∷ t) state.0, state.1)
 
+full_mark_of_a_partial_one : (m : Partial) → mark_in (partial_bytes m) ≡ None
+unfolding mark_in
+full_mark_of_a_partial_one m = bind_at (number_at 1 (partial_bytes m)) of_kind (2, parts_bytes m) None (number_found 1 2 (parts_bytes m) (omega arith)) refl
+
 pub in_its_body : (r : Record) → IsContent r → record_in (body_of r) ≡ Some r
 unfolding record_in
-in_its_body (epoch e) is = ap (λ (o : Option Epoch). first_of (option_map epoch o) (option_map mark (mark_in (epoch_body e)))) ((whole_code epoch_code).decoded e is)
+in_its_body (epoch e) is =
+    let others = first_of (option_map mark (mark_in (epoch_body e))) (option_map partial (whole partial_from (epoch_body e))) in
+    ap (λ (o : Option Epoch). first_of (option_map epoch o) others) ((whole_code epoch_code).decoded e is)
 in_its_body (mark c) is =
-    ap (λ (o : Option Epoch). first_of (option_map epoch o) (option_map mark (mark_in (body_of (mark c))))) (whole_epoch_of_a_mark (checkpoint_bytes c))
-    ∙ ap (λ (o : Option Checkpoint). first_of None (option_map mark o)) (mark_found c is)
+    let third = option_map partial (whole partial_from (body_of (mark c))) in
+    ap (λ (o : Option Epoch). first_of (option_map epoch o) (first_of (option_map mark (mark_in (body_of (mark c)))) third)) (whole_epoch_of_a_mark 1 (checkpoint_bytes c) (omega arith) refl)
+    ∙ ap (λ (o : Option Checkpoint). first_of (option_map mark o) third) (mark_found c is)
+in_its_body (partial m) is =
+    let third = option_map partial (whole partial_from (partial_bytes m)) in
+    ap (λ (o : Option Epoch). first_of (option_map epoch o) (first_of (option_map mark (mark_in (partial_bytes m))) third)) (whole_epoch_of_a_mark 2 (parts_bytes m) (omega arith) refl)
+    ∙ ap (λ (o : Option Checkpoint). first_of (option_map mark o) third) (full_mark_of_a_partial_one m)
+    ∙ ap (λ (o : Option Partial). option_map partial o) ((whole_code partial_code).decoded m is)
 
 some_body : (r : Record) → 0 < length (body_of r)
 some_body (epoch e) = omega (arith, length-epoch_body e)
 some_body (mark c) = omega arith
+some_body (partial m) = omega arith
 
 pub is_record_body : (r : Record) → IsRecord r → IsRecordBody (body_of r)
 is_record_body r is = record { some = some_body r; few = is.1; is = ap is_some (in_its_body r is.0) }
 
-record_taken_as : (body : List ℕ) (e : Option Epoch) (m : Option Checkpoint) (r : Record) → AreBytes body → whole epoch_body_at body ≡ e → mark_in body ≡ m → first_of (option_map epoch e) (option_map mark m) ≡ Some r
-    → (body ≡ body_of r) × IsContent r
-record_taken_as body (Some e) m r fits e-is m-is is = subst (λ (r : Record). (body ≡ body_of r) × IsContent r) (same_Some _ _ is) ((whole_code epoch_code).encoded body e fits e-is)
-record_taken_as body None (Some c) r fits e-is m-is is = subst (λ (r : Record). (body ≡ body_of r) × IsContent r) (same_Some _ _ is) (mark_taken body c fits m-is)
-record_taken_as body None None r fits e-is m-is is = absurd cc
+-- which of the three a body is
+record_taken_as : (body : List ℕ) (e : Option Epoch) (m : Option Checkpoint) (p : Option Partial) (r : Record) → AreBytes body → whole epoch_body_at body ≡ e → mark_in body ≡ m → whole partial_from body ≡ p
+    → first_of (option_map epoch e) (first_of (option_map mark m) (option_map partial p)) ≡ Some r → (body ≡ body_of r) × IsContent r
+record_taken_as body (Some e) m p r fits e-is m-is p-is is = subst (λ (r : Record). (body ≡ body_of r) × IsContent r) (same_Some _ _ is) ((whole_code epoch_code).encoded body e fits e-is)
+record_taken_as body None (Some c) p r fits e-is m-is p-is is = subst (λ (r : Record). (body ≡ body_of r) × IsContent r) (same_Some _ _ is) (mark_taken body c fits m-is)
+record_taken_as body None None (Some m) r fits e-is m-is p-is is = subst (λ (r : Record). (body ≡ body_of r) × IsContent r) (same_Some _ _ is) ((whole_code partial_code).encoded body m fits p-is)
+record_taken_as body None None None r fits e-is m-is p-is is = absurd cc
 
 pub record_taken : (body : List ℕ) (r : Record) → AreBytes body → record_in body ≡ Some r → (body ≡ body_of r) × IsContent r
 unfolding record_in
-record_taken body r fits e = record_taken_as body (whole epoch_body_at body) (mark_in body) r fits refl refl e
+record_taken body r fits e = record_taken_as body (whole epoch_body_at body) (mark_in body) (whole partial_from body) r fits refl refl refl e
 
 pub body_taken : (body : List ℕ) (r : Record) → AreBytes body → record_in body ≡ Some r → length body ≤ MAX_BODY_BYTES → (body ≡ body_of r) × IsRecord r
 body_taken body r fits e few = let t = record_taken body r fits e in (t.0, (t.1, subst (λ (b : List ℕ). length b ≤ MAX_BODY_BYTES) t.0 few))

@@ -1,26 +1,30 @@
 -- The records of a journal, marks included: the body of each, and what a reader finds at a record's gate. This project's own,
--- over the bytes of an epoch (dp_base's Journal) and of a guest between two slices (guest_state's Checkpoint).
+-- over the bytes of an epoch (dp_base's Journal), of a guest between two slices (guest_state's Checkpoint), and of what changed
+-- of it since the mark before (partial_mark's Partial).
 use Rattle.std.specs.Prelude.{◌≤◌, ℕ, zero, suc, List, [], ◌∷◌, length, Option, Some, None, option_map, ◌==◌, nat_le, if◌then◌else◌}
 use Rattle.dp_base.specs.declared.limits.TheConstants.{MAX_BODY_BYTES}
 use Rattle.dp_base.specs.Encoding.{whole}
 use Rattle.dp_base.specs.Field.{◌>>=◌, bytes_at, number_at}
 use Rattle.dp_base.specs.Journal.{Epoch, IsEpoch, epoch_body, epoch_body_at, open_gate, record_of}
 use Rattle.guest_state.specs.Checkpoint.{Checkpoint, IsCheckpoint, checkpoint_bytes, checkpoint_from}
+use Rattle.partial_mark.specs.Partial.{IsPartial, Partial, partial_bytes, partial_from}
 
--- what a record holds: an epoch, or all that the guest is where the mark stands
+-- what a record holds: an epoch; all that the guest is where the mark stands; or the same without the pages that its base has
 pub data Record : Type 0 where
   epoch : Epoch → Record
   mark : Checkpoint → Record
+  partial : Partial → Record
 
 -- ---- encodings
 
--- the first byte of a mark's body
+-- the first byte of a full mark's body
 abbrev pub mark_kind : ℕ
 mark_kind = 1
 
 abbrev pub body_of : Record → List ℕ
 body_of (epoch e) = epoch_body e
 body_of (mark c) = mark_kind ∷ checkpoint_bytes c
+body_of (partial m) = partial_bytes m
 
 -- the record behind its open gate
 abbrev pub record_bytes : Record → List ℕ
@@ -31,13 +35,14 @@ record_bytes r = record_of (body_of r)
 abbrev pub IsContent : Record → Type 0
 IsContent (epoch e) = IsEpoch e
 IsContent (mark c) = IsCheckpoint c
+IsContent (partial m) = IsPartial m
 
 abbrev pub IsRecord : Record → Type 0
 IsRecord r = IsContent r × (length (body_of r) ≤ MAX_BODY_BYTES)
 
 -- ---- what a reader accepts as a body
 
--- the checkpoint of a mark's body, which has nothing behind it
+-- the checkpoint of a full mark's body, which has nothing behind it
 unfoldable pub mark_in : List ℕ → Option Checkpoint
 mark_in body = do
   kind ← number_at 1 body
@@ -50,7 +55,8 @@ first_of None other = other
 
 -- the record that has this body
 unfoldable pub record_in : List ℕ → Option Record
-record_in body = first_of (option_map epoch (whole epoch_body_at body)) (option_map mark (mark_in body))
+record_in body = first_of (option_map epoch (whole epoch_body_at body))
+    (first_of (option_map mark (mark_in body)) (option_map partial (whole partial_from body)))
 
 -- ---- what a reader finds at a gate
 

@@ -3,11 +3,12 @@ use Rattle.std.specs.Prelude.{◌≡◌, ◌<◌, ◌≤◌, ◌+◌, ℕ, true,
 use Rattle.dp_base.specs.declared.limits.TheConstants.{MAX_BODY_BYTES}
 use Rattle.dp_base.specs.Journal as journal
 use Rattle.guest_state.specs.Checkpoint as state
+use Rattle.partial_mark.specs.Partial as marks
 use Rattle.journal_text.specs.declared.head.Head.{Head}
 use Rattle.journal_text.specs.declared.head.Head.TheVariants.{Whole, NoJournal}
 use Rattle.journal_text.specs.declared.next.Rec.{Rec}
-use Rattle.journal_text.specs.declared.next.Rec.TheVariants.{Epoch, Mark, End, Bad}
-use Rattle.journal_text.specs.Records.{body_of, bad, ended, epoch, found, mark, next_at, record_in}
+use Rattle.journal_text.specs.declared.next.Rec.TheVariants.{Epoch, Mark, Partial, End, Bad}
+use Rattle.journal_text.specs.Records.{body_of, bad, ended, epoch, found, mark, next_at, partial, record_in}
 
 -- what an answer says of a header at the start of a file
 abbrev pub IsHead : Option (List ℕ × List ℕ) → Head → Type 0
@@ -20,6 +21,8 @@ IsNext file at (Epoch body next) = (e : journal.Epoch) × (next_at (drop at file
     × (body.now ≡ body_of (epoch e)) × (at < next) × (next ≤ length file)
 IsNext file at (Mark body next) = (c : state.Checkpoint) × (next_at (drop at file) ≡ found (mark c) (drop next file))
     × (body.now ≡ body_of (mark c)) × (at < next) × (next ≤ length file)
+IsNext file at (Partial body next) = (m : marks.Partial) × (next_at (drop at file) ≡ found (partial m) (drop next file))
+    × (body.now ≡ body_of (partial m)) × (at < next) × (next ≤ length file)
 IsNext file at (End place) = (next_at (drop at file) ≡ ended) × (place ≡ at)
 IsNext file at Bad = next_at (drop at file) ≡ bad
 

@@ -10,7 +10,7 @@ ghost use Rattle.journal_text.specs.View.{IsRecordBody};
 
 use dp_base::limits::{MAX_BODY_BYTES, MAX_JOURNAL_BYTES};
 
-/// A record is the one that its body gives, and bytes that give a record are its body: no body is an epoch's and a mark's.
+/// A record is the one that its body gives, and bytes that give a record are its body: no body is one of two kinds.
 pub fn a_record_is_its_body()
     ensures found { (r : Record) → IsRecord r → record_in (body_of r) ≡ Some r }
     ensures framed { (r : Record) → IsRecord r → IsRecordBody (body_of r) }

@@ -3,7 +3,8 @@
 //!
 //! Promises: `header` and `next_record` answer exactly as the definitions say, and take no memory; a file reads as its parts
 //! and as nothing else; of a journal without a bad record, what is appended is read behind what was there, and what is left
-//! of it when it is cut reads as no journal, or as its first records (`laws`). Stands on `dp_base` and `guest_state`.
+//! of it when it is cut reads as no journal, or as its first records (`laws`). Stands on `dp_base`, `guest_state` and
+//! `partial_mark`.
 //!
 //! ```text
 //! let Head::Whole { guest_len } = header(file) else { return };
@@ -11,6 +12,7 @@
 //! match next_record(file, first_gate) {
 //!     Rec::Epoch { body, next } => ..,
 //!     Rec::Mark { body, next } => ..,
+//!     Rec::Partial { body, next } => ..,
 //!     Rec::End { at } => ..,
 //!     Rec::Bad => ..,
 //! }

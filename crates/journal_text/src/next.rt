@@ -10,8 +10,9 @@ use dp_base::journal::OPEN_GATE;
 use dp_base::journal_reader::is_epoch_body;
 use dp_base::limits::MAX_BODY_BYTES;
 use guest_state::is_checkpoint;
+use partial_mark::is_partial;
 
-/// The first byte of a mark's body.
+/// The first byte of a full mark's body.
 pub const MARK_KIND: u8 = 1;
 
 /// What stands at a record's gate.
@@ -19,8 +20,10 @@ pub const MARK_KIND: u8 = 1;
 pub enum Rec<'a> {
     /// An epoch: the whole body of its record, and the place of the next gate.
     Epoch { body: &'a [u8], next: u64 },
-    /// A mark: the whole body of its record, and the place of the next gate.
+    /// A full mark: the whole body of its record, and the place of the next gate.
     Mark { body: &'a [u8], next: u64 },
+    /// A partial mark: the whole body of its record, and the place of the next gate.
+    Partial { body: &'a [u8], next: u64 },
     /// The journal ends here.
     End { at: u64 },
     /// A body stands here whole, and is no record's.
@@ -46,6 +49,8 @@ pub fn next_record(bytes: &[u8], at: u64) -> Rec<'_>
                 Rec::Epoch { body, next }
             } else if is_mark_body(body) {
                 Rec::Mark { body, next }
+            } else if is_partial(body) {
+                Rec::Partial { body, next }
             } else {
                 Rec::Bad
             }
@@ -69,7 +74,7 @@ fn fitting(bytes: &[u8]) -> Option<(&[u8], &[u8])>
     }
 }
 
-// Whether the bytes are the body of a mark's record, and no byte more.
+// Whether the bytes are the body of a full mark's record, and no byte more.
 #[tactic(auto, unfolding(crate::specs::Records::mark_in))]
 fn is_mark_body(bytes: &[u8]) -> bool
     ensures { result ≡ is_some (mark_in bytes.now) }

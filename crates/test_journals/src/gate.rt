@@ -12,8 +12,10 @@ use journal_text::{Rec, next_record};
 pub enum Kind {
     /// An epoch's record.
     Epoch,
-    /// A mark's record.
+    /// A full mark's record.
     Mark,
+    /// A partial mark's record.
+    Partial,
     /// The journal's end.
     End,
     /// A body that is no record's.
@@ -28,6 +30,7 @@ pub fn seen(file: &[u8], at: u64) -> (Kind, u64, usize)
     match next_record(file, at) {
         Rec::Epoch { body, next } => (Kind::Epoch, next, body.len()),
         Rec::Mark { body, next } => (Kind::Mark, next, body.len()),
+        Rec::Partial { body, next } => (Kind::Partial, next, body.len()),
         Rec::End { at } => (Kind::End, at, 0),
         Rec::Bad => (Kind::Bad, 0, 0),
     }

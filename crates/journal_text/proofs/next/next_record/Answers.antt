@@ -1,7 +1,7 @@
 use Rattle.std.proofs.Common.{◌≤◌, length, arith, rules, refl}
 use Rattle.dp_base.specs.Field.{AreBytes}
 use Rattle.journal_text.specs.Reading.{first_bytes}
-use Rattle.journal_text.proofs.Places.{took_by, none_by, epoch_found, mark_found, bad_found, long_found, past_found}
+use Rattle.journal_text.proofs.Places.{took_by, none_by, epoch_found, mark_found, partial_found, bad_found, long_found, past_found}
 use Rattle.journal_text.proofs.next.next_record.Goals as goal
 
 pub returns-then-at-file : goal.returns-then-at-file
@@ -38,8 +38,15 @@ returns-then-is_mark_body c =
     let f = mark_found _ c.args.at _ _ t c.if-body.false (search rules) (search rules) in
     rw c.first_bytes-file.ensures (f.0, f.1.stands, f.1.body_is, f.1.after, f.1.within)
 
-pub returns-else-is_mark_body : goal.returns-else-is_mark_body
-returns-else-is_mark_body c =
+pub returns-then-is_partial : goal.returns-then-is_partial
+returns-then-is_partial c =
     let are : AreBytes c.args.bytes.now = λ i. omega (arith, c.type_inv.bytes i) in
     let t = took_by _ _ _ c.args.bytes.now _ c.args.at are c.first_bytes-file.ensures c.if-at-file.false c.fitting.ensures c.in-Some.is in
-    bad_found _ c.args.at _ _ t (search rules) (search rules)
+    let f = partial_found _ c.args.at _ _ t c.if-body.false (search rules) (search rules) (search rules) in
+    rw c.first_bytes-file.ensures (f.0, f.1.stands, f.1.body_is, f.1.after, f.1.within)
+
+pub returns-else-is_partial : goal.returns-else-is_partial
+returns-else-is_partial c =
+    let are : AreBytes c.args.bytes.now = λ i. omega (arith, c.type_inv.bytes i) in
+    let t = took_by _ _ _ c.args.bytes.now _ c.args.at are c.first_bytes-file.ensures c.if-at-file.false c.fitting.ensures c.in-Some.is in
+    bad_found _ c.args.at _ _ t (search rules) (search rules) (search rules)
