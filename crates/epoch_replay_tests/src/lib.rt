@@ -2,6 +2,7 @@
 //!
 //! This crate is its tests. `journals` makes a journal out of letters, one for each record. Its guest writes one byte in each epoch,
 //! and an epoch is long enough that its stretch gets a thread.
+//! `partial_journals` does the same with partial marks, of a guest that stores a word.
 #![tactic(auto)]
 
 #[cfg(test)]
@@ -14,6 +15,10 @@ mod head_tests;
 mod inspect_tests;
 #[cfg(test)]
 mod journals;
+#[cfg(test)]
+mod partial_journals;
+#[cfg(test)]
+mod partial_tests;
 #[cfg(test)]
 mod replays;
 #[cfg(test)]

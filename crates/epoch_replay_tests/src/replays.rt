@@ -90,14 +90,28 @@ pub(crate) fn of_journal<R: Threads + Sync>(
 ) -> Result<(Result<u32, ReplayFault>, usize), Fail>
     requires { 0 < piece }
 {
+    let (answer, sent) = agreed(rt, alloc, journal, sink, piece)?;
+    if !guest(alloc)?.starts_with(&sent) {
+        return Err("the bytes of the file are sent in order".into());
+    }
+    Ok((answer, sent.len()))
+}
+
+/// What replays of a journal by 1, 2, 3 and 64 workers answer and send, if they all do the same.
+pub(crate) fn agreed<R: Threads + Sync>(
+    rt: &R,
+    alloc: Global,
+    journal: &[u8],
+    sink: Failing,
+    piece: u32,
+) -> Result<(Result<u32, ReplayFault>, Vec<u8>), Fail>
+    requires { 0 < piece }
+{
     let one = replayed_by(rt, alloc, journal, 1, sink, piece)?;
     for workers in [2u32, 3, 64] {
         if !is_same(rt, alloc, journal, workers, sink, piece, &one)? {
             return Err("several workers differ from one".into());
         }
     }
-    if !guest(alloc)?.starts_with(&one.sent) {
-        return Err("the bytes of the file are sent in order".into());
-    }
-    Ok((one.answer, one.sent.len()))
+    Ok((one.answer, one.sent))
 }
