@@ -52,7 +52,7 @@ module _ (guest : List ℕ) (accepted : IsGuestFile guest) (bytes : List ℕ) (a
   K = records_with all every (start_state guest) epochs
 
   plays : play_of (ending guest K place) ≡ made (Ok end_) output
-  plays = marked_plays all every 0 (start_state guest) epochs end_ output place chained 1
+  plays = marked_plays all every 0 (start_state guest) epochs end_ output place chained (start_state guest) 1
 
   pub chain_is_played : plays_to (reads bytes) ≡ played (made (Ok end_) output)
   chain_is_played = ap plays_to reads_as ∙ ap (λ (fault : Option ℕ). played_if fault (ending guest K place)) accepted ∙ ap played plays

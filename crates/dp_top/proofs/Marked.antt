@@ -22,33 +22,33 @@ own_mark : (s : State) → is_right (checkpoint_of s) s ≡ true
 unfolding is_right
 own_mark s = no_other (state_bytes s) _ refl
 
-marks_play : (all : Bool) (later : List Epoch) (every since : ℕ) (s : State) (number : ℕ) (rest : List Record) (tail : Tail) (q : Played)
-    → ((n : ℕ) → play_from s n rest tail ≡ q) → play_from s number (kept all later (marks_at every since s) ++ rest) tail ≡ q
-marks_play all later every since s number rest tail q plays = by_due all later (is_due every since s)
+marks_play : (all : Bool) (later : List Epoch) (every since : ℕ) (base s : State) (number : ℕ) (rest : List Record) (tail : Tail) (q : Played)
+    → ((b : State) (n : ℕ) → play_from b s n rest tail ≡ q) → play_from base s number (kept all later (marks_at every since s) ++ rest) tail ≡ q
+marks_play all later every since base s number rest tail q plays = by_due all later (is_due every since s)
   where
-    one : play_from s number (mark (checkpoint_of s) ∷ rest) tail ≡ q
-    one = mark_plays s number (checkpoint_of s) rest tail true (own_mark s) ∙ plays (number + 1)
+    one : play_from base s number (mark (checkpoint_of s) ∷ rest) tail ≡ q
+    one = mark_plays base s number (checkpoint_of s) rest tail true (own_mark s) ∙ plays s (number + 1)
 
-    by_due : (a : Bool) (os : List Epoch) (due : Bool) → play_from s number (kept a os (if due then mark (checkpoint_of s) ∷ [] else []) ++ rest) tail ≡ q
+    by_due : (a : Bool) (os : List Epoch) (due : Bool) → play_from base s number (kept a os (if due then mark (checkpoint_of s) ∷ [] else []) ++ rest) tail ≡ q
     by_due true os true = one
-    by_due true os false = plays number
-    by_due false [] due = plays number
+    by_due true os false = plays base number
+    by_due false [] due = plays base number
     by_due false (x ∷ xs) true = one
-    by_due false (x ∷ xs) false = plays number
+    by_due false (x ∷ xs) false = plays base number
 
 pub marked_plays : (all : Bool) (every since : ℕ) (s : State) (epochs : List Epoch) (last : State) (output : List ℕ) (place : ℕ) → chain s epochs ≡ Ok (last, output)
-    → (number : ℕ) → play_from s number (marked_from all every since s epochs) (end place) ≡ made (Ok last) output
+    → (base : State) (number : ℕ) → play_from base s number (marked_from all every since s epochs) (end place) ≡ made (Ok last) output
 unfolding chain play_from state_in output_in
-marked_plays all every since s [] last output place chained number =
-    ap (λ (l : List Record). play_from s number l (end place)) (none_marked all every since s)
+marked_plays all every since s [] last output place chained base number =
+    ap (λ (l : List Record). play_from base s number l (end place)) (none_marked all every since s)
     ∙ ap (λ (t : State). made (Ok t) []) (ap (state_in s) chained) ∙ ap (made (Ok last)) (ap (output_in []) chained)
-marked_plays all every since s (x ∷ xs) last output place chained number =
+marked_plays all every since s (x ∷ xs) last output place chained base number =
     let f = first_of s x xs last output chained in
     let then_ = since_then every (since + 1) f.here.state in
     let rest = marked_from all every then_ f.here.state xs in
-    ap (λ (l : List Record). play_from s number l (end place)) (one_marked all every since s x xs f.here f.ran)
-    ∙ epoch_plays s number x (kept all xs (marks_at every (since + 1) f.here.state) ++ rest) (end place) (Ok f.here) f.ran
-    ∙ ap (behind f.here.output) (marks_play all xs every (since + 1) f.here.state (number + 1) rest (end place) (made (Ok last) f.output) (marked_plays all every then_ f.here.state xs last f.output place f.chained))
+    ap (λ (l : List Record). play_from base s number l (end place)) (one_marked all every since s x xs f.here f.ran)
+    ∙ epoch_plays base s number x (kept all xs (marks_at every (since + 1) f.here.state) ++ rest) (end place) (Ok f.here) f.ran
+    ∙ ap (behind f.here.output) (marks_play all xs every (since + 1) base f.here.state (number + 1) rest (end place) (made (Ok last) f.output) (marked_plays all every then_ f.here.state xs last f.output place f.chained))
     ∙ ap (made (Ok last)) (sym f.joined)
 
 -- ---- its epochs
