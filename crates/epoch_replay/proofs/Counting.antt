@@ -1,5 +1,5 @@
 -- What a reader finds in the body of a record is what the record holds.
-use Rattle.std.proofs.Common.{◌≡◌, ℕ, ◌<◌, ◌^◌, List, ◌∷◌, ◌++◌, length, Option, Some, refl, arith}
+use Rattle.std.proofs.Common.{◌≡◌, ℕ, ◌<◌, ◌^◌, List, ◌∷◌, ◌++◌, length, Option, Some, refl, ap, ◌∙◌, append_assoc, arith}
 use Rattle.std.specs.Int.{bytes_low_first}
 use Rattle.std.specs.List.{flat_map}
 use Rattle.dp_base.specs.declared.slice.Slice.{Slice}
@@ -7,9 +7,10 @@ use Rattle.dp_base.specs.Field.{◌>>=◌, number_at}
 use Rattle.dp_base.specs.Journal.{Epoch, IsEpoch, IsSlice, answer, epoch_body, many_at, slice, slice_at, steps_of}
 use Rattle.dp_base.proofs.Epochs.{many_found, slice_code}
 use Rattle.dp_base.proofs.Fields.{bind_at, number_found}
-use Rattle.guest_state.specs.Checkpoint.{Checkpoint, IsCheckpoint, checkpoint_bytes, word}
+use Rattle.guest_state.specs.Checkpoint.{Checkpoint, IsCheckpoint, checkpoint_bytes, end_bytes, thread_bytes, word}
 use Rattle.journal_text.specs.Records.{mark_kind}
 use Rattle.epoch_replay.specs.declared.counts.EpochCounts.{EpochCounts}
+use Rattle.partial_mark.specs.Partial.{IsPartial, Partial, counted_bytes, partial_bytes, partial_kind, partial_page_bytes}
 use Rattle.epoch_replay.specs.Counting.{counts_at, counts_of, marked_steps_at}
 
 abbrev counts_end : ℕ × List ℕ → List Slice × List ℕ → ℕ × List ℕ → Option EpochCounts
@@ -44,12 +45,25 @@ marked_end steps = Some steps.0
 abbrev marked_kind : ℕ × List ℕ → Option ℕ
 marked_kind kind = number_at 8 kind.1 >>= marked_end
 
-marked_before : (steps : ℕ) (rest : List ℕ) → steps < 2 ^ 64 → marked_steps_at (mark_kind ∷ (bytes_low_first 0 8 steps ++ rest)) ≡ Some steps
+marked_before : (first steps : ℕ) (rest : List ℕ) → number_at 1 (first ∷ (bytes_low_first 0 8 steps ++ rest)) ≡ Some (first, bytes_low_first 0 8 steps ++ rest) → steps < 2 ^ 64
+    → marked_steps_at (first ∷ (bytes_low_first 0 8 steps ++ rest)) ≡ Some steps
 unfolding marked_steps_at
-marked_before steps rest small =
-    let kind : ℕ × List ℕ = (mark_kind, bytes_low_first 0 8 steps ++ rest) in
-    bind_at (number_at 1 (mark_kind ∷ kind.1)) marked_kind kind (Some steps) (number_found 1 mark_kind kind.1 (omega arith))
+marked_before first steps rest found small =
+    let kind : ℕ × List ℕ = (first, bytes_low_first 0 8 steps ++ rest) in
+    bind_at (number_at 1 (first ∷ kind.1)) marked_kind kind (Some steps) found
     (bind_at (number_at 8 kind.1) marked_end (steps, rest) (Some steps) (number_found 8 steps rest (omega (arith, small))) refl)
 
+after_full : (steps : ℕ) (rest : List ℕ) → steps < 2 ^ 64 → marked_steps_at (mark_kind ∷ (bytes_low_first 0 8 steps ++ rest)) ≡ Some steps
+after_full steps rest small = marked_before mark_kind steps rest (number_found 1 mark_kind (bytes_low_first 0 8 steps ++ rest) (omega arith)) small
+
 pub marked : (c : Checkpoint) → IsCheckpoint c → marked_steps_at (mark_kind ∷ checkpoint_bytes c) ≡ Some c.steps
-marked c is = marked_before c.steps _ is.steps
+marked c is = after_full c.steps _ is.steps
+
+pub partial_marked : (m : Partial) → IsPartial m → marked_steps_at (partial_bytes m) ≡ Some m.fields.steps
+partial_marked m is =
+    let f = m.fields in
+    let numbers : List ℕ = bytes_low_first 0 8 f.input ++ (word f.heap ++ (word f.brk ++ end_bytes f.end)) in
+    let others : List ℕ = counted_bytes thread_bytes m.threads ++ counted_bytes partial_page_bytes m.pages in
+    let rest : List ℕ = numbers ++ others in
+    ap marked_steps_at (ap (λ (l : List ℕ). partial_kind ∷ l) (append_assoc (bytes_low_first 0 8 f.steps) numbers others))
+    ∙ marked_before partial_kind f.steps rest (number_found 1 partial_kind (bytes_low_first 0 8 f.steps ++ rest) (omega arith)) is.fields.steps

@@ -14,43 +14,68 @@ use Rattle.guest_kernel.specs.Call.{After}
 use Rattle.guest_kernel.specs.Slices.{Stop, at, either, run}
 use Rattle.guest_kernel.specs.Start.{IsGuestFile}
 use Rattle.guest_state.specs.Checkpoint.{Checkpoint}
-use Rattle.checkpoint.specs.State.{IsEncodable, digest_of}
+use Rattle.checkpoint.specs.State.{IsEncodable, checkpoint_of, digest_of}
+use Rattle.partial_mark.specs.Base.{applied}
+use Rattle.partial_mark.specs.Partial.{Partial}
 use Rattle.dp_report.specs.declared.report.Report.{Report}
 use Rattle.dp_report.specs.Texts.{report_line}
 use Rattle.journal_text.specs.Reading.{Reading, Tail, bad_record, end, first_bytes, reading_of, reads, tail_at}
-use Rattle.journal_text.specs.Records.{Next, Record, ended, bad, epoch, mark, list_from, next_at}
+use Rattle.journal_text.specs.Records.{Next, Record, ended, bad, epoch, mark, partial, list_from, next_at}
 use Rattle.epoch_replay.specs.declared.progress.Progress.{Progress}
 use Rattle.epoch_replay.specs.declared.replay_fault.ReplayFault.{ReplayFault}
 use Rattle.epoch_replay.specs.declared.replay_fault.ReplayFault.TheVariants as faults
-use Rattle.epoch_replay.specs.Play.{Played, Refusal, bad_epoch, bad_journal, bad_mark, behind, is_right, play_from, play_of, played, played_if, plays_to, stopped}
-use Rattle.epoch_replay.specs.Playing.{GoesOn, IsAll, IsBounded, IsStart, SoFar, left_at}
+use Rattle.epoch_replay.specs.Play.{Played, Refusal, bad_epoch, bad_journal, bad_mark, behind, is_right, is_right_if, play_from, play_of, played, played_if, plays_to, stopped}
+use Rattle.epoch_replay.specs.Playing.{GoesOn, IsAll, IsBounded, IsStart, SoFar, left_at, past_mark}
 use Rattle.epoch_replay.specs.Replaying.{EachMoment, Ends, HasNotedSome, HasSent, HasSentSome, Refused, Replayed, epochs_of, output_of}
 use Rattle.epoch_replay.proofs.Moments.{each_moment, noted_moments, quiet, sent_moments}
 
 -- ---- the definition, step by step
 
 -- an epoch in front of others, by what its slices come to
-pub epoch_plays : (s : State) (number : ℕ) (e : Epoch) (others : List Record) (tail : Tail) (r : Result After (Stop × After)) → run e.slices (at s [] e.answers) ≡ r
-    → play_from s number (epoch e ∷ others) tail ≡ either r (λ stop. stopped (Err (bad_epoch number))) (λ here. behind here.output (play_from here.state (number + 1) others tail))
+pub epoch_plays : (base s : State) (number : ℕ) (e : Epoch) (others : List Record) (tail : Tail) (r : Result After (Stop × After)) → run e.slices (at s [] e.answers) ≡ r
+    → play_from base s number (epoch e ∷ others) tail ≡ either r (λ stop. stopped (Err (bad_epoch number))) (λ here. behind here.output (play_from base here.state (number + 1) others tail))
 unfolding play_from
-epoch_plays s number e others tail r ran =
-    ap (λ (x : Result After (Stop × After)). either x (λ stop. stopped (Err (bad_epoch number))) (λ here. behind here.output (play_from here.state (number + 1) others tail))) ran
+epoch_plays base s number e others tail r ran =
+    ap (λ (x : Result After (Stop × After)). either x (λ stop. stopped (Err (bad_epoch number))) (λ here. behind here.output (play_from base here.state (number + 1) others tail))) ran
 
--- a mark in front of others
-pub mark_plays : (s : State) (number : ℕ) (c : Checkpoint) (others : List Record) (tail : Tail) (right : Bool) → is_right c s ≡ right
-    → play_from s number (mark c ∷ others) tail ≡ cond right (play_from s (number + 1) others tail) (stopped (Err (bad_mark number)))
+-- what a play with a mark in front of others comes to, by whether the mark is right
+abbrev pub after_mark : (right : Bool) → (s : State) → (number : ℕ) → List Record → Tail → Played
+after_mark right s number others tail = cond right (play_from s s (number + 1) others tail) (stopped (Err (bad_mark number)))
+
+pub mark_plays : (base s : State) (number : ℕ) (c : Checkpoint) (others : List Record) (tail : Tail) (right : Bool) → is_right c s ≡ right
+    → play_from base s number (mark c ∷ others) tail ≡ after_mark right s number others tail
 unfolding play_from
-mark_plays s number c others tail right is = ap (λ (b : Bool). cond b (play_from s (number + 1) others tail) (stopped (Err (bad_mark number)))) is
+mark_plays base s number c others tail right is = ap (λ (b : Bool). after_mark b s number others tail) is
+
+pub partial_plays : (base s : State) (number : ℕ) (m : Partial) (others : List Record) (tail : Tail) (right : Bool) → is_right_if (applied (checkpoint_of base) m) s ≡ right
+    → play_from base s number (partial m ∷ others) tail ≡ after_mark right s number others tail
+unfolding play_from
+partial_plays base s number m others tail right is = ap (λ (b : Bool). after_mark b s number others tail) is
+
+-- a mark in front of others, full or partial, that is right or isn't
+pub record IsMark (base s : State) (r : Record) (right : Bool) : Type 0 where
+  pub plays : (number : ℕ) (others : List Record) (tail : Tail) → play_from base s number (r ∷ others) tail ≡ after_mark right s number others tail
+  pub no_epoch : (others : List Record) → epochs_of (r ∷ others) ≡ epochs_of others
+
+pub full_is : (base s : State) (c : Checkpoint) (right : Bool) → is_right c s ≡ right → IsMark base s (mark c) right
+full_is base s c right is = record { plays = λ number others tail. mark_plays base s number c others tail right is; no_epoch = λ others. refl }
+
+pub partial_is : (base s : State) (m : Partial) (right : Bool) → is_right_if (applied (checkpoint_of base) m) s ≡ right → IsMark base s (partial m) right
+partial_is base s m right is = record { plays = λ number others tail. partial_plays base s number m others tail right is; no_epoch = λ others. refl }
 
 -- no record, by what stands in its place
 abbrev none_left_plays : State → Tail → Played
 none_left_plays s (end place) = stopped (Ok s)
 none_left_plays s (bad_record number) = stopped (Err (bad_journal number))
 
-none_plays : (s : State) (number : ℕ) (tail : Tail) → play_from s number [] tail ≡ none_left_plays s tail
+none_plays : (base s : State) (number : ℕ) (tail : Tail) → play_from base s number [] tail ≡ none_left_plays s tail
 unfolding play_from
-none_plays s number (end place) = refl
-none_plays s number (bad_record k) = refl
+none_plays base s number (end place) = refl
+none_plays base s number (bad_record k) = refl
+
+-- where no record is left, no base is asked for
+pub no_base : (base other s : State) (number : ℕ) (tail : Tail) → play_from base s number [] tail ≡ play_from other s number [] tail
+no_base base other s number tail = none_plays base s number tail ∙ sym (none_plays other s number tail)
 
 -- ---- what a play has behind an output
 
@@ -130,17 +155,17 @@ accepted_plays reading accepted = ap (λ (fault : Option ℕ). played_if fault r
 module _ (reading : Reading) (file : List ℕ) (first now : Option History) (p : Progress) (so_far : SoFar reading file first now p) where
   -- every moment so far
   pub so_far_moments : EachMoment (Some reading) first now
-  so_far_moments = each_moment (Some reading) so_far.output (play_from p.state p.number (left_at file p.at) reading.tail).output first now
+  so_far_moments = each_moment (Some reading) so_far.output (play_from p.base p.state p.number (left_at file p.at) reading.tail).output first now
       (ap output_of (accepted_plays reading so_far.accepted) ∙ ap (λ (q : Played). q.output) so_far.plays) so_far.moments
 
   -- what is left plays to this
-  plays_on : (q : Played) → play_from p.state p.number (left_at file p.at) reading.tail ≡ q → play_of reading ≡ behind so_far.output q
+  plays_on : (q : Played) → play_from p.base p.state p.number (left_at file p.at) reading.tail ≡ q → play_of reading ≡ behind so_far.output q
   plays_on q is = so_far.plays ∙ ap (behind so_far.output) is
 
-  stops_here : (stop : Result State Refusal) → play_from p.state p.number (left_at file p.at) reading.tail ≡ stopped stop → play_of reading ≡ made stop so_far.output
+  stops_here : (stop : Result State Refusal) → play_from p.base p.state p.number (left_at file p.at) reading.tail ≡ stopped stop → play_of reading ≡ made stop so_far.output
   stops_here stop is = plays_on (stopped stop) is ∙ behind_stop so_far.output stop
 
-  refused : (why : Refusal) → play_from p.state p.number (left_at file p.at) reading.tail ≡ stopped (Err why) → Refused (Some reading) why first now
+  refused : (why : Refusal) → play_from p.base p.state p.number (left_at file p.at) reading.tail ≡ stopped (Err why) → Refused (Some reading) why first now
   refused why is = (so_far.output, accepted_plays reading so_far.accepted ∙ ap played (stops_here (Err why) is), so_far.history)
 
   pub no_memory : Replayed (Some reading) first now (Err faults.OutOfMemory)
@@ -148,7 +173,7 @@ module _ (reading : Reading) (file : List ℕ) (first now : Option History) (p :
     play_of reading,
     accepted_plays reading so_far.accepted,
     known-map _ _ _ _
-        (λ s t r. (so_far.output, ((play_from p.state p.number (left_at file p.at) reading.tail).output, ap (λ (q : Played). q.output) so_far.plays), r))
+        (λ s t r. (so_far.output, ((play_from p.base p.state p.number (left_at file p.at) reading.tail).output, ap (λ (q : Played). q.output) so_far.plays), r))
         so_far.history,
   )
 
@@ -161,9 +186,9 @@ module _ (reading : Reading) (file : List ℕ) (first now : Option History) (p :
     tail_is : reading.tail ≡ tail_at (next_at (drop p.at file)) so_far.place p.number
     tail_is = so_far.tail ∙ ap (λ (l : List Record × List ℕ). tail_at (next_at l.1) so_far.place (p.number + length l.0)) none ∙ ap (λ (n : ℕ). tail_at (next_at (drop p.at file)) so_far.place n) (omega arith)
 
-    ends_with : (stands : Next) → next_at (drop p.at file) ≡ stands → play_from p.state p.number (left_at file p.at) reading.tail ≡ none_left_plays p.state (tail_at stands so_far.place p.number)
+    ends_with : (stands : Next) → next_at (drop p.at file) ≡ stands → play_from p.base p.state p.number (left_at file p.at) reading.tail ≡ none_left_plays p.state (tail_at stands so_far.place p.number)
     ends_with stands is =
-        ap (λ (l : List Record). play_from p.state p.number l reading.tail) none_left ∙ none_plays p.state p.number reading.tail
+        ap (λ (l : List Record). play_from p.base p.state p.number l reading.tail) none_left ∙ none_plays p.base p.state p.number reading.tail
         ∙ ap (none_left_plays p.state) (tail_is ∙ ap (λ (n : Next). tail_at n so_far.place p.number) is)
 
     pub all : next_at (drop p.at file) ≡ ended → IsAll reading first now p
@@ -186,8 +211,8 @@ module _ (reading : Reading) (file : List ℕ) (first now : Option History) (p :
     one_left : left_at file p.at ≡ r ∷ left_at file next
     one_left = ap (λ (l : List Record × List ℕ). l.0) one
 
-    left_plays : (q : Played) → play_from p.state p.number (r ∷ left_at file next) reading.tail ≡ q → play_from p.state p.number (left_at file p.at) reading.tail ≡ q
-    left_plays q is = ap (λ (l : List Record). play_from p.state p.number l reading.tail) one_left ∙ is
+    left_plays : (q : Played) → play_from p.base p.state p.number (r ∷ left_at file next) reading.tail ≡ q → play_from p.base p.state p.number (left_at file p.at) reading.tail ≡ q
+    left_plays q is = ap (λ (l : List Record). play_from p.base p.state p.number l reading.tail) one_left ∙ is
 
     tail_on : reading.tail ≡ tail_at (next_at (list_from (drop next file)).1) so_far.place ((p.number + 1) + length (left_at file next))
     tail_on =
@@ -199,17 +224,17 @@ module _ (reading : Reading) (file : List ℕ) (first now : Option History) (p :
   module _ (next : ℕ) (e : Epoch) (one : list_from (drop p.at file) ≡ (epoch e ∷ (list_from (drop next file)).0, (list_from (drop next file)).1)) where
     pub epoch_refused : (stop : Stop × After) → run e.slices (at p.state [] e.answers) ≡ Err stop → Replayed (Some reading) first now (Err (faults.BadEpoch p.number))
     epoch_refused stop ran =
-        refused (bad_epoch p.number) (left_plays next (epoch e) one (stopped (Err (bad_epoch p.number))) (epoch_plays p.state p.number e (left_at file next) reading.tail (Err stop) ran))
+        refused (bad_epoch p.number) (left_plays next (epoch e) one (stopped (Err (bad_epoch p.number))) (epoch_plays p.base p.state p.number e (left_at file next) reading.tail (Err stop) ran))
 
     module _ (s : State) (output : List ℕ) (rest : List Answer) (ran : run e.slices (at p.state [] e.answers) ≡ Ok (at s output rest)) where
-      plays_behind : play_of reading ≡ behind (so_far.output ++ output) (play_from s (p.number + 1) (left_at file next) reading.tail)
+      plays_behind : play_of reading ≡ behind (so_far.output ++ output) (play_from p.base s (p.number + 1) (left_at file next) reading.tail)
       plays_behind =
-          plays_on (behind output (play_from s (p.number + 1) (left_at file next) reading.tail))
-          (left_plays next (epoch e) one (behind output (play_from s (p.number + 1) (left_at file next) reading.tail)) (epoch_plays p.state p.number e (left_at file next) reading.tail (Ok (at s output rest)) ran))
-          ∙ behind_twice so_far.output output (play_from s (p.number + 1) (left_at file next) reading.tail)
+          plays_on (behind output (play_from p.base s (p.number + 1) (left_at file next) reading.tail))
+          (left_plays next (epoch e) one (behind output (play_from p.base s (p.number + 1) (left_at file next) reading.tail)) (epoch_plays p.base p.state p.number e (left_at file next) reading.tail (Ok (at s output rest)) ran))
+          ∙ behind_twice so_far.output output (play_from p.base s (p.number + 1) (left_at file next) reading.tail)
 
       pub epoch_sent : (later : Option History) (count : ℕ) → count ≡ length output → IfKnown (Sent Out output true) now later
-          → SoFar reading file first later (record { state = s; at = next; number = p.number + 1; epochs = p.epochs + 1; sent = p.sent + count })
+          → SoFar reading file first later (record { base = p.base; state = s; at = next; number = p.number + 1; epochs = p.epochs + 1; sent = p.sent + count })
       epoch_sent later count counted known = record {
         accepted = so_far.accepted;
         output = so_far.output ++ output;
@@ -224,7 +249,7 @@ module _ (reading : Reading) (file : List ℕ) (first now : Option History) (p :
 
       -- while its output is sent
       pub epoch_moments : (later : Option History) (ok : Bool) → IfKnown (Sent Out output ok) now later → EachMoment (Some reading) first later
-      epoch_moments later ok known = each_moment (Some reading) (so_far.output ++ output) (play_from s (p.number + 1) (left_at file next) reading.tail).output first later
+      epoch_moments later ok known = each_moment (Some reading) (so_far.output ++ output) (play_from p.base s (p.number + 1) (left_at file next) reading.tail).output first later
           (ap output_of (accepted_plays reading so_far.accepted) ∙ ap (λ (q : Played). q.output) plays_behind)
           (sent_moments so_far.output output ok first now later so_far.history so_far.moments known)
 
@@ -232,26 +257,26 @@ module _ (reading : Reading) (file : List ℕ) (first now : Option History) (p :
       epoch_not_sent later known = inl (
         play_of reading,
         accepted_plays reading so_far.accepted,
-        sent_some so_far.output output (play_from s (p.number + 1) (left_at file next) reading.tail).output (play_of reading).output first now later
+        sent_some so_far.output output (play_from p.base s (p.number + 1) (left_at file next) reading.tail).output (play_of reading).output first now later
             (ap (λ (q : Played). q.output) plays_behind) so_far.history known,
       )
 
   -- ---- a mark is next
 
-  module _ (next : ℕ) (c : Checkpoint) (one : list_from (drop p.at file) ≡ (mark c ∷ (list_from (drop next file)).0, (list_from (drop next file)).1)) where
-    pub mark_refused : is_right c p.state ≡ false → Replayed (Some reading) first now (Err (faults.BadMark p.number))
-    mark_refused wrong =
-        refused (bad_mark p.number) (left_plays next (mark c) one (stopped (Err (bad_mark p.number))) (mark_plays p.state p.number c (left_at file next) reading.tail false wrong))
+  module _ (next : ℕ) (r : Record) (one : list_from (drop p.at file) ≡ (r ∷ (list_from (drop next file)).0, (list_from (drop next file)).1)) where
+    pub mark_refused : IsMark p.base p.state r false → Replayed (Some reading) first now (Err (faults.BadMark p.number))
+    mark_refused is =
+        refused (bad_mark p.number) (left_plays next r one (stopped (Err (bad_mark p.number))) (is.plays p.number (left_at file next) reading.tail))
 
-    pub mark_taken : is_right c p.state ≡ true → SoFar reading file first now (record { state = p.state; at = next; number = p.number + 1; epochs = p.epochs; sent = p.sent })
-    mark_taken right = record {
+    pub mark_taken : IsMark p.base p.state r true → SoFar reading file first now (past_mark next p)
+    mark_taken is = record {
       accepted = so_far.accepted;
       output = so_far.output;
-      plays = plays_on (play_from p.state (p.number + 1) (left_at file next) reading.tail)
-          (left_plays next (mark c) one (play_from p.state (p.number + 1) (left_at file next) reading.tail) (mark_plays p.state p.number c (left_at file next) reading.tail true right));
+      plays = plays_on (play_from p.state p.state (p.number + 1) (left_at file next) reading.tail)
+          (left_plays next r one (play_from p.state p.state (p.number + 1) (left_at file next) reading.tail) (is.plays p.number (left_at file next) reading.tail));
       place = so_far.place;
-      tail = tail_on next (mark c) one;
-      epochs = omega (arith, so_far.epochs, ap (λ (l : List Record). length (epochs_of l)) (one_left next (mark c) one));
+      tail = tail_on next r one;
+      epochs = omega (arith, so_far.epochs, ap (λ (l : List Record). length (epochs_of l)) (one_left next r one), ap (λ (l : List Epoch). length l) (is.no_epoch (left_at file next)));
       sent = so_far.sent;
       history = so_far.history;
       moments = so_far.moments;
@@ -304,12 +329,26 @@ play_moments reading file first now p false is = all_moments reading first now p
 
 pub epoch_bounded : (file : List ℕ) (p : Progress) (s : State) (sent next : ℕ) (e : Epoch) → length file ≤ MAX_JOURNAL_BYTES → IsBounded file p → p.at < next → next ≤ length file
     → steps_of e.slices ≤ MAX_EPOCH_STEPS → s.steps ≡ p.state.steps + steps_of e.slices → s.input ≤ p.state.input + MAX_CALL_BYTES * steps_of e.slices → sent ≤ MAX_CALL_BYTES * steps_of e.slices
-    → (s.steps < 2 ^ 64 → s.input < 2 ^ 64 → IsEncodable s) → IsBounded file (record { state = s; at = next; number = p.number + 1; epochs = p.epochs + 1; sent = p.sent + sent })
+    → (s.steps < 2 ^ 64 → s.input < 2 ^ 64 → IsEncodable s) → IsBounded file (record { base = p.base; state = s; at = next; number = p.number + 1; epochs = p.epochs + 1; sent = p.sent + sent })
 epoch_bounded file p s sent next e read is further within few counts reads writes encodable = record {
+  base = is.base;
   encodable = encodable (omega (arith, is.few_steps, is.few_epochs, is.few, is.within, read, counts, few)) (omega (arith, is.little_input, is.few_epochs, is.few, is.within, read, reads, few));
   few_steps = omega (arith, is.few_steps, counts, few);
   little_input = omega (arith, is.little_input, reads, few);
   little_sent = omega (arith, is.little_sent, writes, few);
+  few_epochs = omega (arith, is.few_epochs);
+  few = omega (arith, is.few, further);
+  within = within;
+}
+
+-- behind a mark
+pub mark_bounded : (file : List ℕ) (p : Progress) (next : ℕ) → IsBounded file p → p.at < next → next ≤ length file → IsBounded file (past_mark next p)
+mark_bounded file p next is further within = record {
+  base = is.encodable;
+  encodable = is.encodable;
+  few_steps = is.few_steps;
+  little_input = is.little_input;
+  little_sent = is.little_sent;
   few_epochs = omega (arith, is.few_epochs);
   few = omega (arith, is.few, further);
   within = within;
@@ -329,7 +368,7 @@ abbrev pub Header : Type 0
 Header = (bytes guest list : List ℕ) → header_at (first_bytes bytes) ≡ Some (guest, list) → reads bytes ≡ Some (reading_of guest (length (first_bytes bytes)) (list_from list))
 
 abbrev pub at_start : (first : ℕ) → State → Progress
-at_start first start = record { state = start; at = first; number = 1; epochs = 0; sent = 0 }
+at_start first start = record { base = start; state = start; at = first; number = 1; epochs = 0; sent = 0 }
 
 -- a play of this file, whose list goes on or was played
 abbrev pub IsPlay : (file : List ℕ) → (first now : Option History) → Progress → (more : Bool) → Type 0
@@ -345,7 +384,7 @@ module _ (file : List ℕ) (first : ℕ) (start : State) (is : IsStart file firs
         record {
           accepted = is.accepted;
           output = [];
-          plays = ap (λ (s : State). play_from s 1 list.0 reading.tail) (sym is.start_is);
+          plays = ap (λ (s : State). play_from s s 1 list.0 reading.tail) (sym is.start_is);
           place = length (first_bytes file) - length list.1;
           tail = ap (λ (n : ℕ). tail_at (next_at list.1) (length (first_bytes file) - length list.1) n) (omega arith);
           epochs = omega arith;
@@ -357,6 +396,7 @@ module _ (file : List ℕ) (first : ℕ) (start : State) (is : IsStart file firs
 
   pub begun_bounded : IsBounded file (at_start first start)
   begun_bounded = record {
+    base = is.encodable;
     encodable = is.encodable;
     few_steps = omega (arith, ap (λ (s : State). s.steps) is.start_is);
     little_input = omega (arith, ap (λ (s : State). s.input) is.start_is);

@@ -1,7 +1,10 @@
 -- A part of a journal that was run by itself: how it grows, and where it stands in the play.
-use Rattle.std.proofs.Common.{◌≡◌, inl, Bool, ℕ, ◌+◌, ◌*◌, ◌<◌, ◌≤◌, true, false, List, [], ◌∷◌, ◌++◌, length, drop, Option, Some, Result, Ok, Err, refl, sym, ap, subst, ◌∙◌, arith}
+use Rattle.std.proofs.Common.{◌≡◌, inl, Bool, ℕ, ◌+◌, ◌*◌, ◌<◌, ◌≤◌, true, false, List, [], ◌∷◌, ◌++◌, length, drop, Option, Some, None, Result, Ok, Err, refl, sym, ap, subst, ◌∙◌, arith}
+use Rattle.std.specs.Prelude.{IfSome}
 use Rattle.std.proofs.lemmas.List.{length-append}
+use Rattle.std.proofs.lemmas.List.Elements.{All-from_recursion, All-push, recursion_from_All}
 use Rattle.dp_base.specs.declared.out_of_memory.OutOfMemory.{OutOfMemory}
+use Rattle.epoch_replay.specs.declared.stretch.Job.{Job}
 use Rattle.epoch_replay.specs.declared.stretch.Stretch.{Stretch}
 use Rattle.dp_base.specs.declared.answer.Answer.{Answer}
 use Rattle.dp_base.specs.declared.limits.TheConstants.{MAX_CALL_BYTES, MAX_EPOCH_STEPS}
@@ -12,24 +15,27 @@ use Rattle.disk_model.specs.declared.world.Stream.TheVariants.{Out}
 use Rattle.device.specs.Sending.{Sent}
 use Rattle.guest_kernel.specs.declared.state.State.{State}
 use Rattle.guest_kernel.specs.Slices.{at, run}
-use Rattle.guest_state.specs.Checkpoint.{Checkpoint}
-use Rattle.checkpoint.specs.State.{IsEncodable}
+use Rattle.guest_state.specs.Checkpoint.{Checkpoint, IsCheckpoint, checkpoint_bytes}
+use Rattle.checkpoint.specs.State.{IsEncodable, checkpoint_of}
+use Rattle.partial_mark.specs.Base.{applied}
+use Rattle.partial_mark.specs.Partial.{IsPartial, Partial, partial_bytes}
 use Rattle.journal_text.specs.Reading.{Reading, tail_at}
-use Rattle.journal_text.specs.Records.{Record, epoch, mark, list_from, next_at}
+use Rattle.journal_text.specs.Records.{Record, epoch, mark, mark_kind, partial, list_from, next_at}
 use Rattle.epoch_replay.specs.declared.progress.Progress.{Progress}
 use Rattle.epoch_replay.specs.declared.replay_fault.ReplayFault.TheVariants as faults
-use Rattle.epoch_replay.specs.Play.{Played, behind, is_right, play_from, play_of}
+use Rattle.epoch_replay.specs.Play.{Played, behind, is_right, is_right_if, play_from, play_of}
 use Rattle.epoch_replay.specs.Playing.{SoFar, left_at}
 use Rattle.epoch_replay.specs.Replaying.{EachMoment, Replayed, epochs_of, output_of}
-use Rattle.epoch_replay.specs.Stretches.{AreResults, IsRun}
+use Rattle.epoch_replay.specs.Stretches.{AreJobs, AreResults, HasBegun, IsRun, IsStretch}
 use Rattle.epoch_replay.proofs.Moments.{each_moment, sent_moments}
-use Rattle.epoch_replay.proofs.Going.{accepted_plays, behind_twice, epoch_plays, mark_plays, sent_more, sent_some}
+use Rattle.epoch_replay.proofs.Going.{IsMark, accepted_plays, behind_twice, epoch_plays, full_is, partial_is, sent_more, sent_some}
 
 -- ---- a stretch begins
 
-pub at_first : (file : List ℕ) (first : ℕ) (start : State) → first ≤ length file → IsRun file first start first start [] 0 0
+-- with its state as the base
+pub at_first : (file : List ℕ) (first : ℕ) (start : State) → first ≤ length file → IsRun file first start start first start [] 0 0
 at_first file first start within = record {
-  plays = λ number tail. ap (λ (n : ℕ). play_from start n (left_at file first) tail) (omega arith);
+  plays = λ number tail. ap (λ (n : ℕ). play_from start start n (left_at file first) tail) (omega arith);
   rest = refl;
   count = omega arith;
   epochs_left = omega arith;
@@ -42,41 +48,57 @@ at_first file first start within = record {
   encodable = λ is. is;
 }
 
--- a mark is its own state
-pub at_mark : (file : List ℕ) (first next : ℕ) (start : State) (c : Checkpoint) → list_from (drop first file) ≡ (mark c ∷ (list_from (drop next file)).0, (list_from (drop next file)).1)
-    → is_right c start ≡ true → first < next → next ≤ length file → IsRun file first start next start [] 1 0
-at_mark file first next start c one right further within =
-    let one_left : left_at file first ≡ mark c ∷ left_at file next = ap (λ (l : List Record × List ℕ). l.0) one in
+-- a mark is its own state, over its base
+pub at_mark : (file : List ℕ) (first next : ℕ) (base start : State) (r : Record) → list_from (drop first file) ≡ (r ∷ (list_from (drop next file)).0, (list_from (drop next file)).1)
+    → IsMark base start r true → first < next → next ≤ length file → IsRun file first base start next start [] 1 0
+at_mark file first next base start r one is further within =
+    let one_left : left_at file first ≡ r ∷ left_at file next = ap (λ (l : List Record × List ℕ). l.0) one in
     record {
-      plays = λ number tail. ap (λ (l : List Record). play_from start number l tail) one_left ∙ mark_plays start number c (left_at file next) tail true right;
+      plays = λ number tail. ap (λ (l : List Record). play_from base start number l tail) one_left ∙ is.plays number (left_at file next) tail;
       rest = ap (λ (l : List Record × List ℕ). l.1) one;
       count = omega (arith, ap (λ (l : List Record). length l) one_left);
-      epochs_left = omega (arith, ap (λ (l : List Record). length (epochs_of l)) one_left);
+      epochs_left = omega (arith, ap (λ (l : List Record). length (epochs_of l)) one_left, ap (λ (l : List Epoch). length l) (is.no_epoch (left_at file next)));
       few_steps = omega arith;
       little_input = omega arith;
       little_sent = omega arith;
       few_epochs = omega arith;
       few = omega (arith, further);
       within = within;
-      encodable = λ is. is;
+      encodable = λ begins. begins;
     }
+
+-- a mark that was opened, if it has a state
+pub opened : (file : List ℕ) (first next : ℕ) (base : State) (r : Record) (o : Option State) → list_from (drop first file) ≡ (r ∷ (list_from (drop next file)).0, (list_from (drop next file)).1)
+    → IfSome o (λ s. IsMark base s r true) → IfSome o IsEncodable → first < next → next ≤ length file → IfSome o (λ s. HasBegun file first base next s)
+opened file first next base r (Some s) one is encodable further within = (at_mark file first next base s r one is further within, encodable)
+opened file first next base r None one is encodable further within = tt
+
+pub full_opened : (base : State) (body : List ℕ) (c : Checkpoint) (o : Option State) → IsCheckpoint c → body ≡ mark_kind ∷ checkpoint_bytes c
+    → IfSome o (λ s. (d : Checkpoint) → IsCheckpoint d → body ≡ mark_kind ∷ checkpoint_bytes d → is_right d s ≡ true) → IfSome o (λ s. IsMark base s (mark c) true)
+full_opened base body c (Some s) is_c body_is right = full_is base s c true (right c is_c body_is)
+full_opened base body c None is_c body_is right = tt
+
+pub partial_opened : (base : State) (body : List ℕ) (m : Partial) (o : Option State) → IsPartial m → body ≡ partial_bytes m
+    → IfSome o (λ s. (d : Partial) → IsPartial d → body ≡ partial_bytes d → is_right_if (applied (checkpoint_of base) d) s ≡ true) → IfSome o (λ s. IsMark base s (partial m) true)
+partial_opened base body m (Some s) is_m body_is right = partial_is base s m true (right m is_m body_is)
+partial_opened base body m None is_m body_is right = tt
 
 -- ---- a stretch goes on
 
-pub grown : (file : List ℕ) (first : ℕ) (start : State) (place : ℕ) (state : State) (output : List ℕ) (records epochs : ℕ) → IsRun file first start place state output records epochs
+pub grown : (file : List ℕ) (first : ℕ) (base start : State) (place : ℕ) (state : State) (output : List ℕ) (records epochs : ℕ) → IsRun file first base start place state output records epochs
     → (next : ℕ) (e : Epoch) → list_from (drop place file) ≡ (epoch e ∷ (list_from (drop next file)).0, (list_from (drop next file)).1) → place < next → next ≤ length file
     → (s : State) (out : List ℕ) (left : List Answer) → run e.slices (at state [] e.answers) ≡ Ok (at s out left)
     → steps_of e.slices ≤ MAX_EPOCH_STEPS → s.steps ≡ state.steps + steps_of e.slices → s.input ≤ state.input + MAX_CALL_BYTES * steps_of e.slices → length out ≤ MAX_CALL_BYTES * steps_of e.slices
     → (IsEncodable state → IsEncodable s)
-    → IsRun file first start next s (output ++ out) (records + 1) (epochs + 1)
-grown file first start place state output records epochs is next e one further within s out left ran few counts reads writes encodable =
+    → IsRun file first base start next s (output ++ out) (records + 1) (epochs + 1)
+grown file first base start place state output records epochs is next e one further within s out left ran few counts reads writes encodable =
     let one_left : left_at file place ≡ epoch e ∷ left_at file next = ap (λ (l : List Record × List ℕ). l.0) one in
     record {
       plays = λ number tail.
           is.plays number tail
-          ∙ ap (behind output) (ap (λ (l : List Record). play_from state (number + records) l tail) one_left ∙ epoch_plays state (number + records) e (left_at file next) tail (Ok (at s out left)) ran)
-          ∙ behind_twice output out (play_from s ((number + records) + 1) (left_at file next) tail)
-          ∙ ap (λ (n : ℕ). behind (output ++ out) (play_from s n (left_at file next) tail)) (omega arith);
+          ∙ ap (behind output) (ap (λ (l : List Record). play_from start state (number + records) l tail) one_left ∙ epoch_plays start state (number + records) e (left_at file next) tail (Ok (at s out left)) ran)
+          ∙ behind_twice output out (play_from start s ((number + records) + 1) (left_at file next) tail)
+          ∙ ap (λ (n : ℕ). behind (output ++ out) (play_from start s n (left_at file next) tail)) (omega arith);
       rest = is.rest ∙ ap (λ (l : List Record × List ℕ). l.1) one;
       count = omega (arith, is.count, ap (λ (l : List Record). length l) one_left);
       epochs_left = omega (arith, is.epochs_left, ap (λ (l : List Record). length (epochs_of l)) one_left);
@@ -92,16 +114,17 @@ grown file first start place state output records epochs is next e one further w
 -- ---- a stretch is taken: it begins where the play is, in the state that it is in
 
 module _ (reading : Reading) (file : List ℕ) (before now : Option History) (p : Progress) (so_far : SoFar reading file before now p)
-    (first : ℕ) (start : State) (place : ℕ) (state : State) (output : List ℕ) (records epochs : ℕ) (is : IsRun file first start place state output records epochs)
-    (same_place : first ≡ p.at) (same_state : start ≡ p.state) where
-  from_here : play_from p.state p.number (left_at file p.at) reading.tail ≡ behind output (play_from state (p.number + records) (left_at file place) reading.tail)
+    (first : ℕ) (base start : State) (place : ℕ) (state : State) (output : List ℕ) (records epochs : ℕ) (is : IsRun file first base start place state output records epochs)
+    (same_place : first ≡ p.at) (same_state : start ≡ p.state) (same_base : base ≡ p.base) where
+  from_here : play_from p.base p.state p.number (left_at file p.at) reading.tail ≡ behind output (play_from start state (p.number + records) (left_at file place) reading.tail)
   from_here =
-      ap (λ (n : ℕ). play_from p.state p.number (left_at file n) reading.tail) (sym same_place)
-      ∙ ap (λ (s : State). play_from s p.number (left_at file first) reading.tail) (sym same_state)
+      ap (λ (n : ℕ). play_from p.base p.state p.number (left_at file n) reading.tail) (sym same_place)
+      ∙ ap (λ (s : State). play_from p.base s p.number (left_at file first) reading.tail) (sym same_state)
+      ∙ ap (λ (b : State). play_from b start p.number (left_at file first) reading.tail) (sym same_base)
       ∙ is.plays p.number reading.tail
 
-  plays_behind : play_of reading ≡ behind (so_far.output ++ output) (play_from state (p.number + records) (left_at file place) reading.tail)
-  plays_behind = so_far.plays ∙ ap (behind so_far.output) from_here ∙ behind_twice so_far.output output (play_from state (p.number + records) (left_at file place) reading.tail)
+  plays_behind : play_of reading ≡ behind (so_far.output ++ output) (play_from start state (p.number + records) (left_at file place) reading.tail)
+  plays_behind = so_far.plays ∙ ap (behind so_far.output) from_here ∙ behind_twice so_far.output output (play_from start state (p.number + records) (left_at file place) reading.tail)
 
   here : (n : ℕ) → n ≡ first → left_at file n ≡ left_at file first
   here n at_ = ap (λ (m : ℕ). left_at file m) at_
@@ -114,7 +137,7 @@ module _ (reading : Reading) (file : List ℕ) (before now : Option History) (p 
       ∙ ap (λ (n : ℕ). tail_at (next_at (list_from (drop place file)).1) so_far.place n) (omega (arith, is.count))
 
   pub taken : (later : Option History) (count : ℕ) → count ≡ length output → IfKnown (Sent Out output true) now later
-      → SoFar reading file before later (record { state = state; at = place; number = p.number + records; epochs = p.epochs + epochs; sent = p.sent + count })
+      → SoFar reading file before later (record { base = start; state = state; at = place; number = p.number + records; epochs = p.epochs + epochs; sent = p.sent + count })
   taken later count counted known = record {
     accepted = so_far.accepted;
     output = so_far.output ++ output;
@@ -129,7 +152,7 @@ module _ (reading : Reading) (file : List ℕ) (before now : Option History) (p 
 
   -- while its output is sent
   pub taken_moments : (later : Option History) (ok : Bool) → IfKnown (Sent Out output ok) now later → EachMoment (Some reading) before later
-  taken_moments later ok known = each_moment (Some reading) (so_far.output ++ output) (play_from state (p.number + records) (left_at file place) reading.tail).output before later
+  taken_moments later ok known = each_moment (Some reading) (so_far.output ++ output) (play_from start state (p.number + records) (left_at file place) reading.tail).output before later
       (ap output_of (accepted_plays reading so_far.accepted) ∙ ap (λ (q : Played). q.output) plays_behind)
       (sent_moments so_far.output output ok before now later so_far.history so_far.moments known)
 
@@ -137,7 +160,7 @@ module _ (reading : Reading) (file : List ℕ) (before now : Option History) (p 
   not_taken later known = inl (
     play_of reading,
     accepted_plays reading so_far.accepted,
-    sent_some so_far.output output (play_from state (p.number + records) (left_at file place) reading.tail).output (play_of reading).output before now later
+    sent_some so_far.output output (play_from start state (p.number + records) (left_at file place) reading.tail).output (play_of reading).output before now later
         (ap (λ (q : Played). q.output) plays_behind) so_far.history known,
   )
 
@@ -146,3 +169,10 @@ module _ (reading : Reading) (file : List ℕ) (before now : Option History) (p 
 pub other_results : (file : List ℕ) (results rest : List (Result (Option Stretch) OutOfMemory)) → AreResults file results → rest ≡ drop 1 results → AreResults file rest
 other_results file [] rest are is = subst (AreResults file) (sym is) tt
 other_results file (r ∷ rs) rest are is = subst (AreResults file) (sym is) are.1
+
+-- ---- jobs
+
+pub one_job_more : (file : List ℕ) (jobs all : List Job) (job : Job) → all ≡ jobs ++ job ∷ [] → AreJobs file jobs → IsStretch file job.stretch → AreJobs file all
+one_job_more file jobs all job is are this =
+    let Has : Job → Type 0 = λ j. IsStretch file j.stretch in
+    subst (AreJobs file) (sym is) (recursion_from_All Has (jobs ++ job ∷ []) (All-push Has jobs job (All-from_recursion Has jobs are) this))

@@ -16,7 +16,7 @@ counts_at body = do
   answer_count ← number_at 4 slices.1
   Some (record { slices = slice_count.0; steps = steps_of slices.0; answers = answer_count.0 })
 
--- in the body of a mark
+-- in the body of a mark, full or partial
 unfoldable pub marked_steps_at : List ℕ → Option ℕ
 marked_steps_at body = do
   kind ← number_at 1 body

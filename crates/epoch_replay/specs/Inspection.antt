@@ -4,7 +4,7 @@ use Rattle.std.specs.Prelude.{◌+◌, ℕ, List, [], ◌∷◌, ◌++◌, lengt
 use Rattle.std.specs.List.{concat}
 use Rattle.dp_base.specs.Journal.{steps_of}
 use Rattle.journal_text.specs.Reading.{Reading, Tail, bad_record, end}
-use Rattle.journal_text.specs.Records.{Record, epoch, mark}
+use Rattle.journal_text.specs.Records.{Record, epoch, mark, partial}
 
 abbrev pub guest_line : (bytes : ℕ) → List ℕ
 guest_line bytes = concat (codes "guest " ∷ decimal bytes ∷ codes "\n" ∷ [])
@@ -23,6 +23,7 @@ end_line place = concat (codes "end " ∷ decimal place ∷ codes "\n" ∷ [])
 abbrev pub record_line : (number : ℕ) → Record → List ℕ
 record_line number (epoch e) = epoch_line number (length e.slices) (steps_of e.slices) (length e.answers)
 record_line number (mark c) = mark_line number c.steps
+record_line number (partial m) = mark_line number m.fields.steps
 
 -- of these records, of which the first has this number
 unfoldable pub record_lines : (number : ℕ) → List Record → List ℕ

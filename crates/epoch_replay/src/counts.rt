@@ -3,6 +3,7 @@ ghost use Rattle.std.specs.Prelude.{◌≡◌, ◌∷◌, Some};
 ghost use Rattle.dp_base.specs.Journal.{Epoch, IsEpoch, epoch_body};
 ghost use Rattle.guest_state.specs.Checkpoint.{Checkpoint, IsCheckpoint, checkpoint_bytes};
 ghost use Rattle.journal_text.specs.Records.{mark_kind};
+ghost use Rattle.partial_mark.specs.Partial.{IsPartial, Partial, partial_bytes};
 ghost use Rattle.epoch_replay.specs.Counting.{counts_at, counts_of, marked_steps_at};
 
 use dp_base::field::{read_u8, read_u32, read_u64};
@@ -39,9 +40,10 @@ fn count_epoch(body: &[u8]) -> Option<EpochCounts>
     })
 }
 
-/// Returns the step count of the state in the mark with this body.
+/// Returns the step count of the state in the mark with this body, full or partial.
 pub fn marked_steps(body: &[u8]) -> Option<u64>
-    ensures { (c : Checkpoint) → IsCheckpoint c → body.now ≡ mark_kind ∷ checkpoint_bytes c → result ≡ Some c.steps }
+    ensures full { (c : Checkpoint) → IsCheckpoint c → body.now ≡ mark_kind ∷ checkpoint_bytes c → result ≡ Some c.steps }
+    ensures partial { (m : Partial) → IsPartial m → body.now ≡ partial_bytes m → result ≡ Some m.fields.steps }
 {
     read_marked_steps(body)
 }

@@ -145,6 +145,15 @@ fn list_record<W: World>(
             here.number += 1;
             Ok(true)
         }
+        Rec::Partial { body, next } => {
+            let Some(steps) = marked_steps(body) else {
+                return Err(InspectFault::BadJournal(here.number));
+            };
+            send_mark_line(world, here.number, steps)?;
+            here.at = next;
+            here.number += 1;
+            Ok(true)
+        }
         Rec::End { at } => {
             send_end_line(world, at)?;
             Ok(false)

@@ -29,15 +29,19 @@ pub fn a_crash_in_a_replay_leaves_the_disk()
 {}
 
 /// Playing records one after another is playing each stretch between two marks from its own mark: what comes of it is joined up to the first
-/// stretch that stops, or whose end isn't the next mark.
+/// stretch that stops, or whose end isn't the next mark. A partial mark's state is taken against that of the mark before it, without
+/// any epoch.
 pub fn a_play_is_that_of_its_stretches()
-    ensures records { (s : State) (number : ℕ) (records : List Record) (tail : Tail) → AllByRecursion IsRecord records →
-        HasRoom (length records) s → play_from s number records tail
-        ≡ play_parts (stretch s (first_part records)) number (length (first_part records)) (marked_parts records) tail }
+    ensures records { (base s : State) (number : ℕ) (records : List Record) (tail : Tail) → IsEncodable base →
+        AllByRecursion IsRecord records → HasRoom (length records) s → play_from base s number records tail
+        ≡ play_parts (stretch s (first_part records)) number (length (first_part records))
+        (marked_parts (Some (checkpoint_of base)) records) tail }
     ensures journal { (bytes : List ℕ) (r : Reading) → AreBytes bytes → reads bytes ≡ Some r → IsGuestFile r.guest → play_of r
-        ≡ play_parts (stretch (start_state r.guest) (first_part r.records)) 1 (length (first_part r.records)) (marked_parts r.records) r.tail }
+        ≡ play_parts (stretch (start_state r.guest) (first_part r.records)) 1 (length (first_part r.records))
+        (marked_parts (Some (checkpoint_of (start_state r.guest))) r.records) r.tail }
 {
     guest_state::laws::whole_checkpoints();
+    partial_mark::laws::a_partial_stands_for_a_checkpoint();
     guest_kernel::laws::a_run_is_as_long_as_its_slices();
     checkpoint::laws::a_run_keeps_a_state_encodable();
     checkpoint::laws::a_start_state_is_encodable();

@@ -1,23 +1,24 @@
 // A journal is read whole, and played record by record.
-ghost use Rattle.std.specs.Prelude.{◌≡◌, ◌<◌, ◌≤◌, ◌+◌, Err, IfOk, IsErrOf, IsTrue, length, Option, Some};
+ghost use Rattle.std.specs.Prelude.{◌≡◌, ◌<◌, ◌≤◌, ◌+◌, ◌-◌, ◌^◌, Err, IfOk, IsErrOf, IsTrue, length, Option, Some};
 ghost use Rattle.dp_base.specs.declared.limits.TheConstants.{MAX_JOURNAL_BYTES};
 ghost use Rattle.disk_model.specs.Counts.{Rose};
 ghost use Rattle.disk_model.specs.History.{History};
 ghost use Rattle.disk_model.specs.Known.{known_disk};
 ghost use Rattle.journal_text.specs.Reading.{Reading, reads};
 ghost use Rattle.epoch_replay.specs.declared.replay_fault.ReplayFault.TheVariants as faults;
-ghost use Rattle.epoch_replay.specs.Playing.{IsBounded, IsStart, PlayedOn, SoFar};
+ghost use Rattle.epoch_replay.specs.Playing.{IsBounded, IsStart, PlayedOn, SoFar, past_mark};
 ghost use Rattle.epoch_replay.specs.Faults.{MetNoOther};
 ghost use Rattle.epoch_replay.specs.Replaying.{EachMoment, IsKnownToEnd, IsNoFault, OnDisk, Replayed};
 
 use crate::epoch::play_epoch;
-use crate::mark::is_right_mark;
+use crate::mark::{is_right_mark, is_right_partial};
 use crate::progress::Progress;
 use crate::replay_fault::ReplayFault;
 use crate::window::play_window;
 use checkpoint::digest;
 use device::send_all;
 use disk_model::{Gate, OpenGate, Stream, World};
+use dp_base::OutOfMemory;
 use dp_report::{Report, line};
 use epoch_journal::read_whole;
 use guest_kernel::{State, start_from_file};
@@ -174,7 +175,9 @@ fn play<R: Threads + Sync, W: World, G: Gate + Sync>(
     ensures sink_count { W.sink_faults world.old ≤ W.sink_faults world.new }
 {
     journal_text::laws::reading_goes_on();
+    let base = start.share(alloc)?;
     let mut progress = Progress {
+        base,
         state: start,
         at: first,
         number: 1,
@@ -284,11 +287,28 @@ fn play_record<W: World>(
             if !is_right_mark(alloc, &progress.state, body)? {
                 return Err(ReplayFault::BadMark(progress.number));
             }
-            progress.at = next;
-            progress.number += 1;
+            pass_mark(alloc, next, progress)?;
+            Ok(true)
+        }
+        Rec::Partial { body, next } => {
+            if !is_right_partial(alloc, &progress.base, &progress.state, body)? {
+                return Err(ReplayFault::BadMark(progress.number));
+            }
+            pass_mark(alloc, next, progress)?;
             Ok(true)
         }
         Rec::End { .. } => Ok(false),
         Rec::Bad => Err(ReplayFault::BadJournal(progress.number)),
     }
+}
+
+// Goes on to the next gate. The state here is the base of the next mark.
+fn pass_mark(alloc: Global, next: u64, progress: &mut Progress) -> Result<(), OutOfMemory>
+    requires few { progress.old.number < 2 ^ 32 - 1 }
+    ensures { IfOk result (λ done. progress.new ≡ past_mark next progress.old) }
+{
+    progress.base = progress.state.share(alloc)?;
+    progress.at = next;
+    progress.number += 1;
+    Ok(())
 }

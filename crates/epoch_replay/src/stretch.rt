@@ -1,17 +1,13 @@
 // A stretch of a journal, run on its own.
-ghost use Rattle.std.specs.Prelude.{◌≡◌, ◌∷◌, ◌≤◌, ◌<◌, IfOk, IfSome, IsTrue, length, true};
+ghost use Rattle.std.specs.Prelude.{◌≡◌, ◌≤◌, ◌<◌, ℕ, List, IfOk, IfSome, IsTrue, length};
 ghost use Rattle.dp_base.specs.declared.limits.TheConstants.{MAX_JOURNAL_BYTES};
-ghost use Rattle.guest_state.specs.Checkpoint.{Checkpoint, IsCheckpoint, checkpoint_bytes};
 ghost use Rattle.checkpoint.specs.State.{IsEncodable};
-ghost use Rattle.journal_text.specs.Records.{mark_kind};
-ghost use Rattle.epoch_replay.specs.Play.{is_right};
-ghost use Rattle.epoch_replay.specs.Stretches.{IsResult, IsStretch, IsUseful};
+ghost use Rattle.epoch_replay.specs.Stretches.{HasBegun, IsBegun, IsResult, IsStretch};
 
 use crate::epoch::play_epoch;
-use crate::mark::open_mark;
+use crate::mark::{open_mark, open_partial};
 use disk_model::Gate;
 use dp_base::OutOfMemory;
-use dp_base::limits::MAX_JOURNAL_BYTES;
 use guest_kernel::State;
 use journal_text::{Rec, next_record};
 use std::alloc::Global;
@@ -22,13 +18,12 @@ const MUCH_OUTPUT: usize = 1 << 26;
 // No state that a journal reaches has this many steps, or this many bytes of input.
 const TOO_MANY: u64 = 1 << 63;
 
-/// What a worker runs: the records from this gate on, from this state, or from the mark at the gate if there is no state.
+/// What a worker runs: a stretch that has begun.
 #[derive(Drop)]
 pub struct Job {
     /// Its number among those that run side by side, from 1.
     pub index: u32,
-    pub at: u64,
-    pub state: Option<State>,
+    pub stretch: Stretch,
 }
 
 /// A stretch that was run, and what it results in. It says nothing of what comes before it.
@@ -36,7 +31,9 @@ pub struct Job {
 pub struct Stretch {
     /// The gate of its first record.
     pub first: u64,
-    /// The state in which it begins.
+    /// The base of the mark with which it begins. If it begins with an epoch, this is the same as its start.
+    pub base: State,
+    /// The state in which it begins, and the base of the mark after it.
     pub start: State,
     /// The gate after its last record.
     pub at: u64,
@@ -51,22 +48,19 @@ pub struct Stretch {
 }
 
 /// Runs a stretch of the file: its epochs up to the next mark, or up to a limit of this file. Returns `None` if an epoch can't be
-/// run, or if there is no mark where the job begins. `None` says nothing of the journal: the replay runs these records itself.
+/// run. `None` says nothing of the journal: the replay runs these records itself.
 pub fn run_job<G: Gate>(
     alloc: Global,
     file: &[u8],
     job: Job,
     gate: &G,
 ) -> Result<Option<Stretch>, OutOfMemory>
+    requires few { length file.now ≤ MAX_JOURNAL_BYTES }
+    requires is { IsStretch file.now job.stretch }
     ensures { IsResult file.now result }
 {
     gate.pass(job.index, job.index);
-    if file.len() > MAX_JOURNAL_BYTES as usize || job.at > file.len() as u64 {
-        return Ok(None);
-    }
-    let Some(mut stretch) = begin(alloc, file, job)? else {
-        return Ok(None);
-    };
+    let mut stretch = job.stretch;
     let mut more = true;
     'epochs: while more {
         let Some(again) = grow(alloc, file, &mut stretch)? else {
@@ -77,54 +71,67 @@ pub fn run_job<G: Gate>(
     Ok(Some(stretch))
 }
 
-fn begin(alloc: Global, file: &[u8], job: Job) -> Result<Option<Stretch>, OutOfMemory>
-    requires few { length file.now ≤ MAX_JOURNAL_BYTES }
-    requires within { job.at ≤ length file.now }
-    ensures { IsResult file.now result }
-{
-    let Job { at, state, .. } = job;
-    match state {
-        Some(state) => begin_at(alloc, file, at, state),
-        None => begin_at_mark(alloc, file, at),
-    }
-}
-
-fn begin_at(
-    alloc: Global,
-    file: &[u8],
-    at: u64,
-    state: State,
-) -> Result<Option<Stretch>, OutOfMemory>
+/// Begins a stretch at this gate in this state, which is also the base.
+pub fn begin_at(alloc: Global, file: &[u8], at: u64, state: &State) -> Result<Stretch, OutOfMemory>
     requires within { at ≤ length file.now }
-    ensures { IsResult file.now result }
+    ensures is { IfOk result (IsStretch file.now) }
+    ensures start { IfOk result (λ stretch. stretch.start ≡ state.now) }
 {
+    let base = state.share(alloc)?;
     let start = state.share(alloc)?;
-    Ok(Some(Stretch {
+    let state = state.share(alloc)?;
+    Ok(Stretch {
         first: at,
+        base,
         start,
         at,
         state,
         output: Vec::new(alloc),
         records: 0,
         epochs: 0,
-    }))
+    })
 }
 
-fn begin_at_mark(alloc: Global, file: &[u8], at: u64) -> Result<Option<Stretch>, OutOfMemory>
+/// Begins a stretch with the mark at this gate, over this base. Returns `None` if there is no mark, or if it has no state.
+pub fn begin_at_mark(
+    alloc: Global,
+    file: &[u8],
+    at: u64,
+    base: &State,
+) -> Result<Option<Stretch>, OutOfMemory>
     requires few { length file.now ≤ MAX_JOURNAL_BYTES }
-    ensures { IsResult file.now result }
+    requires base { IsEncodable base.now }
+    ensures { IfOk result (IsBegun file.now) }
 {
     journal_text::laws::reading_goes_on();
     journal_text::laws::a_record_stands_at_its_gate();
-    let Rec::Mark { body, next } = next_record(file, at) else {
+    match next_record(file, at) {
+        Rec::Mark { body, next } => begin_after(alloc, at, open_mark(alloc, body)?, base, next),
+        Rec::Partial { body, next } => {
+            begin_after(alloc, at, open_partial(alloc, body, base)?, base, next)
+        }
+        _ => Ok(None),
+    }
+}
+
+// Begins a stretch of one record, a mark of this state, up to the next gate.
+fn begin_after(
+    alloc: Global,
+    at: u64,
+    state: Option<State>,
+    base: &State,
+    next: u64,
+) -> Result<Option<Stretch>, OutOfMemory>
+    ensures { (file : List ℕ) → IfSome state (λ s. HasBegun file at base.now next s) → IfOk result (IsBegun file) }
+{
+    let Some(state) = state else {
         return Ok(None);
     };
-    let Some(state) = open_mark(alloc, body)? else {
-        return Ok(None);
-    };
+    let base = base.share(alloc)?;
     let start = state.share(alloc)?;
     Ok(Some(Stretch {
         first: at,
+        base,
         start,
         at: next,
         state,

@@ -8,11 +8,11 @@ ghost use Rattle.epoch_replay.specs.declared.replay_fault.ReplayFault.TheVariant
 ghost use Rattle.epoch_replay.specs.Playing.{IsBounded, SoFar};
 ghost use Rattle.epoch_replay.specs.Faults.{MetNoOther};
 ghost use Rattle.epoch_replay.specs.Replaying.{EachMoment};
-ghost use Rattle.epoch_replay.specs.Stretches.{AreResults, IsResult, IsStretch, WasTaken};
+ghost use Rattle.epoch_replay.specs.Stretches.{AreJobs, AreResults, IsBegun, IsResult, IsStretch, WasTaken};
 
 use crate::progress::Progress;
 use crate::replay_fault::ReplayFault;
-use crate::stretch::{Job, Stretch, run_job};
+use crate::stretch::{Job, Stretch, begin_at, begin_at_mark, run_job};
 use device::send_all;
 use disk_model::{Gate, Stream, World};
 use dp_base::OutOfMemory;
@@ -20,6 +20,7 @@ use dp_base::field::{read_u32, read_u64};
 use dp_base::journal::OPEN_GATE;
 use dp_base::limits::MAX_WORKERS;
 use journal_text::MARK_KIND;
+use partial_mark::PARTIAL_KIND;
 use state_compare::equal;
 use std::alloc::{AllocError, Global};
 use std::thread;
@@ -80,42 +81,64 @@ pub fn play_window<R: Threads + Sync, W: World, G: Gate + Sync>(
     Ok(progress.at > before)
 }
 
-// The jobs of a window: one from where the replay is, and one from each of the next marks, at most `ahead` of them. Empty if
-// their stretches aren't worth their threads.
+// The jobs of a window: one from where the replay is, and one from each of the next marks, at most `ahead` of them. The marks are opened
+// in their order, each over the one before. Empty if their stretches aren't worth their threads.
 fn jobs_from(
     alloc: Global,
     file: &[u8],
     ahead: u32,
     progress: &Progress,
-) -> Result<Vec<Job>, OutOfMemory> {
+) -> Result<Vec<Job>, OutOfMemory>
+    requires few { length file.now ≤ MAX_JOURNAL_BYTES }
+    requires bounded { IsBounded file.now progress.now }
+    ensures { IfOk result (λ jobs. AreJobs file.now jobs.items) }
+{
     let mut jobs = Vec::new(alloc);
     let (marks, last) = last_mark(file, progress.at, ahead);
     if marks == 0 || work_up_to(file, progress, last) < u64::from(marks) * WORTH_A_THREAD {
         return Ok(jobs);
     }
-    let state = if is_mark_at(file, progress.at) {
-        None
-    } else {
-        Some(progress.state.share(alloc)?)
+    let Some(first) = begin_here(alloc, file, progress)? else {
+        return Ok(jobs);
     };
+    let mut base = first.start.share(alloc)?;
     jobs.push(Job {
         index: 1,
-        at: progress.at,
-        state,
+        stretch: first,
     })?;
     let mut gate = progress.at;
     'jobs: for number in 0..marks {
         let Some(mark) = next_mark(file, gate) else {
             return Ok(jobs);
         };
+        let Some(stretch) = begin_at_mark(alloc, file, mark, &base)? else {
+            return Ok(jobs);
+        };
+        base = stretch.start.share(alloc)?;
         jobs.push(Job {
             index: number.saturating_add(2),
-            at: mark,
-            state: None,
+            stretch,
         })?;
         gate = mark;
     }
     Ok(jobs)
+}
+
+// A stretch from where the replay is: with the mark there, or else in the replay's state.
+fn begin_here(
+    alloc: Global,
+    file: &[u8],
+    progress: &Progress,
+) -> Result<Option<Stretch>, OutOfMemory>
+    requires few { length file.now ≤ MAX_JOURNAL_BYTES }
+    requires bounded { IsBounded file.now progress.now }
+    ensures { IfOk result (IsBegun file.now) }
+{
+    if is_mark_at(file, progress.at) {
+        begin_at_mark(alloc, file, progress.at, &progress.base)
+    } else {
+        Ok(Some(begin_at(alloc, file, progress.at, &progress.state)?))
+    }
 }
 
 // How many marks come after the record at this gate, at most `ahead`, and the gate of the last of them.
@@ -165,12 +188,15 @@ fn next_mark(file: &[u8], gate: u64) -> Option<u64> {
     Some(mark)
 }
 
-// Whether the record at this gate has the kind of a mark. Nothing else of the record is tested.
+// Whether the record at this gate has the kind of a mark, full or partial. Nothing else of the record is tested.
 fn is_mark_at(file: &[u8], gate: u64) -> bool {
     if gate >= 1 << 40 {
         return false;
     }
-    file.get(gate as usize + 5) == Some(&MARK_KIND)
+    match file.get(gate as usize + 5) {
+        Some(kind) => *kind == MARK_KIND || *kind == PARTIAL_KIND,
+        None => false,
+    }
 }
 
 // The gate after the record at this gate, by its length alone. `None` if this gate is closed.
@@ -195,6 +221,8 @@ fn run_jobs<R: Threads + Sync, G: Gate + Sync>(
     jobs: Vec<Job>,
     gate: &G,
 ) -> Result<Vec<Result<Option<Stretch>, OutOfMemory>>, AllocError>
+    requires few { length file.now ≤ MAX_JOURNAL_BYTES }
+    requires jobs { AreJobs file.now jobs.items }
     ensures len { IfOk result (λ all. length all.items ≡ length jobs.items) }
     ensures each { IfOk result (λ all. (i : ℕ) (d : _) → i < length jobs.items → IsResult file.now (slice_index_or all.items i d)) }
 {
@@ -237,7 +265,7 @@ fn take_all<W: World>(
     Ok(())
 }
 
-// Takes a stretch if it begins where the replay is, in the same state. Returns whether it was taken.
+// Takes a stretch if it begins where the replay is, in the same state and over the same base. Returns whether it was taken.
 fn take<W: World>(
     world: &mut W,
     file: &[u8],
@@ -266,6 +294,11 @@ fn take<W: World>(
     if stretch.first != progress.at || !equal(&stretch.start, &progress.state) {
         return Ok(false);
     }
+    // A partial mark says what it does only over its own base.
+    let same_base = equal(&stretch.base, &progress.base);
+    if !same_base {
+        return Ok(false);
+    }
     if send_all(world, Stream::Out, &stretch.output).is_err() {
         return Err(ReplayFault::OutputFault);
     }
@@ -273,6 +306,7 @@ fn take<W: World>(
     progress.number += stretch.records;
     progress.epochs += stretch.epochs;
     progress.sent += stretch.output.len() as u64;
+    progress.base = stretch.start;
     progress.state = stretch.state;
     Ok(true)
 }

@@ -1,27 +1,38 @@
-use Rattle.std.proofs.Common.{ℕ, true, false, List, length, Ok, Err, refl, ap, subst, ◌∙◌}
+use Rattle.std.proofs.Common.{ℕ, inl, true, false, List, length, Ok, Err, refl, ap, subst, ◌∙◌}
 use Rattle.std.proofs.lemmas.Result.{err_from_is_err_and}
 use Rattle.disk_model.specs.declared.world.Stream.TheVariants.{Note}
 use Rattle.dp_report.specs.declared.report.Report.{Report}
 use Rattle.journal_text.specs.Reading.{reads}
 use Rattle.epoch_replay.specs.declared.replay_fault.ReplayFault.TheVariants as faults
+use Rattle.epoch_replay.specs.Play.{plays_to}
+use Rattle.epoch_replay.specs.Replaying.{output_of}
 use Rattle.epoch_replay.proofs.Epochs.{sent_as}
+use Rattle.epoch_replay.proofs.Moments.{quiet}
 use Rattle.epoch_journal.proofs.Chunks.{smaller}
 use Rattle.epoch_replay.proofs.Going.{IsPlay, all_moments, at_reading, begun, begun_bounded, line_moments, moments_at, no_line, not_told, told}
 use Rattle.epoch_replay.proofs.replaying.play.Goals as goal
 
 pub records-init : goal.records-init
 records-init g c = record {
-  bounded = begun_bounded c.args.file.now c.args.first c.args.start c.requires.starts;
-  play = begun c.args.file.now c.args.first c.args.start c.requires.starts c.reading_goes_on.ensures.header _;
+  bounded = rw c.in_ok-base.ensures (begun_bounded c.args.file.now c.args.first c.args.start c.requires.starts);
+  play = rw c.in_ok-base.ensures (begun c.args.file.now c.args.first c.args.start c.requires.starts c.reading_goes_on.ensures.header _);
   disk_count = refl;
   sink_count = refl;
 }
+
+pub returns-in_err-base-clause-replayed : goal.returns-in_err-base-clause-replayed
+returns-in_err-base-clause-replayed g c =
+    let p = err_from_is_err_and c.from_residual.result c.from_residual.ensures.1 in
+    rw (p.1 ∙ ap (λ e. Err e) p.2) (inl refl)
+
+pub returns-in_err-base-clause-moments : goal.returns-in_err-base-clause-moments
+returns-in_err-base-clause-moments g c = quiet (output_of (plays_to (reads c.args.file.now))) _ _ refl
 
 pub returns-in_err-more-clause-replayed : goal.returns-in_err-more-clause-replayed
 returns-in_err-more-clause-replayed g c =
     let l = c.records in
     let play = subst (IsPlay c.args.file.now _ _ l.progress) c.records-test.true l.invariant.play in
-    let p = err_from_is_err_and c.from_residual.result c.from_residual.ensures.1 in
+    let p = err_from_is_err_and c.from_residual-in_err-more.result c.from_residual-in_err-more.ensures.1 in
     rw (p.1 ∙ ap (λ e. Err e) p.2) (at_reading (reads c.args.file.now) play.0 (g.W.World.history c.args.world.now) (g.W.World.history c.play_on.new.world) (Err c.in_err-more.field-0.0) play.1 (c.in_err-more.ensures.played play.0 _ play.2))
 
 pub records-smaller : goal.records-smaller
