@@ -1,3 +1,3 @@
 mod Skipping
 pub mod PartialCode
-mod Applying
+pub mod Applying
