@@ -29,13 +29,13 @@ use Rattle.recorder.specs.declared.tally.Tally.{Tally}
 use Rattle.recorder.specs.Keeping.{CanGoOn, IsDrawn, Kept, Setting, SoFar}
 use Rattle.checkpoint.specs.State.{IsEncodable}
 use Rattle.journal_text.specs.Records.{Record}
-use Rattle.recorder.proofs.Marking.{none_marked, none_since}
+use Rattle.recorder.proofs.Marking.{none_based, none_marked, none_since}
 
 -- what a recording begins with, before its first round
 pub begun_so_far : (a : Setting) (now : Option History) (j : Journal) (tally : Tally) → IsGuest a.guest → a.start.steps ≡ 0 → a.start.input ≡ 0 → CanGoOn a.start → IsEncodable a.start → HasBegun (length a.guest) a.options.room (Ok j) → length (journal_of a.guest []) ≡ 10 + length a.guest
-    → IfKnown (Begun a.guest (Ok j)) a.before now → tally.first ≡ 1 → tally.epochs ≡ 0 → tally.sent ≡ 0 → tally.since ≡ 0 → SoFar a a.given now a.tells a.start (empty MAX_ROOM) j tally 0
+    → IfKnown (Begun a.guest (Ok j)) a.before now → tally.first ≡ 1 → tally.epochs ≡ 0 → tally.sent ≡ 0 → tally.since ≡ 0 → tally.base ≡ a.start → SoFar a a.given now a.tells a.start (empty MAX_ROOM) j tally 0
 unfolding chain
-begun_so_far a now j tally guest_is steps input goes_on encodable begun_is size begun first_is epochs_are sent_is since_is =
+begun_so_far a now j tally guest_is steps input goes_on encodable begun_is size begun first_is epochs_are sent_is since_is base_is =
     let end_is : j.end ≡ 10 + length a.guest = ap (λ (k : Journal). k.end) begun_is.0 in
     record {
       rounds = [];
@@ -43,8 +43,8 @@ begun_so_far a now j tally guest_is steps input goes_on encodable begun_is size 
       each = (refl, refl);
       supply_is = refl;
       squashes_is = refl;
-      since_is = since_is ∙ sym (none_since a.options.mark 0 a.start);
-      kept = subst (λ (l : List Record). Kept a a.given now l [] [] [] a.start (empty MAX_ROOM) j tally) (sym (none_marked true a.options.mark 0 a.start)) (record {
+      since_is = (since_is ∙ sym (none_since a.options.mark 0 a.start), base_is ∙ sym (none_based a.options.mark 0 a.start a.start));
+      kept = subst (λ (l : List Record). Kept a a.given now l [] [] [] a.start (empty MAX_ROOM) j tally) (sym (none_marked true a.options.mark 0 a.start a.start)) (record {
         is_guest = guest_is;
         chained = refl;
         counted = omega (arith, steps);
@@ -70,6 +70,7 @@ begun_so_far a now j tally guest_is steps input goes_on encodable begun_is size 
         sent_is = sent_is;
         little = omega (arith, sent_is);
         since_few = omega (arith, since_is);
+        base_encodable = subst IsEncodable (sym base_is) encodable;
       });
     }
 

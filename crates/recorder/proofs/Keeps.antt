@@ -29,7 +29,7 @@ use Rattle.guest_kernel.specs.Call.{After}
 use Rattle.guest_kernel.specs.Slices.{at, chain}
 use Rattle.guest_kernel.specs.State.{has_ended}
 use Rattle.journal_text.specs.Reading.{journal_of}
-use Rattle.journal_text.specs.Records.{IsRecord, Record, body_of, epoch, mark}
+use Rattle.journal_text.specs.Records.{IsRecord, Record, body_of, epoch}
 use Rattle.recorder.specs.Committing.{Committed, EachCommitted, HasCommitted}
 use Rattle.recorder.specs.declared.commit.CommitFault.{CommitFault}
 use Rattle.recorder.specs.declared.commit.CommitFault.TheVariants as commits
@@ -39,10 +39,13 @@ use Rattle.recorder.specs.Drawing.{Draw, Drew, HasDrawn, IsHonestSince, answers_
 use Rattle.recorder.specs.Keeping.{AlwaysPartly, CanGoOn, IsDrawn, IsSince, Kept, Setting}
 use Rattle.recorder.specs.Moments.{EachMoment, HoldsAt}
 use Rattle.recorder.specs.Racing.{bounds_for, epoch_steps}
-use Rattle.recorder.specs.Marking.{IsMarkDue, is_due, marks_at, records_of, records_unmarked, since_after, since_then}
+use Rattle.recorder.specs.Marking.{IsMarkDue, base_after, base_then, is_due, mark_of, marks_at, records_of, records_unmarked, since_after, since_then}
 use Rattle.recorder.specs.Recording.{GoesOn, HasRoom, IsInterrupted, IsRecorded, first_behind}
-use Rattle.checkpoint.specs.State.{IsEncodable, checkpoint_of, state_bytes}
-use Rattle.recorder.proofs.Marking.{epoch_more, mark_more, since_more}
+use Rattle.checkpoint.specs.State.{IsEncodable, checkpoint_of}
+use Rattle.partial_mark.specs.Base.{partial_of}
+use Rattle.partial_mark.specs.Partial.{IsPartial, Partial, partial_bytes}
+use Rattle.recorder.proofs.Marking.{base_more, epoch_more, mark_more, since_more}
+use Rattle.recorder.proofs.MarkRecords.{mark_is_record}
 use Rattle.recorder.proofs.Drawings.{TakeLaws, drawn_more, has_drawn, taken_more}
 use Rattle.recorder.proofs.Moments.{append_left, appends_partly, commits_partly, each_moment, marks_partly}
 use Rattle.recorder.proofs.RunLists.{answers_are-push, answers_in-push, first_after-push, low_numbers, positive_steps}
@@ -153,6 +156,7 @@ module _ (a : Setting) (there : Option Input) (now : Option History) (K : List R
       sent_is = kept.sent_is;
       little = kept.little;
       since_few = kept.since_few;
+      base_encodable = kept.base_encodable;
     }
 
     pub last_drawn : IfInput (λ s t. IsLast with_.stamp (readings_since s t)) a.given later
@@ -225,7 +229,7 @@ module _ (a : Setting) (there : Option Input) (now : Option History) (E : List E
     honest_there = known-map (HasDrawn D (answers_in (E ++ e ∷ []))) (IsHonestSince (answers_in (E ++ e ∷ []))) a.given there (λ s t h. h.1) drawn_epoch
 
     push : records_unmarked a.options a.start (E ++ e ∷ []) ≡ K ++ epoch e ∷ []
-    push = epoch_more a.options.mark 0 a.start E state output e end_at kept.chained is.runs.ran
+    push = epoch_more a.options.mark 0 a.start a.start E state output e end_at kept.chained is.runs.ran
 
     records_there : AllByRecursion IsRecord (K ++ epoch e ∷ [])
     records_there = all_append IsRecord K (epoch e ∷ []) kept.are_records ((is.runs.is_epoch, is.runs.fits.1), tt)
@@ -298,9 +302,9 @@ module _ (a : Setting) (there : Option Input) (now : Option History) (E : List E
 
       -- it was committed
       pub kept_committed : 0 < length added → HasCommitted j (length added) j' (Ok tt) → IfKnown (Committed j added r.out (Ok tt)) now behind → (tally' : Tally)
-          → tally'.first ≡ first_behind tally.first e.slices → tally'.epochs ≡ tally.epochs + 1 → tally'.sent ≡ tally.sent + length r.out → tally'.since ≡ tally.since + 1
+          → tally'.first ≡ first_behind tally.first e.slices → tally'.epochs ≡ tally.epochs + 1 → tally'.sent ≡ tally.sent + length r.out → tally'.since ≡ tally.since + 1 → tally'.base ≡ tally.base
           → Kept a there behind (records_unmarked a.options a.start (E ++ e ∷ [])) (E ++ e ∷ []) D (output ++ r.out) r.end w j' tally'
-      kept_committed some numbers known tally' first_is epochs_are sent_is since_is =
+      kept_committed some numbers known tally' first_is epochs_are sent_is since_is base_is =
           let end_is : j'.end ≡ j.end + length added = ap (λ (k : Journal). k.end) numbers.2 in
           let little = laws.writes state hints w bounds e r.out r.end is.scheduled in
           record {
@@ -338,27 +342,33 @@ module _ (a : Setting) (there : Option Input) (now : Option History) (E : List E
             sent_is = omega (arith, kept.sent_is, length-append output r.out, sent_is);
             little = omega (arith, kept.little, little, sent_is, epochs_are);
             since_few = omega (arith, kept.since_few, since_is, epochs_are);
+            base_encodable = subst IsEncodable (sym base_is) kept.base_encodable;
           }
 
       -- whether a mark is due is judged next
-      pub since_next : tally.since ≡ since_after a.options.mark 0 a.start E → (tally' : Tally) → tally'.since ≡ tally.since + 1 → IsSince false a (E ++ e ∷ []) r.end tally'.since
-      since_next since_is tally' grown =
-          let same : since_after a.options.mark 0 a.start E + 1 ≡ tally'.since = sym (grown ∙ ap (λ n. n + 1) since_is) in (
-            mark_more a.options.mark 0 a.start E state output e end_at kept.chained is.runs.ran ∙ ap (λ n. records_unmarked a.options a.start (E ++ e ∷ []) ++ marks_at a.options.mark n r.end) same,
+      pub since_next : IsSince true a E state tally.since tally.base → (tally' : Tally) → tally'.since ≡ tally.since + 1 → tally'.base ≡ tally.base → IsSince false a (E ++ e ∷ []) r.end tally'.since tally'.base
+      since_next since_is tally' grown base_is =
+          let same : since_after a.options.mark 0 a.start E + 1 ≡ tally'.since = sym (grown ∙ ap (λ n. n + 1) since_is.0) in
+          let based : base_after a.options.mark 0 a.start a.start E ≡ tally'.base = sym (base_is ∙ since_is.1) in (
+            mark_more a.options.mark 0 a.start a.start E state output e end_at kept.chained is.runs.ran
+                ∙ ap (λ n. records_unmarked a.options a.start (E ++ e ∷ []) ++ marks_at a.options.mark n (base_after a.options.mark 0 a.start a.start E) r.end) same
+                ∙ ap (λ (b : State). records_unmarked a.options a.start (E ++ e ∷ []) ++ marks_at a.options.mark tally'.since b r.end) based,
             ap (λ n. since_then a.options.mark n r.end) (sym same) ∙ sym (since_more a.options.mark 0 a.start E state output e end_at kept.chained is.runs.ran),
+            ap (λ n. base_then a.options.mark n tally'.base r.end) (sym same) ∙ ap (λ (b : State). base_then a.options.mark (since_after a.options.mark 0 a.start E + 1) b r.end) (sym based)
+                ∙ sym (base_more a.options.mark 0 a.start a.start E state output e end_at kept.chained is.runs.ran),
           )
 
 -- ---- the mark after the last epoch
 
-module _ (a : Setting) (there : Option Input) (now : Option History) (E : List Epoch) (D : List Draw) (output : List ℕ) (state : State) (w : Supplied) (j : Journal) (tally : Tally) (kept : Kept a there now (records_unmarked a.options a.start E) E D output state w j tally) (since : IsSince false a E state tally.since) where
+module _ (a : Setting) (there : Option Input) (now : Option History) (E : List Epoch) (D : List Draw) (output : List ℕ) (state : State) (w : Supplied) (j : Journal) (tally : Tally) (kept : Kept a there now (records_unmarked a.options a.start E) E D output state w j tally) (since : IsSince false a E state tally.since tally.base) where
   abbrev bare : List Record
   bare = records_unmarked a.options a.start E
 
-  none_at : (due : Bool) → due ≡ false → (if due then mark (checkpoint_of state) ∷ [] else []) ≡ []
+  none_at : (due : Bool) → due ≡ false → (if due then mark_of tally.base state ∷ [] else []) ≡ []
   none_at true is = absurd cc
   none_at false is = refl
 
-  one_at : (due : Bool) → due ≡ true → (if due then mark (checkpoint_of state) ∷ [] else []) ≡ mark (checkpoint_of state) ∷ []
+  one_at : (due : Bool) → due ≡ true → (if due then mark_of tally.base state ∷ [] else []) ≡ mark_of tally.base state ∷ []
   one_at true is = refl
   one_at false is = absurd cc
 
@@ -370,24 +380,35 @@ module _ (a : Setting) (there : Option Input) (now : Option History) (E : List E
   begins_anew true is = refl
   begins_anew false is = absurd cc
 
+  same_base : (due : Bool) → due ≡ false → (if due then state else tally.base) ≡ tally.base
+  same_base true is = absurd cc
+  same_base false is = refl
+
+  next_base : (due : Bool) → due ≡ true → (if due then state else tally.base) ≡ state
+  next_base true is = refl
+  next_base false is = absurd cc
+
   -- none is due
   module _ (none : is_due a.options.mark tally.since state ≡ false) where
-    pub not_due : IsSince true a E state tally.since × Kept a there now (records_of a.options a.start E) E D output state w j tally
+    pub not_due : IsSince true a E state tally.since tally.base × Kept a there now (records_of a.options a.start E) E D output state w j tally
     not_due = (
-      sym (counted (is_due a.options.mark tally.since state) none) ∙ since.1,
+      (sym (counted (is_due a.options.mark tally.since state) none) ∙ since.1, sym (same_base (is_due a.options.mark tally.since state) none) ∙ since.2),
       subst (λ (l : List Record). Kept a there now l E D output state w j tally) (sym (since.0 ∙ ap (λ (l : List Record). bare ++ l) (none_at (is_due a.options.mark tally.since state) none) ∙ append-nil bare)) kept,
     )
 
   -- it is due
-  module _ (due : is_due a.options.mark tally.since state ≡ true) (added : List ℕ) (framed : added ≡ frame (body_of (mark (checkpoint_of state)))) (short : length (state_bytes state) < MAX_BODY_BYTES) (behind : Option History) where
+  module _ (due : is_due a.options.mark tally.since state ≡ true) (added : List ℕ) (framed : added ≡ frame (body_of (mark_of tally.base state))) (short : (m : Partial) → IsPartial m → length (partial_bytes m) < MAX_BODY_BYTES) (behind : Option History) where
     abbrev c : Record
-    c = mark (checkpoint_of state)
+    c = mark_of tally.base state
 
-    pub mark_due : IsMarkDue a.options a.start E state
+    abbrev pub due_partial : Partial
+    due_partial = partial_of (checkpoint_of tally.base) (checkpoint_of state)
+
+    pub mark_due : IsMarkDue a.options a.start E due_partial
     mark_due = since.0 ∙ ap (λ (l : List Record). bare ++ l) (one_at (is_due a.options.mark tally.since state) due)
 
     records_all : AllByRecursion IsRecord (bare ++ c ∷ [])
-    records_all = all_append IsRecord bare (c ∷ []) kept.are_records ((kept.encodable, omega (arith, short)), tt)
+    records_all = all_append IsRecord bare (c ∷ []) kept.are_records (mark_is_record short tally.base state kept.encodable, tt)
 
     pub size_marked : length (journal_of a.guest (records_of a.options a.start E)) ≡ length (journal_of a.guest bare) + length (frame (body_of c))
     size_marked = ap (λ (l : List Record). length (journal_of a.guest l)) mark_due ∙ length-journal-push a.guest bare c
@@ -397,7 +418,7 @@ module _ (a : Setting) (there : Option Input) (now : Option History) (E : List E
 
     while_marked : (ok : Bool) → IfKnown (RecordWritten j.end added ok) now behind → IfKnown (AlwaysPartly a.guest a.options.mark a.start E) a.before behind
     while_marked ok known = known-then _ _ _ _ _ _
-        (λ s t u x k empty_ synced. marks_partly a.guest a.options.mark a.start E state output (checkpoint_of state) kept.chained mark_due s t x.0.sent u (x.1 empty_ synced)
+        (λ s t u x k empty_ synced. marks_partly a.guest a.options.mark a.start E state output due_partial kept.chained mark_due s t x.0.sent u (x.1 empty_ synced)
         ((k.1 a.guest bare c (appends_mark s t x.0)).moments kept.is_guest records_all))
         (known-both _ _ _ _ kept.history kept.moments) known
 
@@ -417,11 +438,11 @@ module _ (a : Setting) (there : Option Input) (now : Option History) (E : List E
 
     -- it was appended
     pub kept_marked : (j' : Journal) → HasAppended j (length added) j' (Ok tt) → IfKnown (RecordWritten j.end added true) now behind → (tally' : Tally) → tally'.first ≡ tally.first → tally'.epochs ≡ tally.epochs
-        → tally'.sent ≡ tally.sent → tally'.since ≡ 0
-        → IsSince true a E state tally'.since × Kept a there behind (records_of a.options a.start E) E D output state w j' tally'
-    kept_marked j' numbers known tally' first_is epochs_are sent_is since_is =
+        → tally'.sent ≡ tally.sent → tally'.since ≡ 0 → tally'.base ≡ state
+        → IsSince true a E state tally'.since tally'.base × Kept a there behind (records_of a.options a.start E) E D output state w j' tally'
+    kept_marked j' numbers known tally' first_is epochs_are sent_is since_is base_is =
         let end_is : j'.end ≡ j.end + length added = ap (λ (k : Journal). k.end) numbers.2 in (
-          since_is ∙ sym (begins_anew (is_due a.options.mark tally.since state) due) ∙ since.1,
+          (since_is ∙ sym (begins_anew (is_due a.options.mark tally.since state) due) ∙ since.1, base_is ∙ sym (next_base (is_due a.options.mark tally.since state) due) ∙ since.2),
           record {
             is_guest = kept.is_guest;
             chained = kept.chained;
@@ -455,5 +476,6 @@ module _ (a : Setting) (there : Option Input) (now : Option History) (E : List E
             sent_is = sent_is ∙ kept.sent_is;
             little = omega (arith, kept.little, sent_is, epochs_are);
             since_few = omega (arith, since_is);
+            base_encodable = subst IsEncodable (sym base_is) kept.encodable;
           },
         )

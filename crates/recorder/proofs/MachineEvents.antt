@@ -21,7 +21,8 @@ use Rattle.disk_model.specs.Input.{Input}
 use Rattle.dp_base.specs.declared.limits.TheConstants.{MAX_JOURNAL_BYTES}
 use Rattle.epoch_journal.specs.Standing.{Stands}
 use Rattle.journal_text.specs.Reading.{journal_of}
-use Rattle.recorder.specs.Machine.{Call, Event, Hand, InRound, IsAtRest, IsResult, IsTakeable, Judges, Machine, Reaches, Step, after_call, crash, fails, first_machine, frame_sync, frame_write, gate_sync, gate_write, holds, in_round, judged_runs, makes, mark_of_state, marks, nothing, record_of_run, round, runs_in_hand, send_fails, sends}
+use Rattle.recorder.specs.Machine.{Call, Event, Hand, InRound, IsAtRest, IsResult, IsTakeable, Judges, Machine, Reaches, Step, after_call, crash, fails, first_machine, frame_sync, frame_write, gate_sync, gate_write, holds, in_round, judged_runs, makes, marks, nothing, record_of_run, round, runs_in_hand, send_fails, sends}
+use Rattle.recorder.specs.Marking.{mark_of}
 use Rattle.recorder.specs.MachineKept.{IsKept, IsRound, StandFor, WasTaken}
 use Rattle.recorder.proofs.MachineRuns.{Follows, IsRunHere, Linked, linked-append, linked-chain, linked-links, mark_follows, run_follows}
 use Rattle.recorder.proofs.MachineOutside.{ByHand, Holds, crashed, images_of, round_only, send_failed, sent, starts, taken_up, write_failed, wrote}
@@ -43,7 +44,7 @@ module _ (guest : List ℕ) (start : State) (before : History) (is-guest : IsGue
 
   -- only the core and the results change
   core_only : (m : Machine) (core : Core) → All m → m.left ≡ None → core.committed ≡ m.core.committed → Holds guest start before is-guest (record m { core = core })
-  core_only m core all none same = round_only guest start before is-guest m (record m { core = core }) all.outside none same refl refl refl refl refl refl refl
+  core_only m core all none same = round_only guest start before is-guest m (record m { core = core }) all.outside none same refl refl refl refl refl refl refl refl
 
   judged : (m n : Machine) (ran : Ran) → All m → m.left ≡ None → IsAtRest m → m.core.closed ≡ false → slice_get m.core.jobs m.core.judged ≡ Some (Taken ran) → Judges supplied m ran n → All n
   judged m n (Epoch r) all none rest going next (inl j) =
@@ -51,7 +52,7 @@ module _ (guest : List ℕ) (start : State) (before : History) (is-guest : IsGue
       let is : IsRunHere r = was_ran supplied m.supply (Epoch r) (next_known supplied m.supply m.began m.round_runs m.core m.results inv (Epoch r) next) in
       subst All (sym j.2) (record {
         outside = taken_up guest start before is-guest m (with_epoch m.core r) (m.round_runs ++ r ∷ []) (record_of_run r) (r ∷ []) all.outside none rest.0 rest.1
-            (subst (λ (s : State). Follows s (record_of_run r) (r ∷ []) r.end) j.0 (run_follows r is));
+            (subst (λ (s : State). Follows m.base s (record_of_run r) (r ∷ []) r.end) j.0 (run_follows m.base r is));
         inside = committed_round supplied m.supply m.began m.round_runs m.core m.results inv r next going j.0;
       })
   judged m n (Epoch r) all none rest going next (inr j) = subst All (sym j.1) (record {
@@ -79,7 +80,7 @@ module _ (guest : List ℕ) (start : State) (before : History) (is-guest : IsGue
   told_one m n (events.Take i ran) all none t =
       let there : Machine = record m { core = with_stage m.core i (Taken ran); results = record { number = i; ran = ran } ∷ m.results } in
       subst All (sym t.2) (record {
-        outside = round_only guest start before is-guest m there all.outside none refl refl refl refl refl refl refl refl;
+        outside = round_only guest start before is-guest m there all.outside none refl refl refl refl refl refl refl refl refl;
         inside = taken_round supplied m.supply m.began m.round_runs m.core m.results all.inside i ran t.0 t.1;
       })
   told_one m n events.Judge all none t = judged m n t.2 all none t.0 t.1 t.3 t.4
@@ -102,12 +103,12 @@ module _ (guest : List ℕ) (start : State) (before : History) (is-guest : IsGue
         round_runs = [];
       } in
       subst All (sym s.6) (record {
-        outside = round_only guest start before is-guest m there all.outside none refl refl refl refl refl refl refl refl;
+        outside = round_only guest start before is-guest m there all.outside none refl refl refl refl refl refl refl refl refl;
         inside = fresh_round supplied (supply_of m.supply d) m.core.committed jobs;
       })
   step m n (in_round e) all (none, s) = told_one m n e all none s
   step m n marks all (none, s) = subst All (sym s.3) (record {
-    outside = taken_up guest start before is-guest m m.core m.round_runs (mark_of_state m.core.committed) [] all.outside none s.0.0 s.0.1 (mark_follows m.core.committed s.2);
+    outside = taken_up guest start before is-guest m m.core m.round_runs (mark_of m.base m.core.committed) [] all.outside none s.0.0 s.0.1 (mark_follows m.base m.core.committed s.2);
     inside = all.inside;
   })
   step m n (makes call) all (none, s) = subst All (sym s.6) (record {
@@ -137,13 +138,13 @@ module _ (guest : List ℕ) (start : State) (before : History) (is-guest : IsGue
 
   -- ---- what it says
 
-  ended : (records : List Record) (written : List EpochRun) (s : State) (hand : Hand) → ByHand guest start before is-guest records written s hand → Linked start (written ++ runs_in_hand hand) s
-  ended records written s nothing is = subst (λ (l : List EpochRun). Linked start l s) (sym (append-nil written)) is.0
-  ended records written s (holds r rs call) is = linked-append start is.0 s written rs is.1.0 is.2.linked
+  ended : (records : List Record) (written : List EpochRun) (base s : State) (hand : Hand) → ByHand guest start before is-guest records written base s hand → Linked start (written ++ runs_in_hand hand) s
+  ended records written base s nothing is = subst (λ (l : List EpochRun). Linked start l s) (sym (append-nil written)) is.0
+  ended records written base s (holds r rs call) is = linked-append start is.0 s written rs is.1.0 is.2.linked
 
-  stands_for : (records : List Record) (written : List EpochRun) (s : State) (hand : Hand) → ByHand guest start before is-guest records written s hand → (there : State) × StandFor start records written there
-  stands_for records written s nothing is = (s, is.1)
-  stands_for records written s (holds r rs call) is = (is.0, is.1.1)
+  stands_for : (records : List Record) (written : List EpochRun) (base s : State) (hand : Hand) → ByHand guest start before is-guest records written base s hand → (there : State) × StandFor start start records written base there
+  stands_for records written base s nothing is = (s, is.1)
+  stands_for records written base s (holds r rs call) is = (is.0, is.1.1)
 
   offered : (m : Machine) → RoundInv supplied m.supply m.began m.round_runs m.core m.results → (i : ℕ) (a : Ran) → WasTaken m.results i a → i ≤ length m.core.jobs
   offered m inv i a is = elim (inv.kept i a is) [
@@ -184,9 +185,9 @@ module _ (guest : List ℕ) (start : State) (before : History) (is-guest : IsGue
       let out = all.outside in
       let inv = all.inside in
       record {
-        linked = linked-links start m.core.committed (judged_runs m) (ended m.records m.written m.core.committed m.hand out.by_hand);
-        chained = linked-chain start m.core.committed (judged_runs m) (ended m.records m.written m.core.committed m.hand out.by_hand);
-        journal = stands_for m.records m.written m.core.committed m.hand out.by_hand;
+        linked = linked-links start m.core.committed (judged_runs m) (ended m.records m.written m.base m.core.committed m.hand out.by_hand);
+        chained = linked-chain start m.core.committed (judged_runs m) (ended m.records m.written m.base m.core.committed m.hand out.by_hand);
+        journal = stands_for m.records m.written m.base m.core.committed m.hand out.by_hand;
         are_records = out.are;
         images = λ image said may. (images_of guest start before is-guest m m.hand m.stopped out image may.on_disk, may.got ∙ got-nothing m.world.sent may.taken ∙ out.sent);
         left = out.left;

@@ -19,7 +19,7 @@ use Rattle.epoch_runner.specs.declared.epoch_run.EpochRun.{EpochRun}
 use Rattle.guest_kernel.specs.declared.state.State.{State}
 use Rattle.journal_text.specs.Reading.{journal_of}
 use Rattle.journal_text.specs.Records.{IsRecord, Record, body_of}
-use Rattle.recorder.specs.Machine.{Call, CallLeaves, Hand, IsNextOutput, Machine, after_call, first_machine, frame_sync, frame_write, gate_sync, gate_write, holds, journal_end, nothing, output_of_runs}
+use Rattle.recorder.specs.Machine.{Call, CallLeaves, Hand, IsNextOutput, Machine, after_call, base_with, first_machine, frame_sync, frame_write, gate_sync, gate_write, holds, journal_end, nothing, output_of_runs}
 use Rattle.recorder.specs.MachineKept.{ReadsWith, StandFor, in_question, record_in_hand, record_opened}
 use Rattle.std.proofs.lemmas.Grind.{flat_map-append}
 use Rattle.recorder.proofs.MachineRuns.{Follows, Linked, linked-append, stand-append}
@@ -51,12 +51,12 @@ synced_pending h t (inr e) = ap (λ (x : History). x.pending) e
 module _ (guest : List ℕ) (start : State) (before : History) (is-guest : IsGuest guest) where
   -- ---- what holds
 
-  abbrev pub AtState : List Record → List EpochRun → State → Type 0
-  AtState records written t = Linked start written t × StandFor start records written t
+  abbrev pub AtState : List Record → List EpochRun → (base t : State) → Type 0
+  AtState records written base t = Linked start written t × StandFor start start records written base t
 
-  abbrev pub ByHand : List Record → List EpochRun → State → Hand → Type 0
-  ByHand records written s nothing = AtState records written s
-  ByHand records written s (holds r rs call) = (t : State) × AtState records written t × Follows t r rs s
+  abbrev pub ByHand : List Record → List EpochRun → (base s : State) → Hand → Type 0
+  ByHand records written base s nothing = AtState records written base s
+  ByHand records written base s (holds r rs call) = (t : State) × AtState records written base t × Follows base t r rs s
 
   abbrev pub RoomFor : List Record → Record → Type 0
   RoomFor records r = length (journal_of guest records) + length (frame (body_of r)) ≤ MAX_JOURNAL_BYTES
@@ -76,7 +76,7 @@ module _ (guest : List ℕ) (start : State) (before : History) (is-guest : IsGue
   OnDisk false records disk pending hand = Works records disk pending hand
 
   pub record Inv (m : Machine) (hand : Hand) (stopped : Bool) : Type 0 where
-    pub by_hand : ByHand m.records m.written m.core.committed hand
+    pub by_hand : ByHand m.records m.written m.base m.core.committed hand
     pub are : AllByRecursion IsRecord m.records
     pub fits : length (journal_of guest m.records) ≤ MAX_JOURNAL_BYTES
     pub disk : OnDisk stopped m.records m.world.disk m.world.pending hand
@@ -143,7 +143,7 @@ module _ (guest : List ℕ) (start : State) (before : History) (is-guest : IsGue
 
   pub starts : (h : History) (i : _) → Stands guest [] h → length (journal_of guest []) ≤ MAX_JOURNAL_BYTES → h.sent ≡ before.sent → Holds (first_machine start h i)
   starts h i stands fits same = record {
-    by_hand = (refl, refl);
+    by_hand = (refl, (refl, refl));
     are = tt;
     fits = fits;
     disk = record { disk_is = stands.disk; synced = stands.synced ∙ ap nothing_pending stands.disk };
@@ -162,7 +162,7 @@ module _ (guest : List ℕ) (start : State) (before : History) (is-guest : IsGue
 
   -- what stays where only the disk and the hand change
   moved : (m : Machine) (hand there : Hand) (t : History) → Inv m hand false → m.left ≡ None → t.sent ≡ m.world.sent
-      → ByHand m.records m.written m.core.committed there → Works m.records t.disk t.pending there → Inv (record m { world = t; hand = there }) there false
+      → ByHand m.records m.written m.base m.core.committed there → Works m.records t.disk t.pending there → Inv (record m { world = t; hand = there }) there false
   moved m hand there t inv none same by_hand works = record {
     by_hand = by_hand;
     are = inv.are;
@@ -193,7 +193,7 @@ module _ (guest : List ℕ) (start : State) (before : History) (is-guest : IsGue
         record {
           by_hand = (
             linked-append start inv.by_hand.0 m.core.committed m.written rs inv.by_hand.1.0 follows.linked,
-            stand-append start inv.by_hand.0 m.core.committed m.records (r ∷ []) m.written rs inv.by_hand.1.1 follows.stands,
+            stand-append start start m.base inv.by_hand.0 (base_with r m.base m.core.committed) m.core.committed m.records (r ∷ []) m.written rs inv.by_hand.1.1 follows.stands,
           );
           are = all_append IsRecord m.records (r ∷ []) inv.are (follows.is_record, tt);
           fits = omega (arith, length-journal-push guest m.records r, inv.disk.1);
@@ -277,10 +277,11 @@ module _ (guest : List ℕ) (start : State) (before : History) (is-guest : IsGue
 
   -- only the round changes, and not the committed state
   pub round_only : (m n : Machine) → Holds m → m.left ≡ None → n.core.committed ≡ m.core.committed → n.world ≡ m.world → n.records ≡ m.records → n.written ≡ m.written → n.hand ≡ m.hand → n.released ≡ m.released
-      → n.stopped ≡ m.stopped → n.left ≡ m.left → Holds n
-  round_only m n inv none a b c d e f g h = record {
-    by_hand = subst (λ (s : State). ByHand n.records n.written s n.hand) (sym a) (subst (λ (l : List Record). ByHand l n.written m.core.committed n.hand) (sym c)
-        (subst (λ (l : List EpochRun). ByHand m.records l m.core.committed n.hand) (sym d) (subst (λ (x : Hand). ByHand m.records m.written m.core.committed x) (sym e) inv.by_hand)));
+      → n.stopped ≡ m.stopped → n.left ≡ m.left → n.base ≡ m.base → Holds n
+  round_only m n inv none a b c d e f g h i = record {
+    by_hand = subst (λ (s : State). ByHand n.records n.written n.base s n.hand) (sym a) (subst (λ (l : List Record). ByHand l n.written n.base m.core.committed n.hand) (sym c)
+        (subst (λ (l : List EpochRun). ByHand m.records l n.base m.core.committed n.hand) (sym d) (subst (λ (s : State). ByHand m.records m.written s m.core.committed n.hand) (sym i)
+        (subst (λ (x : Hand). ByHand m.records m.written m.base m.core.committed x) (sym e) inv.by_hand))));
     are = subst (λ (l : List Record). AllByRecursion IsRecord l) (sym c) inv.are;
     fits = subst (λ (l : List Record). length (journal_of guest l) ≤ MAX_JOURNAL_BYTES) (sym c) inv.fits;
     disk = subst (λ (l : List Record). OnDisk n.stopped l n.world.disk n.world.pending n.hand) (sym c)
@@ -293,7 +294,7 @@ module _ (guest : List ℕ) (start : State) (before : History) (is-guest : IsGue
   }
 
   -- a record is in hand
-  pub taken_up : (m : Machine) (core : Core) (round_runs : List EpochRun) (r : Record) (rs : List EpochRun) → Holds m → m.left ≡ None → m.stopped ≡ false → m.hand ≡ nothing → Follows m.core.committed r rs core.committed
+  pub taken_up : (m : Machine) (core : Core) (round_runs : List EpochRun) (r : Record) (rs : List EpochRun) → Holds m → m.left ≡ None → m.stopped ≡ false → m.hand ≡ nothing → Follows m.base m.core.committed r rs core.committed
       → Holds (record m { core = core; round_runs = round_runs; hand = holds r rs frame_write })
   taken_up m core round_runs r rs inv none works empty follows =
       let at_rest = resting m works empty inv in

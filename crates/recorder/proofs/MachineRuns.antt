@@ -7,8 +7,11 @@ use Rattle.epoch_runner.specs.Running.{IsRunOf}
 use Rattle.guest_kernel.specs.declared.state.State.{State}
 use Rattle.guest_kernel.specs.Call.{After}
 use Rattle.guest_kernel.specs.Slices.{Stop, at, chain, either, run}
-use Rattle.journal_text.specs.Records.{IsRecord, Record, epoch, mark}
-use Rattle.recorder.specs.Machine.{epochs_of_runs, mark_of_state, output_of_runs, record_of_run}
+use Rattle.checkpoint.specs.State.{checkpoint_of}
+use Rattle.journal_text.specs.Records.{IsRecord, Record, epoch, mark, partial}
+use Rattle.partial_mark.proofs.Applying.{back}
+use Rattle.recorder.specs.Machine.{base_with, epochs_of_runs, output_of_runs, record_of_run}
+use Rattle.recorder.specs.Marking.{mark_of}
 use Rattle.recorder.specs.MachineKept.{StandFor}
 
 abbrev pub IsRunHere : EpochRun → Type 0
@@ -38,22 +41,24 @@ linked-chain s t (r ∷ rs) l =
 
 -- ---- records
 
-pub stand-append : (s t u : State) (records more : List Record) (rs others : List EpochRun) → StandFor s records rs t → StandFor t more others u → StandFor s (records ++ more) (rs ++ others) u
-stand-append s t u [] more [] others st then_ = subst (λ (x : State). StandFor x more others u) st then_
-stand-append s t u [] more (x ∷ rs) others st then_ = absurd st
-stand-append s t u (epoch e ∷ records) more [] others st then_ = absurd st
-stand-append s t u (epoch e ∷ records) more (x ∷ rs) others st then_ = (st.0, stand-append x.end t u records more rs others st.1 then_)
-stand-append s t u (mark c ∷ records) more rs others st then_ = (st.0, stand-append s t u records more rs others st.1 then_)
+pub stand-append : (a s b t c u : State) (records more : List Record) (rs others : List EpochRun) → StandFor a s records rs b t → StandFor b t more others c u → StandFor a s (records ++ more) (rs ++ others) c u
+stand-append a s b t c u [] more [] others st next =
+    subst (λ (x : State). StandFor a x more others c u) st.1 (subst (λ (x : State). StandFor x t more others c u) st.0 next)
+stand-append a s b t c u [] more (x ∷ rs) others st next = absurd st
+stand-append a s b t c u (epoch e ∷ records) more [] others st next = absurd st
+stand-append a s b t c u (epoch e ∷ records) more (x ∷ rs) others st next = (st.0, stand-append a x.end b t c u records more rs others st.1 next)
+stand-append a s b t c u (mark m ∷ records) more rs others st next = (st.0, stand-append s s b t c u records more rs others st.1 next)
+stand-append a s b t c u (partial m ∷ records) more rs others st next = (st.0, stand-append s s b t c u records more rs others st.1 next)
 
--- a record that may be written after these states
-pub record Follows (s : State) (r : Record) (rs : List EpochRun) (t : State) : Type 0 where
+-- a record that may be written after these states, if the next mark has this base
+pub record Follows (base s : State) (r : Record) (rs : List EpochRun) (t : State) : Type 0 where
   pub linked : Linked s rs t
-  pub stands : StandFor s (r ∷ []) rs t
+  pub stands : StandFor base s (r ∷ []) rs (base_with r base t) t
   pub is_record : IsRecord r
 
 -- a run has a record
-pub run_follows : (r : EpochRun) → IsRunHere r → Follows r.start (record_of_run r) (r ∷ []) r.end
-run_follows r is = record { linked = (refl, is, refl); stands = (refl, refl); is_record = (is.is_epoch, is.fits.1) }
+pub run_follows : (base : State) (r : EpochRun) → IsRunHere r → Follows base r.start (record_of_run r) (r ∷ []) r.end
+run_follows base r is = record { linked = (refl, is, refl); stands = (refl, (refl, refl)); is_record = (is.is_epoch, is.fits.1) }
 
-pub mark_follows : (s : State) → IsRecord (mark_of_state s) → Follows s (mark_of_state s) [] s
-mark_follows s is = record { linked = refl; stands = (refl, refl); is_record = is }
+pub mark_follows : (base s : State) → IsRecord (mark_of base s) → Follows base s (mark_of base s) [] s
+mark_follows base s is = record { linked = refl; stands = (back (checkpoint_of base) (checkpoint_of s), (refl, refl)); is_record = is }

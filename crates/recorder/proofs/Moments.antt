@@ -18,14 +18,14 @@ use Rattle.guest_kernel.specs.declared.state.State.{State}
 use Rattle.guest_kernel.specs.Answers.{bytes_read, clock_readings}
 use Rattle.guest_kernel.specs.Slices.{chain}
 use Rattle.journal_text.specs.Reading.{reads}
-use Rattle.journal_text.specs.Records.{Record, epoch, mark}
+use Rattle.journal_text.specs.Records.{Record, epoch, partial}
 use Rattle.recorder.specs.Committing.{IsCommitting}
 use Rattle.recorder.specs.Drawing.{AreFound, IsHonestSince, answers_in, readings_since}
 use Rattle.recorder.specs.Keeping.{AlwaysPartly, IsFront, IsPartly}
 use Rattle.recorder.specs.Moments.{EachMoment, HoldsAt, IsRecording}
 use Rattle.recorder.specs.Marking.{records_with}
 use Rattle.recorder.proofs.Marking.{none_marked}
-use Rattle.guest_state.specs.Checkpoint.{Checkpoint}
+use Rattle.partial_mark.specs.Partial.{Partial}
 use Rattle.epoch_runner.proofs.AnswerLists.{clocks_append, read_append}
 use Rattle.recorder.proofs.RunLists.{answers_in-append}
 
@@ -87,7 +87,7 @@ module _ (guest : List ℕ) (every : ℕ) (start : State) where
   -- as a journal begins
   partly_begun : chain start [] ≡ Ok (start, []) → (s : History) (image sent : List ℕ) → IsBeginning guest s image sent → IsPartly guest every start [] s image sent
   partly_begun none s image sent (inl nothing, same) = ([], same ∙ sym (append-nil s.sent), inl (nothing, refl))
-  partly_begun none s image sent (inr journal, same) = partly_all true [] start [] none s image sent [] (subst (λ (l : List Record). Reads guest l image) (sym (none_marked true every 0 start)) journal) (same ∙ sym (append-nil s.sent)) ([], refl)
+  partly_begun none s image sent (inr journal, same) = partly_all true [] start [] none s image sent [] (subst (λ (l : List Record). Reads guest l image) (sym (none_marked true every 0 start start)) journal) (same ∙ sym (append-nil s.sent)) ([], refl)
 
   pub begins_partly : chain start [] ≡ Ok (start, []) → (s t : History) → Always (IsBeginning guest s) s t → Always (IsPartly guest every start [] s) s t
   begins_partly none s t a = always-weaker (IsBeginning guest s) (IsPartly guest every start [] s) s t (partly_begun none s) a
@@ -126,17 +126,17 @@ module _ (guest : List ℕ) (every : ℕ) (start : State) where
         (always-weaker (IsCommitting guest K (epoch e) output t) P t u partly_committing b)
 
   -- the mark that is due is appended
-  module _ (epochs : List Epoch) (end : State) (output : List ℕ) (c : Checkpoint) (chained : chain start epochs ≡ Ok (end, output))
-      (push : records_with true every start epochs ≡ records_with false every start epochs ++ mark c ∷ []) (s t : History) (sent_is : t.sent ≡ s.sent ++ output) where
-    partly_marking : (image sent : List ℕ) → IsBeforeOrAfter guest (records_with false every start epochs) (mark c) t image sent → IsPartly guest every start epochs s image sent
+  module _ (epochs : List Epoch) (end : State) (output : List ℕ) (c : Partial) (chained : chain start epochs ≡ Ok (end, output))
+      (push : records_with true every start epochs ≡ records_with false every start epochs ++ partial c ∷ []) (s t : History) (sent_is : t.sent ≡ s.sent ++ output) where
+    partly_marking : (image sent : List ℕ) → IsBeforeOrAfter guest (records_with false every start epochs) (partial c) t image sent → IsPartly guest every start epochs s image sent
     partly_marking image sent (inl journal, same) =
         partly_all false epochs end output chained s image sent output journal (same ∙ sent_is) ([], sym (append-nil output))
     partly_marking image sent (inr journal, same) =
         partly_all true epochs end output chained s image sent output (subst (λ (l : List Record). Reads guest l image) (sym push) journal) (same ∙ sent_is) ([], sym (append-nil output))
 
-    pub marks_partly : (u : History) → Always (IsPartly guest every start epochs s) s t → Always (IsBeforeOrAfter guest (records_with false every start epochs) (mark c) t) t u → Always (IsPartly guest every start epochs s) s u
+    pub marks_partly : (u : History) → Always (IsPartly guest every start epochs s) s t → Always (IsBeforeOrAfter guest (records_with false every start epochs) (partial c) t) t u → Always (IsPartly guest every start epochs s) s u
     marks_partly u a b = always-then (IsPartly guest every start epochs s) s t u a
-        (always-weaker (IsBeforeOrAfter guest (records_with false every start epochs) (mark c) t) (IsPartly guest every start epochs s) t u partly_marking b)
+        (always-weaker (IsBeforeOrAfter guest (records_with false every start epochs) (partial c) t) (IsPartly guest every start epochs s) t u partly_marking b)
 
   -- ---- it is over
 

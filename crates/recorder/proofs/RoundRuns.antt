@@ -39,9 +39,11 @@ use Rattle.recorder.specs.Faults.{MetNoOther, of_commit}
 use Rattle.recorder.specs.Keeping.{InRound, IsOver, IsSince, IsStopped, Kept, Setting, SoFar, Within}
 use Rattle.recorder.specs.Machine.{epochs_of_runs}
 use Rattle.recorder.specs.Racing.{AreResults, IsRaced, bounds_for}
-use Rattle.recorder.specs.Marking.{IsMarkDue, is_due, records_of, records_unmarked, since_after}
-use Rattle.checkpoint.specs.State.{IsEncodable, checkpoint_of, state_bytes}
-use Rattle.journal_text.specs.Records.{Record, body_of, mark}
+use Rattle.recorder.specs.Marking.{IsMarkDue, is_due, mark_of, records_of, records_unmarked}
+use Rattle.checkpoint.specs.State.{IsEncodable, checkpoint_of}
+use Rattle.partial_mark.specs.Base.{partial_of}
+use Rattle.partial_mark.specs.Partial.{IsPartial, Partial, partial_bytes}
+use Rattle.journal_text.specs.Records.{Record, body_of}
 use Rattle.epoch_journal.specs.Appending.{HasAppended, RecordWritten}
 use Rattle.epoch_journal.specs.declared.append.AppendFault.TheVariants as appends
 use Rattle.recorder.specs.Moments.{EachMoment}
@@ -133,7 +135,7 @@ begins a there later now racer after state w with_ j tally count so_far laws rou
       runs = [];
       judged = judged;
       output = so_far.output;
-      since_is = so_far.since_is ∙ ap (λ (l : List journals.Epoch). since_after a.options.mark 0 a.start l) (sym (append-nil (epochs_of so_far.rounds)));
+      since_is = subst (λ (l : List journals.Epoch). IsSince true a l core.committed tally.since tally.base) (sym (append-nil (epochs_of so_far.rounds))) so_far.since_is;
       kept = subst (λ (l : List journals.Epoch). Kept a later now (records_of a.options a.start l) l (draws_of so_far.rounds ++ round.draw ∷ []) so_far.output core.committed with_ j tally) (sym (append-nil (epochs_of so_far.rounds)))
           (subst (λ (s : State). Kept a later now (records_of a.options a.start (epochs_of so_far.rounds)) (epochs_of so_far.rounds) (draws_of so_far.rounds ++ round.draw ∷ []) so_far.output s with_ j tally) (sym at_start) kept);
       last = last_drawn a there now (records_of a.options a.start (epochs_of so_far.rounds)) (epochs_of so_far.rounds) (draws_of so_far.rounds) so_far.output state w j tally so_far.kept laws later with_ round;
@@ -239,7 +241,7 @@ module _ (a : InRound) (now : Option History) (core : Core) (j : Journal) (tally
         each = each-push a.setting.options a.setting.tells within.run.racer a.racer 1 a.setting.start within.run.end there.committed (empty MAX_ROOM) within.run.rounds round_is within.run.each within.goes_on within.due is_round;
         supply_is = within.supply_is ∙ sym (supply-push (empty MAX_ROOM) (draws_of within.run.rounds) within.draw) ∙ ap (supply_behind (empty MAX_ROOM)) (sym (draws-push within.run.rounds round_is));
         squashes_is = omega (arith, within.squashes_is, squashes-push within.run.rounds round_is);
-        since_is = within.since_is ∙ ap (λ (l : List journals.Epoch). since_after a.setting.options.mark 0 a.setting.start l) (sym rounds_are);
+        since_is = subst (λ (l : List journals.Epoch). IsSince true a.setting l there.committed tally.since tally.base) (sym rounds_are) within.since_is;
         kept = kept_there;
       },
       omega (arith, one, within.longer, ap (λ (s : State). s.steps) within.from_is, ap (λ (s : State). s.steps) stays),
@@ -323,10 +325,10 @@ module _ (a : InRound) (now : Option History) (core : Core) (j : Journal) (tally
 
       -- it was
       pub committed : 0 < length added → HasCommitted j (length added) j' (Ok tt) → IfKnown (Committed j added r.out (Ok tt)) now behind → (tally' : Tally)
-          → tally'.first ≡ first_behind tally.first e.slices → tally'.epochs ≡ tally.epochs + 1 → tally'.sent ≡ tally.sent + length r.out → tally'.since ≡ tally.since + 1 → Within false a behind there j' tally'
-      committed some numbers known tally' first_is epochs_are sent_is grown =
-          let kept = kept_committed a.setting a.later now E D within.output core.committed a.supply j tally within.kept laws within.last job.0 job.1 r job.2 added framed j' behind some numbers known tally' first_is epochs_are sent_is grown in
-          let since = since_next a.setting a.later now E D within.output core.committed a.supply j tally within.kept laws within.last job.0 job.1 r job.2 added framed j' behind within.since_is tally' grown in
+          → tally'.first ≡ first_behind tally.first e.slices → tally'.epochs ≡ tally.epochs + 1 → tally'.sent ≡ tally.sent + length r.out → tally'.since ≡ tally.since + 1 → tally'.base ≡ tally.base → Within false a behind there j' tally'
+      committed some numbers known tally' first_is epochs_are sent_is grown base_is =
+          let kept = kept_committed a.setting a.later now E D within.output core.committed a.supply j tally within.kept laws within.last job.0 job.1 r job.2 added framed j' behind some numbers known tally' first_is epochs_are sent_is grown base_is in
+          let since = since_next a.setting a.later now E D within.output core.committed a.supply j tally within.kept laws within.last job.0 job.1 r job.2 added framed j' behind within.since_is tally' grown base_is in
           let more = steps_more a.setting a.later now E D within.output core.committed a.supply j tally within.kept laws within.last job.0 job.1 r job.2 in
           record {
             run = within.run;
@@ -345,8 +347,8 @@ module _ (a : InRound) (now : Option History) (core : Core) (j : Journal) (tally
             runs = within.runs ++ r ∷ [];
             judged = next;
             output = within.output ++ r.out;
-            since_is = subst (λ (s : State). IsSince false a.setting (epochs within.run ++ epochs_of_runs (within.runs ++ r ∷ [])) s tally'.since) (sym ends)
-                (subst (λ (l : List journals.Epoch). IsSince false a.setting l r.end tally'.since) epochs_more since);
+            since_is = subst (λ (s : State). IsSince false a.setting (epochs within.run ++ epochs_of_runs (within.runs ++ r ∷ [])) s tally'.since tally'.base) (sym ends)
+                (subst (λ (l : List journals.Epoch). IsSince false a.setting l r.end tally'.since tally'.base) epochs_more since);
             kept = subst (λ (s : State). Kept a.setting a.later behind (records_unmarked a.setting.options a.setting.start (epochs within.run ++ epochs_of_runs (within.runs ++ r ∷ []))) (epochs within.run ++ epochs_of_runs (within.runs ++ r ∷ [])) D (within.output ++ r.out) s a.supply j' tally') (sym ends)
                 (subst (λ (l : List journals.Epoch). Kept a.setting a.later behind (records_unmarked a.setting.options a.setting.start l) l D (within.output ++ r.out) r.end a.supply j' tally') epochs_more kept);
             last = within.last;
@@ -367,7 +369,7 @@ module _ (a : InRound) (now : Option History) (core : Core) (j : Journal) (tally
 
   -- with another tally, journal and history
   module _ (j' : Journal) (tally' : Tally) (behind : Option History)
-      (kept : IsSince true a.setting committed_epochs core.committed tally'.since × Kept a.setting a.later behind (records_of a.setting.options a.setting.start committed_epochs) committed_epochs drawn within.output core.committed a.supply j' tally') where
+      (kept : IsSince true a.setting committed_epochs core.committed tally'.since tally'.base × Kept a.setting a.later behind (records_of a.setting.options a.setting.start committed_epochs) committed_epochs drawn within.output core.committed a.supply j' tally') where
     marked_within : Within true a behind core j' tally'
     marked_within = record {
       run = within.run;
@@ -395,14 +397,17 @@ module _ (a : InRound) (now : Option History) (core : Core) (j : Journal) (tally
   pub no_mark : is_due a.setting.options.mark tally.since core.committed ≡ false → Within true a now core j tally
   no_mark none = marked_within j tally now (not_due a.setting a.later now committed_epochs drawn within.output core.committed a.supply j tally within.kept within.since_is none)
 
-  module _ (due : is_due a.setting.options.mark tally.since core.committed ≡ true) (added : List ℕ) (framed : added ≡ frame (body_of (mark (checkpoint_of core.committed)))) (short : length (state_bytes core.committed) < MAX_BODY_BYTES) (behind : Option History) where
+  module _ (due : is_due a.setting.options.mark tally.since core.committed ≡ true) (added : List ℕ) (framed : added ≡ frame (body_of (mark_of tally.base core.committed))) (short : (m : Partial) → IsPartial m → length (partial_bytes m) < MAX_BODY_BYTES) (behind : Option History) where
     abbrev at_mark : RunOn a.setting.tells a.setting.options a.setting.start
     at_mark = run_on false a now core j tally within
 
-    is_mark_due : IsMarkDue a.setting.options a.setting.start committed_epochs core.committed
+    abbrev due_here : Partial
+    due_here = partial_of (checkpoint_of tally.base) (checkpoint_of core.committed)
+
+    is_mark_due : IsMarkDue a.setting.options a.setting.start committed_epochs due_here
     is_mark_due = mark_due a.setting a.later now committed_epochs drawn within.output core.committed a.supply j tally within.kept within.since_is due added framed short behind
 
-    marked_size : length (journal_of a.setting.guest (records_of a.setting.options a.setting.start committed_epochs)) ≡ length (journal_of a.setting.guest bare) + length (frame (body_of (mark (checkpoint_of core.committed))))
+    marked_size : length (journal_of a.setting.guest (records_of a.setting.options a.setting.start committed_epochs)) ≡ length (journal_of a.setting.guest bare) + length (frame (body_of (mark_of tally.base core.committed)))
     marked_size = size_marked a.setting a.later now committed_epochs drawn within.output core.committed a.supply j tally within.kept within.since_is due added framed short behind
 
     drawn_there : IfInput (HasDrawn drawn (answers_in committed_epochs)) a.setting.given a.later
@@ -412,6 +417,7 @@ module _ (a : InRound) (now : Option History) (core : Core) (j : Journal) (tally
     mark_lost j' numbers known = (
       inr (inr (
         at_mark,
+        due_here,
         is_mark_due,
         omega (arith, numbers.1, marked_size, within.kept.place_is, within.kept.room_is, ap (λ (l : List ℕ). length l) framed),
         drawn_there,
@@ -424,6 +430,7 @@ module _ (a : InRound) (now : Option History) (core : Core) (j : Journal) (tally
     mark_without_room j' end_ need numbers same = (
       inr (inr (
         at_mark,
+        due_here,
         is_mark_due,
         fits_still a.setting a.later now bare committed_epochs drawn within.output core.committed a.supply j tally within.kept,
         numbers.1 ∙ within.kept.place_is,
@@ -437,6 +444,6 @@ module _ (a : InRound) (now : Option History) (core : Core) (j : Journal) (tally
     )
 
     pub was_marked : (j' : Journal) → HasAppended j (length added) j' (Ok tt) → IfKnown (RecordWritten j.end added true) now behind → (tally' : Tally) → tally'.first ≡ tally.first → tally'.epochs ≡ tally.epochs
-        → tally'.sent ≡ tally.sent → tally'.since ≡ 0 → Within true a behind core j' tally'
-    was_marked j' numbers known tally' first_is epochs_are sent_is since_is =
-        marked_within j' tally' behind (kept_marked a.setting a.later now committed_epochs drawn within.output core.committed a.supply j tally within.kept within.since_is due added framed short behind j' numbers known tally' first_is epochs_are sent_is since_is)
+        → tally'.sent ≡ tally.sent → tally'.since ≡ 0 → tally'.base ≡ core.committed → Within true a behind core j' tally'
+    was_marked j' numbers known tally' first_is epochs_are sent_is since_is base_is =
+        marked_within j' tally' behind (kept_marked a.setting a.later now committed_epochs drawn within.output core.committed a.supply j tally within.kept within.since_is due added framed short behind j' numbers known tally' first_is epochs_are sent_is since_is base_is)

@@ -23,7 +23,7 @@ use Rattle.recorder.specs.EpochLaws.{EpochLaws}
 use Rattle.commit_core.specs.declared.stage.Stage.{Stage}
 use Rattle.commit_core.specs.declared.stage.Stage.TheVariants.{Judged, Taken}
 use Rattle.commit_core.specs.declared.verdict.Verdict.{Verdict}
-use Rattle.commit_core.specs.declared.verdict.Verdict.TheVariants.{Commit}
+use Rattle.commit_core.specs.declared.verdict.Verdict.TheVariants.{Commit, Over, Squash}
 use Rattle.commit_core.specs.JudgedRound.{IsWithin, used_up}
 use Rattle.commit_core.specs.Judging.{Core, HasJudged, IsJudged, JudgesNext, JudgesWhere, with_epoch}
 use Rattle.dp_base.specs.declared.limits.TheConstants.{EPOCH_END_BYTES, MAX_CALL_BYTES, MAX_EPOCH_STEPS, MAX_JOBS}
@@ -34,7 +34,8 @@ use Rattle.epoch_runner.specs.declared.epoch_run.Ran.{Ran}
 use Rattle.epoch_runner.specs.declared.epoch_run.Ran.TheVariants.{Epoch, Idle}
 use Rattle.disk_model.specs.History.{History}
 use Rattle.recorder.specs.declared.tally.Tally.{Tally}
-use Rattle.recorder.specs.Keeping.{InRound, IsOver, IsReady, Within}
+use Rattle.recorder.specs.declared.due_mark.DueMark.{DueMark}
+use Rattle.recorder.specs.Keeping.{InRound, IsDueMark, IsOver, IsReady, Within, next_base}
 use Rattle.recorder.proofs.JobRuns.{judged_all}
 use Rattle.recorder.proofs.RoundRuns.{is_over}
 use Rattle.recorder.proofs.Takes.{last_at}
@@ -137,6 +138,17 @@ module _ (core told : Core) (j : Journal) (ran : Ran) (ready : IsReady core j) (
   judged_so verdict there judged =
       let going : told.closed ≡ false = ap (λ (c : Core). c.closed) told_is ∙ ready.not_closed in
       subst (λ s. JudgesNext told s verdict there) next_stage (subst (λ b. JudgesWhere b told verdict there) going judged)
+
+  -- the verdict on a result that was taken is one of three
+  pub no_other_verdict : (verdict : Verdict) (there : Core) → HasJudged told verdict there → ((epoch : records.Epoch) (out : List ℕ) → verdict ≡ Commit epoch out → ⊥)
+      → ((i : ℕ) → verdict ≡ Squash i → ⊥) → ((i : ℕ) → verdict ≡ Over i → ⊥) → ⊥
+  no_other_verdict verdict there judged no_commit no_squash no_over = by_result ran (judged_so verdict there judged)
+    where
+      by_result : (x : Ran) → IsJudged told x verdict there → ⊥
+      by_result (Epoch r) (inl j) = no_commit r.epoch r.out j.1
+      by_result (Epoch r) (inr j) = no_squash (told.judged + 1) j.1
+      by_result (Idle s) (inl j) = no_over (told.judged + 1) j.1
+      by_result (Idle s) (inr j) = no_squash (told.judged + 1) j.1
 
   -- a result that starts in the committed state does so when it is judged
   pub starts_known : (run : EpochRun) → slice_get told.jobs told.judged ≡ Some (Taken (Epoch run)) → ((r : EpochRun) → ran ≡ Epoch r → r.start ≡ core.committed) → run.start ≡ told.committed
@@ -273,3 +285,8 @@ module _ (a : InRound) (now : Option History) (core : Core) (j : Journal) (tally
       let judged = subst (λ (l : List Ran). Rattle.commit_core.specs.JudgedRound.IsJudged within.run.end l within.runs core.committed used_up) (sym results_are) (judged_all within.run.end core.committed within.runs within.judged.linked) in
       subst (λ (n : ℕ). IsOver a n now core j tally) (omega arith)
       (is_over a now core j tally within core used_up judged (λ up. sym (ap (λ (l : List Ran). length l) same) ∙ within.full whole))
+
+-- the base of the next mark has an encoding, if that of the last one has, and the state of a mark that was due
+pub based_there : (every since : ℕ) (base s : State) (mark : Option DueMark) → IsDueMark every since base s mark → (now : State) → IsEncodable now → IsEncodable s → IsEncodable (next_base mark now)
+based_there every since base s None due now base_is there = base_is
+based_there every since base s (Some mark) due now base_is there = subst IsEncodable (sym due.2) there

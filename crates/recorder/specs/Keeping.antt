@@ -25,7 +25,7 @@ use Rattle.guest_kernel.specs.Slices.{chain}
 use Rattle.guest_kernel.specs.State.{has_ended}
 use Rattle.guest_kernel.specs.Threads.{AreFew, is_running}
 use Rattle.journal_text.specs.Reading.{journal_of, reads}
-use Rattle.journal_text.specs.Records.{IsRecord, Record, body_of, mark}
+use Rattle.journal_text.specs.Records.{IsRecord, Record, body_of}
 use Rattle.racing_runner.specs.Offers.{Tells}
 use Rattle.recorder.specs.declared.options.Options.{Options}
 use Rattle.recorder.specs.declared.record_fault.RecordFault.{RecordFault}
@@ -37,8 +37,9 @@ use Rattle.recorder.specs.Machine.{epochs_of_runs}
 use Rattle.recorder.specs.Moments.{EachMoment}
 use Rattle.recorder.specs.Racing.{IsRaced}
 use Rattle.recorder.specs.Recording.{EachIsRound, GoesOn, IsRecorded, Recorded, Run, draws, epochs, first_after, first_next, squashes, supply}
-use Rattle.recorder.specs.Marking.{is_due, marks_at, records_of, records_unmarked, records_with, since_after, since_then}
-use Rattle.checkpoint.specs.State.{IsEncodable, checkpoint_of}
+use Rattle.recorder.specs.declared.due_mark.DueMark.{DueMark}
+use Rattle.recorder.specs.Marking.{base_after, base_then, is_due, mark_of, marks_at, records_of, records_unmarked, records_with, since_after, since_then}
+use Rattle.checkpoint.specs.State.{IsEncodable}
 use Rattle.supply.specs.Supplied.{IsLastOf, IsSupply, Supplied, empty, end_of}
 use Rattle.supply.specs.Windows.{bytes_left}
 use Rattle.supply.specs.declared.TheConstants.{MAX_ROOM}
@@ -126,12 +127,15 @@ pub record Kept (a : Setting) (there : Option Input) (now : Option History) (rec
   pub sent_is : tally.sent ≡ length output
   pub little : tally.sent ≤ (EPOCH_END_BYTES + MAX_CALL_BYTES) * tally.epochs
   pub since_few : tally.since ≤ tally.epochs
+  pub base_encodable : IsEncodable tally.base
 
--- Whether the mark after the last epoch was judged, and the count of epochs since the last mark.
-abbrev pub IsSince : (judged : Bool) → Setting → List Epoch → State → (since : ℕ) → Type 0
-IsSince true a epochs state since = since ≡ since_after a.options.mark 0 a.start epochs
-IsSince false a epochs state since = (records_of a.options a.start epochs ≡ records_unmarked a.options a.start epochs ++ marks_at a.options.mark since state)
+-- Whether the mark after the last epoch was judged, the count of epochs since the last mark, and the base of the next one.
+abbrev pub IsSince : (judged : Bool) → Setting → List Epoch → State → (since : ℕ) → (base : State) → Type 0
+IsSince true a epochs state since base = (since ≡ since_after a.options.mark 0 a.start epochs) × (base ≡ base_after a.options.mark 0 a.start a.start epochs)
+IsSince false a epochs state since base =
+    (records_of a.options a.start epochs ≡ records_unmarked a.options a.start epochs ++ marks_at a.options.mark since base state)
     × (since_then a.options.mark since state ≡ since_after a.options.mark 0 a.start epochs)
+    × (base_then a.options.mark since base state ≡ base_after a.options.mark 0 a.start a.start epochs)
 
 -- ---- between two rounds
 
@@ -141,7 +145,7 @@ pub record SoFar (a : Setting) (there : Option Input) (now : Option History) (ra
   pub each : EachIsRound a.tells a.options 1 a.start (empty MAX_ROOM) rounds state racer
   pub supply_is : w ≡ supply_behind (empty MAX_ROOM) (draws_of rounds)
   pub squashes_is : squashes ≡ squashes_of rounds
-  pub since_is : IsSince true a (epochs_of rounds) state tally.since
+  pub since_is : IsSince true a (epochs_of rounds) state tally.since tally.base
   pub kept : Kept a there now (records_of a.options a.start (epochs_of rounds)) (epochs_of rounds) (draws_of rounds) output state w j tally
 
 -- ---- within a round
@@ -176,7 +180,7 @@ pub record Within (marked : Bool) (a : InRound) (now : Option History) (core : C
   pub runs : List EpochRun
   pub judged : IsWithin run.end results runs core
   pub output : List ℕ
-  pub since_is : IsSince marked a.setting (epochs run ++ epochs_of_runs runs) core.committed tally.since
+  pub since_is : IsSince marked a.setting (epochs run ++ epochs_of_runs runs) core.committed tally.since tally.base
   pub kept : Kept a.setting a.later now (records_with marked a.setting.options.mark a.setting.start (epochs run ++ epochs_of_runs runs)) (epochs run ++ epochs_of_runs runs) (draws run ++ draw ∷ []) output core.committed a.supply j tally
   pub last : IfInput (λ s t. IsLast a.supply.stamp (readings_since s t)) a.setting.given a.later
   pub longer : run.end.steps + length runs ≤ core.committed.steps
@@ -216,7 +220,12 @@ abbrev pub MarkSays : InRound → (now : Option History) → Core → Journal �
 MarkSays a now core j tally (Ok done) = Within true a now core j tally
 MarkSays a now core j tally (Err fault) = IsStopped a now fault
 
--- the frame of the mark that is due, if one is
-abbrev pub IsMarkFrame : (every since : ℕ) → State → Option (List ℕ) → Type 0
-IsMarkFrame every since s None = is_due every since s ≡ false
-IsMarkFrame every since s (Some added) = (is_due every since s ≡ true) × (added ≡ frame (body_of (mark (checkpoint_of s))))
+-- the base of the next mark, once this one was appended, if one was
+abbrev pub next_base : Option DueMark → (base : State) → State
+next_base None base = base
+next_base (Some mark) base = mark.state
+
+-- the mark that is due, if one is
+abbrev pub IsDueMark : (every since : ℕ) → (base s : State) → Option DueMark → Type 0
+IsDueMark every since base s None = is_due every since s ≡ false
+IsDueMark every since base s (Some mark) = (is_due every since s ≡ true) × (mark.frame ≡ frame (body_of (mark_of base s))) × (mark.state ≡ s)

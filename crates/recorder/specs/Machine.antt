@@ -2,7 +2,6 @@
 -- committer and the devices. This project's own.
 use Rattle.std.specs.Prelude.{◌≡◌, ◌≢◌, slice_get, ◌⊎◌, ◌<◌, ◌≤◌, ◌+◌, ◌-◌, ℕ, Bool, true, false, List, [], ◌∷◌, ◌++◌, length, map, take, Option, Some, None, Ok, Err, ⊤}
 use Rattle.std.specs.List.{flat_map}
-use Rattle.checkpoint.specs.State.{checkpoint_of}
 use Rattle.commit_core.specs.declared.event.Event as rounds
 use Rattle.commit_core.specs.declared.event.Event.TheVariants as events
 use Rattle.commit_core.specs.declared.stage.Stage.TheVariants.{Offered, Claimed, Done, Taken}
@@ -24,8 +23,9 @@ use Rattle.epoch_runner.specs.Supplying.{IsSuppliedBy}
 use Rattle.guest_kernel.specs.declared.state.State.{State}
 use Rattle.guest_kernel.specs.State.{has_ended}
 use Rattle.journal_text.specs.Reading.{journal_of}
-use Rattle.journal_text.specs.Records.{IsRecord, Record, body_of, epoch, mark}
+use Rattle.journal_text.specs.Records.{IsRecord, Record, body_of, epoch, mark, partial}
 use Rattle.recorder.specs.Drawing.{Draw, Drew, supply_of}
+use Rattle.recorder.specs.Marking.{mark_of}
 use Rattle.supply.specs.Supplied.{Supplied, empty, end_of}
 use Rattle.supply.specs.declared.TheConstants.{MAX_ROOM}
 
@@ -63,6 +63,8 @@ pub record Machine : Type 0 where
   pub records : List Record
   pub written : List EpochRun
   pub hand : Hand
+  -- the state of the last acknowledged mark, or the start: the base of the next mark
+  pub base : State
   -- the output that was sent
   pub released : List ℕ
   -- a device has failed
@@ -83,6 +85,7 @@ first_machine s h i = record {
   records = [];
   written = [];
   hand = nothing;
+  base = s;
   released = [];
   stopped = false;
   left = None;
@@ -105,8 +108,11 @@ epochs_of_runs rs = map (λ r. epoch_of r.epoch) rs
 abbrev pub record_of_run : EpochRun → Record
 record_of_run r = epoch (epoch_of r.epoch)
 
-abbrev pub mark_of_state : State → Record
-mark_of_state s = mark (checkpoint_of s)
+-- the base of the next mark once this record is acknowledged, in this state
+abbrev pub base_with : Record → (base s : State) → State
+base_with (epoch e) base s = base
+base_with (mark c) base s = s
+base_with (partial p) base s = s
 
 -- the devices work, no record is in hand, and all output of acknowledged epochs was sent
 abbrev pub IsAtRest : Machine → Type 0
@@ -187,7 +193,7 @@ InRound supplied m events.Judge n =
 -- ---- mark
 
 abbrev pub Marks : Machine → Machine → Type 0
-Marks m n = IsAtRest m × (has_ended m.core.committed.end ≡ false) × IsRecord (mark_of_state m.core.committed) × (n ≡ record m { hand = holds (mark_of_state m.core.committed) [] frame_write })
+Marks m n = IsAtRest m × (has_ended m.core.committed.end ≡ false) × IsRecord (mark_of m.base m.core.committed) × (n ≡ record m { hand = holds (mark_of m.base m.core.committed) [] frame_write })
 
 -- ---- the four calls
 
@@ -209,7 +215,7 @@ abbrev pub after_call : Machine → Record → List EpochRun → Call → Histor
 after_call m r rs frame_write h = record m { world = h; hand = holds r rs frame_sync }
 after_call m r rs frame_sync h = record m { world = h; hand = holds r rs gate_write }
 after_call m r rs gate_write h = record m { world = h; hand = holds r rs gate_sync }
-after_call m r rs gate_sync h = record m { world = h; hand = nothing; records = m.records ++ r ∷ []; written = m.written ++ rs }
+after_call m r rs gate_sync h = record m { world = h; hand = nothing; records = m.records ++ r ∷ []; written = m.written ++ rs; base = base_with r m.base m.core.committed }
 
 abbrev pub Makes : (guest : List ℕ) → Machine → Call → Machine → Type 0
 Makes guest m call n = (m.stopped ≡ false) × (r : Record) × (rs : List EpochRun) × (m.hand ≡ holds r rs call)

@@ -12,19 +12,22 @@ use Rattle.epoch_runner.specs.declared.epoch_run.EpochRun.{EpochRun}
 use Rattle.epoch_runner.specs.declared.epoch_run.Ran.{Ran}
 use Rattle.guest_kernel.specs.declared.state.State.{State}
 use Rattle.guest_kernel.specs.Slices.{chain}
-use Rattle.journal_text.specs.Records.{IsRecord, Record, epoch, mark}
+use Rattle.journal_text.specs.Records.{IsRecord, Record, epoch, mark, partial}
+use Rattle.partial_mark.specs.Base.{applied}
 use Rattle.recorder.specs.Drawing.{Draw}
 use Rattle.recorder.specs.Machine.{Event, Hand, Machine, TakenResult, crash, epochs_of_runs, fails, frame_sync, frame_write, gate_sync, gate_write, holds, in_round, judged_runs, makes, marks, nothing, output_of_runs, round, send_fails, sends}
 
 -- ---- the journal
 
--- These are the records of these epochs, from one state to another, in order. Between them are marks, each of the state there.
-abbrev pub StandFor : State → List Record → List EpochRun → State → Type 0
-StandFor s [] [] t = t ≡ s
-StandFor s (epoch e ∷ records) (r ∷ rs) t = (e ≡ epoch_of r.epoch) × StandFor r.end records rs t
-StandFor s (mark c ∷ records) rs t = (c ≡ checkpoint_of s) × StandFor s records rs t
-StandFor s (epoch e ∷ records) [] t = ⊥
-StandFor s [] (r ∷ rs) t = ⊥
+-- These are the records of these epochs, from one state to another, in order. Between them are marks, each of the state there, and a
+-- partial one against its base: the state of the mark before, or the base at the beginning. The next mark has this base then.
+abbrev pub StandFor : (base s : State) → List Record → List EpochRun → (then_ t : State) → Type 0
+StandFor base s [] [] then_ t = (then_ ≡ base) × (t ≡ s)
+StandFor base s (epoch e ∷ records) (r ∷ rs) then_ t = (e ≡ epoch_of r.epoch) × StandFor base r.end records rs then_ t
+StandFor base s (mark c ∷ records) rs then_ t = (c ≡ checkpoint_of s) × StandFor s s records rs then_ t
+StandFor base s (partial m ∷ records) rs then_ t = (applied (checkpoint_of base) m ≡ Some (checkpoint_of s)) × StandFor s s records rs then_ t
+StandFor base s (epoch e ∷ records) [] then_ t = ⊥
+StandFor base s [] (r ∷ rs) then_ t = ⊥
 
 abbrev pub record_in_hand : Hand → Option Record
 record_in_hand nothing = None
@@ -81,7 +84,7 @@ pub record IsKept (guest : List ℕ) (start : State) (before : History) (m : Mac
   pub linked : AreLinked start (judged_runs m) m.core.committed
   pub chained : chain start (epochs_of_runs (judged_runs m)) ≡ Ok (m.core.committed, output_of_runs (judged_runs m))
   -- the acknowledged records are those of all of them, but the one in hand, with right marks between
-  pub journal : (there : State) × StandFor start m.records m.written there
+  pub journal : (there : State) × StandFor start start m.records m.written m.base there
   pub are_records : AllByRecursion IsRecord m.records
   -- what a crash may leave now, and what one has left
   pub images : (image sent : List ℕ) → MayLeave (now m.world) image sent → ReadsWith guest m.records (in_question m.hand m.stopped) image × (sent ≡ before.sent ++ m.released)

@@ -5,7 +5,9 @@ use Rattle.dp_base.specs.Journal.{Epoch}
 use Rattle.guest_kernel.specs.declared.state.State.{State}
 use Rattle.guest_kernel.specs.Slices.{at, either, run}
 use Rattle.guest_kernel.specs.State.{has_ended}
-use Rattle.journal_text.specs.Records.{Record, epoch, mark}
+use Rattle.journal_text.specs.Records.{Record, epoch, partial}
+use Rattle.partial_mark.specs.Base.{partial_of}
+use Rattle.partial_mark.specs.Partial.{Partial}
 use Rattle.recorder.specs.declared.options.Options.{Options}
 
 -- A mark is due so many epochs after the last one, if the guest hasn't ended. None is due where the number is 0: after an epoch at least one
@@ -13,12 +15,20 @@ use Rattle.recorder.specs.declared.options.Options.{Options}
 abbrev pub is_due : (every since : ℕ) → State → Bool
 is_due every since s = if has_ended s.end then false else nat_eq since every
 
-abbrev pub marks_at : (every since : ℕ) → State → List Record
-marks_at every since s = if is_due every since s then mark (checkpoint_of s) ∷ [] else []
+-- the mark of a state: partial, against the state of the mark before, or the start
+abbrev pub mark_of : (base s : State) → Record
+mark_of base s = partial (partial_of (checkpoint_of base) (checkpoint_of s))
+
+abbrev pub marks_at : (every since : ℕ) → (base s : State) → List Record
+marks_at every since base s = if is_due every since s then mark_of base s ∷ [] else []
 
 -- how many epochs there are since the last mark, once the one that is due was made
 abbrev pub since_then : (every since : ℕ) → State → ℕ
 since_then every since s = if is_due every since s then 0 else since
+
+-- the base of the next mark, once the one that is due was made
+abbrev pub base_then : (every since : ℕ) → (base s : State) → State
+base_then every since base s = if is_due every since s then s else base
 
 -- All marks, or those that aren't after the last epoch.
 abbrev pub kept : (all : Bool) → (later : List Epoch) → List Record → List Record
@@ -26,12 +36,13 @@ kept true later marks = marks
 kept false [] marks = []
 kept false (e ∷ later) marks = marks
 
--- Epochs from this state with their marks, so many epochs after the last mark.
-unfoldable pub marked_from : (all : Bool) → (every since : ℕ) → State → List Epoch → List Record
-marked_from all every since s [] = []
-marked_from all every since s (e ∷ later) = epoch e ∷ either (run e.slices (at s [] e.answers))
+-- Epochs from this state with their marks, so many epochs after the last mark, whose state is the base.
+unfoldable pub marked_from : (all : Bool) → (every since : ℕ) → (base s : State) → List Epoch → List Record
+marked_from all every since base s [] = []
+marked_from all every since base s (e ∷ later) = epoch e ∷ either (run e.slices (at s [] e.answers))
     (λ stop. [])
-    (λ here. kept all later (marks_at every (since + 1) here.state) ++ marked_from all every (since_then every (since + 1) here.state) here.state later)
+    (λ here. kept all later (marks_at every (since + 1) base here.state)
+    ++ marked_from all every (since_then every (since + 1) here.state) (base_then every (since + 1) base here.state) here.state later)
 
 -- how many epochs there are since the last mark
 unfoldable pub since_after : (every since : ℕ) → State → List Epoch → ℕ
@@ -40,9 +51,16 @@ since_after every since s (e ∷ later) = either (run e.slices (at s [] e.answer
     (λ stop. since)
     (λ here. since_after every (since_then every (since + 1) here.state) here.state later)
 
--- the records of these epochs, from the guest's start: a mark after every so many of them
+-- the base of the next mark
+unfoldable pub base_after : (every since : ℕ) → (base s : State) → List Epoch → State
+base_after every since base s [] = base
+base_after every since base s (e ∷ later) = either (run e.slices (at s [] e.answers))
+    (λ stop. base)
+    (λ here. base_after every (since_then every (since + 1) here.state) (base_then every (since + 1) base here.state) here.state later)
+
+-- The records of these epochs, from the guest's start: a mark after every so many of them. The first mark's base is the start.
 abbrev pub records_with : (all : Bool) → (every : ℕ) → State → List Epoch → List Record
-records_with all every start epochs = marked_from all every 0 start epochs
+records_with all every start epochs = marked_from all every 0 start start epochs
 
 abbrev pub records_of : Options → State → List Epoch → List Record
 records_of options start epochs = records_with true options.mark start epochs
@@ -51,6 +69,6 @@ records_of options start epochs = records_with true options.mark start epochs
 abbrev pub records_unmarked : Options → State → List Epoch → List Record
 records_unmarked options start epochs = records_with false options.mark start epochs
 
--- a mark is due after these epochs, in this state
-abbrev pub IsMarkDue : Options → (start : State) → List Epoch → State → Type 0
-IsMarkDue options start epochs s = records_of options start epochs ≡ records_unmarked options start epochs ++ mark (checkpoint_of s) ∷ []
+-- this mark is due after these epochs
+abbrev pub IsMarkDue : Options → (start : State) → List Epoch → Partial → Type 0
+IsMarkDue options start epochs m = records_of options start epochs ≡ records_unmarked options start epochs ++ partial m ∷ []

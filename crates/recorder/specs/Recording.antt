@@ -35,11 +35,12 @@ use Rattle.epoch_record.specs.Epoch.{epoch_of}
 use Rattle.epoch_runner.specs.declared.epoch_run.EpochRun.{EpochRun}
 use Rattle.epoch_runner.specs.declared.epoch_run.Ran.{Ran}
 use Rattle.epoch_runner.specs.declared.epoch_run.Ran.TheVariants as rans
-use Rattle.checkpoint.specs.State.{checkpoint_of, digest_of}
+use Rattle.checkpoint.specs.State.{digest_of}
 use Rattle.epoch_journal.specs.Images.{Reads}
 use Rattle.epoch_journal.specs.Standing.{Stands}
 use Rattle.journal_text.specs.Reading.{journal_of, reads}
-use Rattle.journal_text.specs.Records.{Record, body_of, epoch, mark}
+use Rattle.journal_text.specs.Records.{Record, epoch, partial}
+use Rattle.partial_mark.specs.Partial.{Partial, partial_bytes}
 
 -- ---- a run in rounds
 
@@ -254,8 +255,8 @@ HasNoRoom guest tells start options end need i j before after =
     ⊎ ((on : RunOn tells options start) × (n : NextEpoch on) × HasRoom guest options (records_of options start (epochs_on on))
     × (end ≡ length (journal_of guest (records_of options start (epochs_on on)))) × (need ≡ length (frame (epoch_body (next_epoch n)))) × (options.room < end + need)
     × DrawnWithin on (epochs_on on) i j × IfKnown (IsRecorded guest (records_of options start (epochs_on on)) on.output []) before after)
-    ⊎ ((on : RunOn tells options start) × IsMarkDue options start (epochs_on on) on.end × HasRoom guest options (records_unmarked options start (epochs_on on))
-    × (end ≡ length (journal_of guest (records_unmarked options start (epochs_on on)))) × (need ≡ length (frame (body_of (mark (checkpoint_of on.end))))) × (options.room < end + need)
+    ⊎ ((on : RunOn tells options start) × (m : Partial) × IsMarkDue options start (epochs_on on) m × HasRoom guest options (records_unmarked options start (epochs_on on))
+    × (end ≡ length (journal_of guest (records_unmarked options start (epochs_on on)))) × (need ≡ length (frame (partial_bytes m))) × (options.room < end + need)
     × DrawnWithin on (epochs_on on) i j × IfKnown (IsRecorded guest (records_unmarked options start (epochs_on on)) on.output []) before after)
 
 -- The disk failed before the first epoch, or while the epoch that is next was appended, or the mark that is due.
@@ -264,8 +265,8 @@ HasLostDisk guest tells start options i j before after =
     ((j ≡ i) × IfKnown (IsUnbegun guest) before after)
     ⊎ ((on : RunOn tells options start) × (n : NextEpoch on) × HasRoom guest options (records_unmarked options start (epochs_on on ++ next_epoch n ∷ []))
     × DrawnWithin on (epochs_on on) i j × IfKnown (IsInterrupted guest (records_of options start (epochs_on on)) on.output (epoch (next_epoch n))) before after)
-    ⊎ ((on : RunOn tells options start) × IsMarkDue options start (epochs_on on) on.end × HasRoom guest options (records_of options start (epochs_on on))
-    × DrawnWithin on (epochs_on on) i j × IfKnown (IsInterrupted guest (records_unmarked options start (epochs_on on)) on.output (mark (checkpoint_of on.end))) before after)
+    ⊎ ((on : RunOn tells options start) × (m : Partial) × IsMarkDue options start (epochs_on on) m × HasRoom guest options (records_of options start (epochs_on on))
+    × DrawnWithin on (epochs_on on) i j × IfKnown (IsInterrupted guest (records_unmarked options start (epochs_on on)) on.output (partial m)) before after)
 
 -- The epoch that is next was committed, and a part of its output was sent; or the guest has ended, and a part of the report's line was
 -- sent. The mark after that epoch isn't there.

@@ -31,6 +31,7 @@ pub(crate) struct Committer<W: World + Drop> {
 
 impl<W: World + Drop> Taker for Committer<W> {
     ghost use Rattle.std.specs.Prelude.{◌≡◌, length};
+    ghost use Rattle.checkpoint.specs.State.{IsEncodable};
     ghost use Rattle.recorder.specs.Keeping.{IsReady};
     ghost use Rattle.recorder.specs.Taking.{HasTaken};
 
@@ -40,7 +41,7 @@ impl<W: World + Drop> Taker for Committer<W> {
         (record { history = W.history d.world; disk = W.disk_faults d.world; sink = W.sink_faults d.world; core = d.core; journal = d.journal; tally = d.tally; every = d.every })
         d.last };
 
-    ghost ready = { λ c. IsReady c.core c.journal × (length c.core.jobs ≡ c.taken) };
+    ghost ready = { λ c. IsReady c.core c.journal × (length c.core.jobs ≡ c.taken) × IsEncodable c.tally.base };
 
     ghost expects = { λ c start. start ≡ c.core.committed };
 

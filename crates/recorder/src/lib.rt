@@ -44,6 +44,7 @@
 mod commit;
 mod committer;
 mod draw;
+mod due_mark;
 pub mod laws;
 mod options;
 mod plan;

@@ -79,7 +79,7 @@ pub fn record_<
     ensures sink_count { W.sink_faults world ≤ W.sink_faults result.0 }
 {
     let mut world = world;
-    let (journal, mut supply) = match begin(alloc, &mut world, guest, &start, &options) {
+    let (journal, mut supply, base) = match begin(alloc, &mut world, guest, &start, &options) {
         Ok(begun) => begun,
         Err(fault) => return (world, Err(fault)),
     };
@@ -90,6 +90,7 @@ pub fn record_<
             epochs: 0,
             since: 0,
             sent: 0,
+            base,
         },
         state: start,
         racer,
@@ -116,14 +117,13 @@ pub fn record_<
             Err(fault) => return (world, Err(fault)),
         }
     }
-    let tally = recording.tally;
     let answer = tell(
         alloc,
         &mut world,
         &recording.state,
-        tally.epochs,
+        recording.tally.epochs,
         recording.squashes,
-        tally.sent,
+        recording.tally.sent,
     );
     (world, answer)
 }
@@ -138,19 +138,19 @@ struct Recording<Q: Drop> {
     squashes: u32,
 }
 
-// Begins a journal, and makes the supply of the rounds.
+// Begins a journal, and makes the supply of the rounds and the base of the first mark.
 fn begin<W: World>(
     alloc: Global,
     world: &mut W,
     guest: &[u8],
     start: &State,
     options: &Options,
-) -> Result<(Journal, Supply), RecordFault>
+) -> Result<(Journal, Supply, State), RecordFault>
     requires guest { IsGuestFile guest.now }
     requires starts { start.now ≡ start_state guest.now }
     ensures begun { (tells : Tells) (given : Option Input) → IfOk result (λ r. SoFar
         (record { guest = guest.now; tells = tells; options = options.now; start = start.now; given = given; before = W.history world.old })
-        given (W.history world.new) tells start.now r.1 r.0 (record { first = 1; epochs = 0; since = 0; sent = 0 }) 0) }
+        given (W.history world.new) tells start.now r.1 r.0 (record { first = 1; epochs = 0; since = 0; sent = 0; base = r.2 }) 0) }
     ensures stopped { (tells : Tells) (given : Option Input) → IfErr result (λ fault. HasStopped
         (record { guest = guest.now; tells = tells; options = options.now; start = start.now; given = given; before = W.history world.old })
         given (W.history world.new) fault) }
@@ -170,7 +170,8 @@ fn begin<W: World>(
     checkpoint::laws::a_start_state_is_encodable();
     let journal = Journal::begin(alloc, world, guest, options.room)?;
     let supply = Supply::new(alloc, MAX_ROOM)?;
-    Ok((journal, supply))
+    let base = start.share(alloc)?;
+    Ok((journal, supply, base))
 }
 
 // Runs a round, whose epochs are committed while later ones still run.

@@ -11,12 +11,14 @@ ghost use Rattle.checkpoint.specs.State.{IsEncodable};
 ghost use Rattle.commit_core.specs.Judging.{Core, HasApplied};
 ghost use Rattle.epoch_runner.specs.declared.epoch_run.EpochRun.{EpochRun};
 ghost use Rattle.epoch_runner.specs.declared.epoch_run.Ran.TheVariants as rans;
-ghost use Rattle.recorder.specs.Keeping.{InRound, IsMarkFrame, IsReady, MarkSays, StepSays, Within};
+ghost use Rattle.recorder.specs.Keeping.{InRound, IsDueMark, IsReady, MarkSays, StepSays, Within, next_base};
 
 use crate::commit::commit_epoch;
+use crate::due_mark::DueMark;
 use crate::ready::Ready;
 use crate::record_fault::RecordFault;
 use crate::tally::{Next, Tally};
+use checkpoint::encode_partial;
 use commit_core::{Core, Event, Verdict};
 use disk_model::World;
 use dp_base::OutOfMemory;
@@ -24,7 +26,7 @@ use epoch_journal::{AppendFault, Journal};
 use epoch_record::{Epoch, encode};
 use epoch_runner::Ran;
 use guest_kernel::{State, laws};
-use journal_text::{Frame, MARK_KIND};
+use journal_text::Frame;
 use std::alloc::Global;
 
 // Tells a core the result of the next job.
@@ -55,10 +57,11 @@ pub(crate) fn commit_next<W: World>(
     requires ready { IsReady core.old journal.old }
     requires number { number ≡ length core.old.jobs + 1 }
     requires room { number ≤ MAX_JOBS }
+    requires base { IsEncodable tally.old.base }
     requires known { is_known ≡ true → (run : EpochRun) → ran ≡ rans.Epoch run → run.start ≡ core.old.committed }
     ensures says { (a : InRound) → a.setting.options.mark ≡ every → Within true a (W.history world.old) core.old journal.old tally.old →
         slice_get a.results (length core.old.jobs) ≡ Some ran → StepSays a (W.history world.new) core.new journal.new tally.new result }
-    ensures goes { IfOk result (λ next. next ≡ Next.Committed → IsReady core.new journal.new × (length core.new.jobs ≡ number)) }
+    ensures goes { IfOk result (λ next. next ≡ Next.Committed → IsReady core.new journal.new × (length core.new.jobs ≡ number) × IsEncodable tally.new.base) }
     ensures others { (input : ℕ) → MetNoOther result (W.disk_faults world.old) (W.disk_faults world.new)
         (W.sink_faults world.old) (W.sink_faults world.new) input input }
     ensures no_input { IsErrOf result RecordFault.InputFault → ⊥ }
@@ -76,7 +79,7 @@ pub(crate) fn commit_next<W: World>(
         Verdict::Commit { epoch, out } => {
             let frame = frame_of(alloc, &epoch)?;
             let since = tally.since.saturating_add(1);
-            let mark = mark_frame(alloc, core.committed(), every, since)?;
+            let mark = due_mark(alloc, core.committed(), &tally.base, every, since)?;
             let ready = Ready { frame, out };
             commit_epoch(journal, world, &ready)?;
             tally.count(epoch.slices.as_slice(), ready.out.len() as u64);
@@ -102,26 +105,27 @@ fn judge_next(core: &mut Core, is_known: bool) -> Verdict
     }
 }
 
-// The frame of the mark that is due so many epochs after the last one, if one is.
-fn mark_frame(
+// The mark that is due so many epochs after the last one, if one is, against its base.
+fn due_mark(
     alloc: Global,
     state: &State,
+    base: &State,
     every: u32,
     since: u32,
-) -> Result<Option<Frame>, OutOfMemory>
-    requires { IsEncodable state.now }
-    ensures { IfOk result (λ frame. IsMarkFrame every since state.now frame) }
+) -> Result<Option<DueMark>, OutOfMemory>
+    requires state { IsEncodable state.now }
+    requires base { IsEncodable base.now }
+    ensures { IfOk result (λ mark. IsDueMark every since base.now state.now mark) }
 {
-    checkpoint::laws::an_encoding_is_short();
+    checkpoint::laws::a_partial_is_short();
     journal_text::laws::a_record_is_its_body();
     if state.ended() || since != every {
         return Ok(None);
     }
-    let encoding = checkpoint::encode(alloc, state)?;
-    let mut body = Vec::new(alloc);
-    body.push(MARK_KIND)?;
-    body.extend_from_slice(&encoding)?;
-    Ok(Some(Frame::of(alloc, &body)?))
+    let body = encode_partial(alloc, state, base)?;
+    let frame = Frame::of(alloc, &body)?;
+    let state = state.share(alloc)?;
+    Ok(Some(DueMark { frame, state }))
 }
 
 // Appends the mark that is due, if one is.
@@ -129,12 +133,13 @@ fn append_mark<W: World>(
     journal: &mut Journal,
     world: &mut W,
     tally: &mut Tally,
-    mark: Option<Frame>,
+    mark: Option<DueMark>,
 ) -> Result<(), RecordFault>
     requires { journal.old.failed ≡ false }
     ensures works { OnOk result (journal.new.failed ≡ false) }
+    ensures base { OnOk result (tally.new.base ≡ next_base mark tally.old.base) }
     ensures says { (a : InRound) (core : Core) → Within false a (W.history world.old) core journal.old tally.old →
-        IsMarkFrame a.setting.options.mark tally.old.since core.committed mark → MarkSays a (W.history world.new) core journal.new tally.new result }
+        IsDueMark a.setting.options.mark tally.old.since tally.old.base core.committed mark → MarkSays a (W.history world.new) core journal.new tally.new result }
     ensures others { (input : ℕ) → MetNoOther result (W.disk_faults world.old) (W.disk_faults world.new)
         (W.sink_faults world.old) (W.sink_faults world.new) input input }
     ensures no_input { IsErrOf result RecordFault.InputFault → ⊥ }
@@ -144,14 +149,15 @@ fn append_mark<W: World>(
     ensures disk_count { W.disk_faults world.old ≤ W.disk_faults world.new }
     ensures sink_count { W.sink_faults world.new ≡ W.sink_faults world.old }
 {
-    checkpoint::laws::an_encoding_is_short();
-    let frame = match mark {
-        Some(frame) => frame,
+    checkpoint::laws::a_partial_is_short();
+    let mark = match mark {
+        Some(mark) => mark,
         None => return Ok(()),
     };
-    match journal.append(world, &frame) {
+    match journal.append(world, &mark.frame) {
         Ok(()) => {
             tally.since = 0;
+            tally.base = mark.state;
             Ok(())
         }
         Err(AppendFault::DiskFault) => Err(RecordFault::DiskFault),

@@ -4,15 +4,17 @@ ghost use Rattle.std.specs.List.{AllByRecursion};
 ghost use Rattle.recorder.specs.Recording.{first_behind};
 
 use dp_base::Slice;
+use guest_kernel::State;
 
-/// What was committed so far: the number of epochs, of those since the last mark, and the bytes of output that were sent; and the thread
-/// that is tried first in the next epoch.
-#[derive(Clone, Copy)]
+/// What was committed so far: the number of epochs, of those since the last mark, and the bytes of output that were sent; the thread
+/// that is tried first in the next epoch; and the state of the last mark, or the start, which is the base of the next mark.
+#[derive(Drop)]
 pub struct Tally {
     pub first: u16,
     pub epochs: u32,
     pub since: u32,
     pub sent: u64,
+    pub base: State,
 }
 
 /// What became of the next result of a round.
@@ -33,6 +35,7 @@ impl Tally {
         ensures epochs { self.old.epochs + 1 < 2 ^ 32 → self.new.epochs ≡ self.old.epochs + 1 }
         ensures since { self.old.since + 1 < 2 ^ 32 → self.new.since ≡ self.old.since + 1 }
         ensures sent { self.old.sent + sent < 2 ^ 64 → self.new.sent ≡ self.old.sent + sent }
+        ensures base { self.new.base ≡ self.old.base }
     {
         self.first = next_first(self.first, slices);
         self.epochs = self.epochs.saturating_add(1);

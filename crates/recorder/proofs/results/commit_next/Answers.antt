@@ -15,10 +15,10 @@ use Rattle.epoch_record.specs.Epoch.{epoch_of}
 use Rattle.epoch_runner.specs.declared.epoch_run.EpochRun.{EpochRun}
 use Rattle.guest_kernel.specs.declared.state.State.{State}
 use Rattle.recorder.specs.Committing.{Committed}
-use Rattle.recorder.specs.Keeping.{IsMarkFrame, IsOver}
+use Rattle.recorder.specs.Keeping.{IsDueMark, IsOver}
 use Rattle.recorder.specs.Recording.{first_behind}
 use Rattle.recorder.proofs.RoundRuns.{commit_failed, committed, few_written, is_over, low_here, no_memory}
-use Rattle.recorder.proofs.Takings.{commit_of, encodable_there, few_counts, is_body_of, is_epoch_of, judged_so, one_more, ready_there, starts_known, taken_in}
+use Rattle.recorder.proofs.Takings.{based_there, commit_of, encodable_there, few_counts, is_body_of, is_epoch_of, judged_so, no_other_verdict, one_more, ready_there, starts_known, taken_in}
 use Rattle.recorder.proofs.results.commit_next.Goals as goal
 
 pub judge_next-requires : goal.judge_next-requires
@@ -41,8 +41,8 @@ returns-in_err-frame-in-Commit-clause-says g c = λ a is w next.
     let p = err_from_is_err_and c.from_residual.result c.from_residual.ensures.1 in
     rw (p.1 ∙ ap (λ e. Err e) p.2) (no_memory a _ c.take_one.new.core c.args.journal.now c.args.tally.now here)
 
-pub mark_frame-requires : goal.mark_frame-requires
-mark_frame-requires g c =
+pub due_mark-requires-clause-state : goal.due_mark-requires-clause-state
+due_mark-requires-clause-state g c =
     let k = (commit_of c.args.core.now c.take_one.new.core c.args.journal.now c.args.ran c.requires.ready c.take_one.ensures c.in-Commit.epoch c.in-Commit.out c.judge_next.new.core c.in-Commit.ensures) in
     let number = c.requires.number in
     let room = c.requires.room in
@@ -81,11 +81,12 @@ returns-in_err-append_mark-in-Commit-clause-says g c = λ a is w next.
     (c.count.ensures.first low ∙ ap (λ xs. first_behind c.args.tally.now.first xs) (c.as_slice.ensures ∙ ap (λ (e : Epoch). (epoch_of e).slices) s.1.0))
     (c.count.ensures.epochs (omega (arith, few.0)))
     (c.count.ensures.sent (omega (arith, few.0, few.1, few.2, written, size)) ∙ omega (arith, size))
-    (c.count.ensures.since (omega (arith, few.0, few.2))) in
+    (c.count.ensures.since (omega (arith, few.0, few.2))) c.count.ensures.base in
     let since_is : c.saturating_add-since.result ≡ c.count.new.self.since = omega (arith, c.saturating_add-since.ensures, c.count.ensures.since (omega (arith, few.0, few.2)), few.0, few.2) in
-    let due = subst (λ (n : ℕ). IsMarkFrame n c.count.new.self.since c.judge_next.new.core.committed c.in_ok-mark-in-Commit.mark) (sym is)
-    (subst (λ (s : State). IsMarkFrame c.args.every c.count.new.self.since s c.in_ok-mark-in-Commit.mark) c.committed.ensures
-    (subst (λ (n : ℕ). IsMarkFrame c.args.every n c.committed.result.now c.in_ok-mark-in-Commit.mark) since_is c.in_ok-mark-in-Commit.ensures)) in
+    let due = subst (λ (n : ℕ). IsDueMark n c.count.new.self.since c.count.new.self.base c.judge_next.new.core.committed c.in_ok-mark-in-Commit.mark) (sym is)
+    (subst (λ (s : State). IsDueMark c.args.every c.count.new.self.since s c.judge_next.new.core.committed c.in_ok-mark-in-Commit.mark) (sym c.count.ensures.base)
+    (subst (λ (s : State). IsDueMark c.args.every c.count.new.self.since c.args.tally.now.base s c.in_ok-mark-in-Commit.mark) c.committed.ensures
+    (subst (λ (n : ℕ). IsDueMark c.args.every n c.args.tally.now.base c.committed.result.now c.in_ok-mark-in-Commit.mark) since_is c.in_ok-mark-in-Commit.ensures))) in
     let p = err_from_is_err_and c.from_residual-in_err-append_mark-in-Commit.result c.from_residual-in_err-append_mark-in-Commit.ensures.1 in
     rw (p.1 ∙ ap (λ e. Err e) p.2) (c.in_err-append_mark-in-Commit.ensures.says a _ within due)
 
@@ -105,11 +106,12 @@ returns-in_ok-append_mark-in-Commit-clause-says g c = λ a is w next.
     (c.count.ensures.first low ∙ ap (λ xs. first_behind c.args.tally.now.first xs) (c.as_slice.ensures ∙ ap (λ (e : Epoch). (epoch_of e).slices) s.1.0))
     (c.count.ensures.epochs (omega (arith, few.0)))
     (c.count.ensures.sent (omega (arith, few.0, few.1, few.2, written, size)) ∙ omega (arith, size))
-    (c.count.ensures.since (omega (arith, few.0, few.2))) in
+    (c.count.ensures.since (omega (arith, few.0, few.2))) c.count.ensures.base in
     let since_is : c.saturating_add-since.result ≡ c.count.new.self.since = omega (arith, c.saturating_add-since.ensures, c.count.ensures.since (omega (arith, few.0, few.2)), few.0, few.2) in
-    let due = subst (λ (n : ℕ). IsMarkFrame n c.count.new.self.since c.judge_next.new.core.committed c.in_ok-mark-in-Commit.mark) (sym is)
-    (subst (λ (s : State). IsMarkFrame c.args.every c.count.new.self.since s c.in_ok-mark-in-Commit.mark) c.committed.ensures
-    (subst (λ (n : ℕ). IsMarkFrame c.args.every n c.committed.result.now c.in_ok-mark-in-Commit.mark) since_is c.in_ok-mark-in-Commit.ensures)) in
+    let due = subst (λ (n : ℕ). IsDueMark n c.count.new.self.since c.count.new.self.base c.judge_next.new.core.committed c.in_ok-mark-in-Commit.mark) (sym is)
+    (subst (λ (s : State). IsDueMark c.args.every c.count.new.self.since s c.judge_next.new.core.committed c.in_ok-mark-in-Commit.mark) (sym c.count.ensures.base)
+    (subst (λ (s : State). IsDueMark c.args.every c.count.new.self.since c.args.tally.now.base s c.in_ok-mark-in-Commit.mark) c.committed.ensures
+    (subst (λ (n : ℕ). IsDueMark c.args.every n c.args.tally.now.base c.committed.result.now c.in_ok-mark-in-Commit.mark) since_is c.in_ok-mark-in-Commit.ensures))) in
     c.in_ok-append_mark-in-Commit.ensures.says a _ within due
 
 pub returns-in_ok-append_mark-in-Commit-clause-goes : goal.returns-in_ok-append_mark-in-Commit-clause-goes
@@ -118,7 +120,9 @@ returns-in_ok-append_mark-in-Commit-clause-goes g c = λ committed.
     let number = c.requires.number in
     let room = c.requires.room in
     let more = one_more c.args.core.now c.take_one.new.core c.args.journal.now c.args.ran c.requires.ready c.take_one.ensures c.in-Commit.epoch c.in-Commit.out c.judge_next.new.core k in
-    (ready_there c.args.core.now c.take_one.new.core c.args.journal.now c.args.ran c.requires.ready c.take_one.ensures c.in-Commit.epoch c.in-Commit.out c.judge_next.new.core k c.epoch_laws.ensures (omega (arith, number, room)) c.append_mark.new.journal c.in_ok-append_mark-in-Commit.ensures.works, more ∙ sym number)
+    (ready_there c.args.core.now c.take_one.new.core c.args.journal.now c.args.ran c.requires.ready c.take_one.ensures c.in-Commit.epoch c.in-Commit.out c.judge_next.new.core k c.epoch_laws.ensures (omega (arith, number, room)) c.append_mark.new.journal c.in_ok-append_mark-in-Commit.ensures.works, more ∙ sym number,
+    subst IsEncodable (sym c.in_ok-append_mark-in-Commit.ensures.base) (based_there c.args.every c.saturating_add-since.result c.args.tally.now.base c.committed.result.now c.in_ok-mark-in-Commit.mark c.in_ok-mark-in-Commit.ensures c.count.new.self.base
+    (subst IsEncodable (sym c.count.ensures.base) c.requires.base) (subst IsEncodable (sym (c.committed.ensures ∙ ap (λ (d : Core). d.committed) k.there_is)) (encodable_there c.args.core.now c.take_one.new.core c.args.journal.now c.args.ran c.requires.ready c.take_one.ensures c.in-Commit.epoch c.in-Commit.out c.judge_next.new.core k c.epoch_laws.ensures (omega (arith, number, room))))))
 
 pub returns-in_ok-append_mark-in-Commit-clause-others : goal.returns-in_ok-append_mark-in-Commit-clause-others
 returns-in_ok-append_mark-in-Commit-clause-others g c = λ input. (
@@ -138,3 +142,8 @@ returns-in-Over-clause-says g c = λ a is w next.
     let here = (taken_in a _ c.args.core.now c.args.journal.now c.args.tally.now w c.requires.ready.judged c.args.ran next c.take_one.new.core c.take_one.ensures) in
     let s = c.a_round_commits_what_joins_on.ensures.judged here.run.end here.results here.runs c.take_one.new.core c.judge_next.new.core (Over c.in-Over.i) here.judged c.in-Over.ensures in
     subst (λ (n : ℕ). IsOver a n (g.W.World.history c.args.world.now) c.judge_next.new.core c.args.journal.now c.args.tally.now) (omega arith) (is_over a _ c.take_one.new.core c.args.journal.now c.args.tally.now here c.judge_next.new.core over s.1 (λ up. absurd cc))
+
+pub unreachable-requires : goal.unreachable-requires
+unreachable-requires g c =
+    no_other_verdict c.args.core.now c.take_one.new.core c.args.journal.now c.args.ran c.requires.ready c.take_one.ensures c.judge_next.result c.judge_next.new.core c.judge_next.ensures
+    c.in_default.not-Commit c.in_default.not-Squash c.in_default.not-Over
