@@ -52,7 +52,7 @@ module _ (guest : List ℕ) (accepted : IsGuestFile guest) (bytes : List ℕ) (a
   K = records_with all every (start_state guest) epochs
 
   plays : play_of (ending guest K place) ≡ made (Ok end_) output
-  plays = marked_plays all every 0 (start_state guest) epochs end_ output place chained (start_state guest) 1
+  plays = marked_plays all every 0 (start_state guest) (start_state guest) epochs end_ output place chained 1
 
   pub chain_is_played : plays_to (reads bytes) ≡ played (made (Ok end_) output)
   chain_is_played = ap plays_to reads_as ∙ ap (λ (fault : Option ℕ). played_if fault (ending guest K place)) accepted ∙ ap played plays
@@ -70,7 +70,7 @@ module _ (guest : List ℕ) (accepted : IsGuestFile guest) (bytes : List ℕ) (a
       reported : (r : Reading) (s : State) (a : List ℕ) (report : Report) → r ≡ ending guest K place → s ≡ end_ → a ≡ output → report ≡ report_in r a s → report ≡ report_of epochs end_ output
       reported r s a report reading state output_is is =
           is ∙ ap (λ (x : Reading). report_in x a s) reading ∙ ap (λ (x : State). report_in (ending guest K place) a x) state ∙ ap (λ (l : List ℕ). report_in (ending guest K place) l end_) output_is
-          ∙ ap (λ (l : List Epoch). record { epochs = length l; squashes = 0; steps = end_.steps; sent = length output; end = end_.end; state = digest_of end_ }) (marked_epochs all every 0 (start_state guest) epochs end_ output chained)
+          ∙ ap (λ (l : List Epoch). record { epochs = length l; squashes = 0; steps = end_.steps; sent = length output; end = end_.end; state = digest_of end_ }) (marked_epochs all every 0 (start_state guest) (start_state guest) epochs end_ output chained)
 
 -- ---- a run's records
 
@@ -86,7 +86,7 @@ module _ (law : AtRest) (size : Short) (laws : MarkLaws) (guest : List ℕ) (tel
   place = length (journal_of guest (records r)) - 1
 
   are_all : AllByRecursion IsRecord (records r)
-  are_all = marked_records laws true options.mark 0 (start_state guest) (epochs r) r.end r.output r.chained (are_records options tells r.racer 1 (start_state guest) r.end (empty MAX_ROOM) r.rounds r.each) encodable (omega arith) (omega (arith, r.counted, options.limit_range.1))
+  are_all = marked_records laws true options.mark 0 (start_state guest) (start_state guest) (epochs r) r.end r.output r.chained (are_records options tells r.racer 1 (start_state guest) r.end (empty MAX_ROOM) r.rounds r.each) encodable (omega arith) (omega (arith, r.counted, options.limit_range.1))
 
   reads_as : reads (journal_of guest (records r)) ≡ Some (ending guest (records r) place)
   reads_as = law guest (records r) (omega (arith, size guest accepted), fits) are_all (omega (arith, room, options.room_range))
@@ -101,7 +101,7 @@ module _ (law : AtRest) (size : Short) (laws : MarkLaws) (guest : List ℕ) (tel
     journal_is = reads_as;
     state = r.end;
     plays = run_plays;
-    reported = (let count = ap (λ (l : List Epoch). length l) (marked_epochs true options.mark 0 (start_state guest) (epochs r) r.end r.output r.chained) in let report_is = is in cc);
+    reported = (let count = ap (λ (l : List Epoch). length l) (marked_epochs true options.mark 0 (start_state guest) (start_state guest) (epochs r) r.end r.output r.chained) in let report_is = is in cc);
   }
 
 pub recording_plays : AtRest → Short → MarkLaws → (guest : List ℕ) (tells : Tells) (options : Options) (i j : Option Input) (before after : History) (report : Report) → IsGuestFile guest → AreBytes guest → IsEncodable (start_state guest)

@@ -56,7 +56,7 @@ found_or_same guest tells start options i j before after (Err faults.InputFault)
 found_or_same guest tells start options i j before after (Err (faults.JournalFull end need)) (inl (zero_, needs, full, same, known)) = known-map _ _ _ _ (λ s t k. inl k.0) known
 found_or_same guest tells start options i j before after (Err (faults.JournalFull end need)) (inr (inl (r, next_, room, end_is, need_is, full, drawn, known))) =
     known-map _ _ _ _ (λ s t k. inl k.empty) known
-found_or_same guest tells start options i j before after (Err (faults.JournalFull end need)) (inr (inr (r, due, room, end_is, need_is, full, drawn, known))) =
+found_or_same guest tells start options i j before after (Err (faults.JournalFull end need)) (inr (inr (r, m, due, room, end_is, need_is, full, drawn, known))) =
     known-map _ _ _ _ (λ s t k. inl k.empty) known
 found_or_same guest tells start options i j before after (Err faults.OutOfMemory) (inl (same, known)) = known-map _ _ _ _ (λ s t k. inl k.0) known
 found_or_same guest tells start options i j before after (Err faults.OutOfMemory) (inr (inl (r, may_go, room, drawn, known))) = known-map _ _ _ _ (λ s t k. inl k.empty) known
@@ -64,7 +64,7 @@ found_or_same guest tells start options i j before after (Err faults.OutOfMemory
 found_or_same guest tells start options i j before after (Err (faults.JournalInUse len)) (some, same, known) = known-map _ _ _ _ (λ s t k. inr k.1) known
 found_or_same guest tells start options i j before after (Err faults.DiskFault) (inl (same, known)) = known-map _ _ _ _ (λ s t k. k.untouched) known
 found_or_same guest tells start options i j before after (Err faults.DiskFault) (inr (inl (r, next_, room, drawn, known))) = known-map _ _ _ _ (λ s t k. inl k.empty) known
-found_or_same guest tells start options i j before after (Err faults.DiskFault) (inr (inr (r, due, room, drawn, known))) = known-map _ _ _ _ (λ s t k. inl k.empty) known
+found_or_same guest tells start options i j before after (Err faults.DiskFault) (inr (inr (r, m, due, room, drawn, known))) = known-map _ _ _ _ (λ s t k. inl k.empty) known
 found_or_same guest tells start options i j before after (Err faults.OutputFault) (inl (r, next_, room, drawn, known)) = known-map _ _ _ _ (λ s t k. inl k.1.empty) known
 found_or_same guest tells start options i j before after (Err faults.OutputFault) (inr (r, ended, room, drawn, known)) = known-map _ _ _ _ (λ s t k. inl k.1.empty) known
 

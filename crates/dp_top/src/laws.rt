@@ -26,7 +26,7 @@ pub fn a_run_plays_to_its_end()
     journal_text::laws::a_journal_at_rest_reads_as_itself();
     checkpoint::laws::a_start_state_is_encodable();
     checkpoint::laws::a_run_keeps_a_state_encodable();
-    checkpoint::laws::an_encoding_is_short();
+    checkpoint::laws::a_partial_is_short();
     guest_kernel::laws::a_run_is_as_long_as_its_slices();
 }
 
@@ -42,7 +42,7 @@ pub fn a_recording_plays_as_it_was()
     journal_text::laws::a_journal_at_rest_reads_as_itself();
     checkpoint::laws::a_start_state_is_encodable();
     checkpoint::laws::a_run_keeps_a_state_encodable();
-    checkpoint::laws::an_encoding_is_short();
+    checkpoint::laws::a_partial_is_short();
     guest_kernel::laws::a_run_is_as_long_as_its_slices();
 }
 
