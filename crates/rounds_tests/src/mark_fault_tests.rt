@@ -39,7 +39,7 @@ fn held(image: &[u8], journal: &[u8]) -> u32 {
     let mut at = FIRST_GATE;
     for count in 0..10u32 {
         match seen(image, at) {
-            (Kind::Epoch | Kind::Mark, next, _) => at = next,
+            (Kind::Epoch | Kind::Partial, next, _) => at = next,
             (Kind::End, at, _) => {
                 let end = at as usize;
                 return if image.get(..end) == journal.get(..end) {
@@ -118,7 +118,7 @@ fn marked_by<R: Threads + Wait + Sync>(
     left_by(rt, alloc, number, options, disk, sink)
 }
 
-// A mark after every so many epochs, the whole journal's records, and their count: 134 bytes, 20 for each epoch and 69,885 for each mark.
+// A mark after every so many epochs, the whole journal's records, and their count: 134 bytes, 20 for each epoch and 270 for each mark.
 #[derive(Clone, Copy)]
 struct Marked {
     every: u32,
@@ -131,21 +131,21 @@ const FIRST: Marked = Marked {
     every: 1,
     records: "EM2EM4EM6EM8E.",
     count: 9,
-    bytes: 279_774,
+    bytes: 1_314,
 };
 
 const SECOND: Marked = Marked {
     every: 2,
     records: "EEM4EEM8E.",
     count: 7,
-    bytes: 140_004,
+    bytes: 774,
 };
 
 const THIRD: Marked = Marked {
     every: 3,
     records: "EEEM6EE.",
     count: 6,
-    bytes: 70_119,
+    bytes: 504,
 };
 
 const SIXTEENTH: Marked = Marked {
@@ -320,15 +320,15 @@ fn rooms_of_marks(rt: HostRuntime) -> Result<(), Fail> {
     let cases = [
         // The second epoch doesn't fit, the first mark, the third epoch, the fourth, the second mark, and the fifth epoch.
         (173u64, full(154, 20), 1u32),
-        (174, full(174, 69_885), 2),
-        (70_058, full(174, 69_885), 2),
-        (70_059, full(70_059, 20), 3),
-        (70_078, full(70_059, 20), 3),
-        (70_079, full(70_079, 20), 4),
-        (70_099, full(70_099, 69_885), 5),
-        (139_983, full(70_099, 69_885), 5),
-        (139_984, full(139_984, 20), 6),
-        (140_003, full(139_984, 20), 6),
+        (174, full(174, 270), 2),
+        (443, full(174, 270), 2),
+        (444, full(444, 20), 3),
+        (463, full(444, 20), 3),
+        (464, full(464, 20), 4),
+        (484, full(484, 270), 5),
+        (753, full(484, 270), 5),
+        (754, full(754, 20), 6),
+        (773, full(754, 20), 6),
     ];
     for (room, fault, records) in cases {
         let sent = output_of(epochs_in(2, records).1);
@@ -342,10 +342,10 @@ fn rooms_of_marks(rt: HostRuntime) -> Result<(), Fail> {
             );
         }
     }
-    let left = marked_by(&rt, alloc, 2, 0, 140_004, Failing::Never, Failing::Never)?;
+    let left = marked_by(&rt, alloc, 2, 0, 774, Failing::Never, Failing::Never)?;
     assert_eq!(rt;
         (left.answer.is_ok(), left.world.bytes().len()),
-        (true, 140_004)
+        (true, 774)
     );
     Ok(())
 }

@@ -28,13 +28,13 @@ fn journal_with<R: Threads + Wait + Sync>(
 #[test]
 fn marks_of_nine_epochs(rt: HostRuntime) -> Result<(), Fail> {
     let alloc = rt.alloc();
-    // the epochs from one mark to the next, the records, and the journal's bytes: 314, and 69,885 for each mark
+    // the epochs from one mark to the next, the records, and the journal's bytes: 314, and 270 for each mark
     let cases = [
-        (1u32, "EM1EM2EM3EM4EM5EM6EM7EM8E.", 559_394usize),
-        (2, "EEM2EEM4EEM6EEM8E.", 279_854),
-        (3, "EEEM3EEEM6EEE.", 140_084),
-        (4, "EEEEM4EEEEM8E.", 140_084),
-        (8, "EEEEEEEEM8E.", 70_199),
+        (1u32, "EM1EM2EM3EM4EM5EM6EM7EM8E.", 2_474usize),
+        (2, "EEM2EEM4EEM6EEM8E.", 1_394),
+        (3, "EEEM3EEEM6EEE.", 854),
+        (4, "EEEEM4EEEEM8E.", 854),
+        (8, "EEEEEEEEM8E.", 584),
         (9, "EEEEEEEEE.", 314),
         (16, "EEEEEEEEE.", 314),
         (0, "EEEEEEEEE.", 314),
@@ -64,33 +64,38 @@ fn changed<R: Threads + Wait + Sync>(
     alloc: Global,
     journal: &[u8],
     place: usize,
+    byte: u8,
     workers: u32,
     sent: &[u8],
 ) -> Result<(Result<u32, ReplayFault>, bool), Fail> {
-    let changed = replaced(alloc, journal, place, 1, &[0xa5])?;
+    let changed = replaced(alloc, journal, place, 1, &[byte])?;
     replayed(rt, alloc, &changed, workers, sent)
 }
 
-// The last byte of a mark is the stack's last one, which the guest leaves 0.
+// A mark's sixth byte in its record is the first of its step count, and its last byte says whether the last page's bytes follow.
 #[test]
 fn marks_that_are_changed(rt: HostRuntime) -> Result<(), Fail> {
     let alloc = rt.alloc();
     let journal = journal_with(&rt, alloc, 1)?;
-    // the place of the last byte of a mark, its record's number, and what is sent before: 132 and 69,905 for each epoch and its mark
-    let cases: [(usize, u32, &[u8]); 5] = [
-        (70_037, 2, b""),
-        (139_942, 4, b""),
-        (349_657, 10, b""),
-        (419_562, 12, b"hi\n"),
-        (559_372, 16, b"hi\n"),
+    let wrong = ReplayFault::BadMark;
+    let malformed = ReplayFault::BadJournal;
+    // the place, its byte and the new one, the answer, and what is sent before: an epoch and its mark have 290 bytes
+    let cases: [(usize, u8, u8, ReplayFault, &[u8]); 7] = [
+        (159, 1, 2, wrong(2), b""),
+        (449, 2, 1, wrong(4), b""),
+        (1_319, 5, 0xa5, wrong(10), b""),
+        (1_609, 6, 0xa5, wrong(12), b"hi\n"),
+        (2_189, 8, 0, wrong(16), b"hi\n"),
+        (422, 0, 1, malformed(2), b""),
+        (1_872, 0, 2, malformed(12), b"hi\n"),
     ];
-    for (place, record, sent) in cases {
-        assert_eq!(rt; journal.get(place).copied(), Some(0), "place {place}");
+    for (place, old, new, answer, sent) in cases {
+        assert_eq!(rt; journal.get(place).copied(), Some(old), "place {place}");
         for workers in [1u32, 2] {
             assert_eq!(rt;
-                changed(&rt, alloc, &journal, place, workers, sent)?,
-                (Err(ReplayFault::BadMark(record)), true),
-                "record {record}, workers {workers}"
+                changed(&rt, alloc, &journal, place, new, workers, sent)?,
+                (Err(answer), true),
+                "place {place}, workers {workers}"
             );
         }
     }

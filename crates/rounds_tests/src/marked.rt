@@ -1,7 +1,7 @@
 // Recordings with marks, and the records that their journals have.
 //
 // The guest is `WRITES`: it has 9 steps, of which the sixth writes three bytes. By the format's tables the header has 133 bytes, the record
-// of an epoch of one slice 20, and that of a mark 69,885: the guest has one thread that runs, and 17 pages.
+// of an epoch of one slice 20, and that of a mark 270: the guest has one thread that runs, and 17 pages, to which it stores nothing.
 ghost use Rattle.std.specs.Prelude.{◌<◌, ◌≤◌};
 
 use crate::recorded::{Left, recorded};
@@ -22,7 +22,7 @@ pub(crate) const FIRST_GATE: u64 = 133;
 const MOST_RECORDS: u32 = 20;
 
 // The bytes of the body of a mark here.
-const MARK_BYTES: usize = 69_880;
+const MARK_BYTES: usize = 265;
 
 // The steps of an epoch, the epochs from one mark to the next, and the journal's room.
 pub(crate) fn options(epoch: u32, mark: u32, room: u64) -> Options
@@ -68,8 +68,8 @@ fn steps_at(journal: &[u8], gate: u64) -> u64 {
     steps
 }
 
-// The records of a journal in their order, and then its end: `E` for an epoch, `M` and its step count for a mark that is as long as one
-// here, and a dot where the journal ends. Anything else is a question mark.
+// The records of a journal in their order, and then its end: `E` for an epoch, `M` and its step count for a partial mark that is as long as
+// one here, and a dot where the journal ends. Anything else is a question mark.
 pub(crate) fn records_in(alloc: Global, journal: &[u8]) -> Result<String, Fail> {
     let mut text = String::new(alloc);
     let mut at = FIRST_GATE;
@@ -79,7 +79,7 @@ pub(crate) fn records_in(alloc: Global, journal: &[u8]) -> Result<String, Fail> 
                 text.push_str("E")?;
                 at = next;
             }
-            (Kind::Mark, next, MARK_BYTES) => {
+            (Kind::Partial, next, MARK_BYTES) => {
                 text.push_str(&format!(in alloc; "M{}", steps_at(journal, at))?)?;
                 at = next;
             }
