@@ -3,6 +3,7 @@ ghost use Rattle.std.specs.Prelude.{◌≡◌, ◌↔◌, IsTrue};
 ghost use Rattle.dp_base.specs.View.{page_of};
 ghost use Rattle.state_compare.specs.Numbers.{HasSameNumbers};
 
+use byte_lanes::equal_bytes;
 use dp_base::PageView;
 use guest_kernel::{Pages, State};
 use guest_state::Thread;
@@ -70,5 +71,5 @@ fn equal_pages(left: &Pages, right: &Pages) -> bool
 fn equal_page(left: &PageView<'_>, right: &PageView<'_>) -> bool
     ensures { IsTrue result ↔ (page_of left.now ≡ page_of right.now) }
 {
-    left.number == right.number && left.flags == right.flags && left.bytes == right.bytes
+    left.number == right.number && left.flags == right.flags && equal_bytes(left.bytes, right.bytes)
 }
