@@ -7,6 +7,7 @@ use Rattle.racing_runner.specs.declared.offer.More.TheVariants.{Yes, Enough}
 use Rattle.racing_runner.specs.declared.offer.Offer.{Offer}
 use Rattle.racing_runner.specs.declared.plan.Plan.{Plan}
 use Rattle.supply.specs.Supplied.{Supplied}
+use Rattle.sync_hints.specs.declared.hints.Hints.{Hints}
 
 -- of the round's start, its supply and the plan: all that is offered, or none if that isn't known
 abbrev pub Tells : Type 0
@@ -37,3 +38,19 @@ pub record HasOffered (got list now : List Offer) (enough : Type 0) (result : Re
 pub record Gathered : Type 0 where
   pub got : List Offer
   pub room : ℕ
+
+-- ---- a racer that has a list of offers
+
+abbrev pub offer_of : Hints × State → Offer
+offer_of pair = record { hints = pair.0; next = pair.1 }
+
+-- The first of a list were offered, each once and in order: those that the sink took, and then one that it dropped, or none. The rest is left.
+-- There is a rest only if the sink takes no more.
+pub record HasGiven (got list now left : List Offer) (enough : Type 0) : Type 0 where
+  pub given : List Offer
+  pub dropped : List Offer
+  pub list_is : list ≡ given ++ (dropped ++ left)
+  pub now_is : now ≡ got ++ given
+  pub few : length dropped ≤ 1
+  pub for_cause : (dropped ≡ []) ⊎ enough
+  pub over : (left ≡ []) ⊎ enough

@@ -5,8 +5,9 @@
 //! that it offers from a start with a supply by a plan (`specs/Offers.antt`). Then `race` leaves the racer as it was, the sink gets
 //! the first of the list in order, and `Ok` comes only after the whole list or an `Enough`. `IdleRacer` tells that it offers nothing.
 //! `ChaosRacer` tells what `specs/Chaos.antt` says: a run by the epoch runner's round robin, in stretches of an epoch, with what
-//! each turn was (`specs/Racing.antt`), and one state spoilt. `offers_of` gathers the offers of a round. Stands on `epoch_runner` for
-//! the schedule, on `guest_kernel` for states, on `supply` for the input and the clock, and on `sync_hints` for the hints.
+//! each turn was (`specs/Racing.antt`), and one state spoilt. `WildRacer` has a list of offers, which it makes whatever the guest does, each
+//! once, over all its rounds. `offers_of` gathers the offers of a round. Stands on `epoch_runner` for the schedule, on `guest_kernel` for
+//! states, on `supply` for the input and the clock, and on `sync_hints` for the hints.
 //!
 //! ```text
 //! let mut racer = ChaosRacer::new(0);
@@ -24,6 +25,7 @@ mod offer;
 mod plan;
 mod racer;
 mod stretch;
+mod wild;
 
 pub use chaos::ChaosRacer;
 pub use gather::{Gather, offers_of};
@@ -31,3 +33,4 @@ pub use idle::IdleRacer;
 pub use offer::{More, Offer};
 pub use plan::Plan;
 pub use racer::{JobSink, Racer};
+pub use wild::WildRacer;
