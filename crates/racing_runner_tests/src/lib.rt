@@ -1,4 +1,4 @@
-//! Racing runs: what `ChaosRacer` and `IdleRacer` offer, to `offers_of` and to sinks.
+//! Racing runs: what `ChaosRacer`, `IdleRacer` and `WildRacer` offer, to `offers_of` and to sinks.
 //!
 //! This crate is its tests: they call `racing_runner` as a crate above it does. Each offer of a table is that of a model of the machine,
 //! its schedule and the racer, which was written apart from this code.
@@ -18,5 +18,7 @@ mod offer_text;
 mod sink_tests;
 #[cfg(test)]
 mod state_hash;
+#[cfg(test)]
+mod wild_tests;
 #[cfg(test)]
 mod worked_chaos;
