@@ -97,13 +97,13 @@ fn failed_appends(
 #[test]
 fn append_after_a_failed_append(rt: HostRuntime) -> Result<(), Fail> {
     let frame = frame_of_three_steps(rt.alloc())?;
-    // seven calls of the header, and four of each record
-    let cases = [(8, 0), (9, 0), (11, 0), (12, 1), (15, 1), (16, 2)];
-    for (number, last) in cases {
+    // seven calls of the header, and four of each of eleven records
+    for number in 8..52u64 {
+        let last = ((number - 8) / 4) as u32;
         let came = failed_appends(rt.alloc(), number, last, &frame)?;
         let failed = Err(AppendFault::Failed { last });
         let answers = [Err(AppendFault::DiskFault), failed, failed];
-        assert_eq!(rt; came, (true, answers, [number, number]));
+        assert_eq!(rt; came, (true, answers, [number, number]), "call {number}");
     }
     Ok(())
 }
