@@ -13,6 +13,7 @@ use crate::base_page::look_up;
 use crate::encoding::Buffer;
 use crate::sink::Sink;
 use crate::writer::{write_counted_threads, write_end, write_numbers, write_word};
+use byte_lanes::equal_bytes;
 use dp_base::{OutOfMemory, PageView};
 use guest_kernel::State;
 use partial_mark::PARTIAL_KIND;
@@ -102,7 +103,7 @@ fn has_bytes(bytes: &[u8], page: Option<PageView<'_>>) -> bool
     ensures { result ≡ has_bytes bytes.now (option_map page_of page.entry) }
 {
     match page {
-        Some(page) => page.bytes == bytes,
+        Some(page) => equal_bytes(page.bytes, bytes),
         None => false,
     }
 }
