@@ -82,7 +82,7 @@ fn changes(alloc: Global) -> Result<(bool, bool), OutOfMemory> {
         Some(back) => are_same(&back, &pages) && !are_same(&back, &before),
         None => false,
     };
-    pages.unmap_page(0x11);
+    pages.unmap_page(0x11)?;
     Ok((is_changed, changed(alloc, &before, &pages)?.is_some()))
 }
 
