@@ -2,7 +2,6 @@
 use Rattle.std.proofs.Common.{◌≡◌, ◌∙◌, inl, inr, ap, Bool, ℕ, ◌<◌, ◌+◌, ◌-◌, ◌^◌, List, [], ◌++◌, Option, Some, None, Result, Ok, Err, String, refl, subst, sym, true, false, arith}
 use Rattle.std.proofs.lemmas.Bool.{cases_lt}
 use Rattle.std.proofs.lemmas.List.{append-nil, length-replicate, replicate_more}
-use Rattle.std.specs.Cmp.{IsEquivalence}
 use Rattle.std.specs.Prelude.{replicate}
 use Rattle.std.specs.declared.alloc.Global.{Global}
 use Rattle.device.specs.Sending.{Sent}
@@ -251,6 +250,13 @@ replayed_again disk sent report ends m w bytes after answer replayed bytes_are m
     let by_disk = subst (λ (h : History). Replayed (reads h.disk) (Some h) (Some after) answer) history known in
     same_sent (reads disk) sent report ends (start disk) after replayed refl (subst (λ (a : Result Report ReplayFault). Replayed (reads disk) (Some (start disk)) (Some after) a) is by_disk)
 
--- what is equal passes a test that is an equivalence
-pub passes : {K : Type 0} (E : K → K → Bool) → IsEquivalence E → (a b : K) (answer : Bool) → answer ≡ E a b → a ≡ b → answer ≡ true
-passes E laws a b answer is same = is ∙ ap (λ x. E x b) same ∙ laws.refl b
+-- and it was played to its end, if the replay sent this and reported it
+pub agreed_again : (disk sent : List ℕ) (report : Report) (m w : MemoryWorld) (bytes : List ℕ) (after : History) (answer : Result Report ReplayFault) (replayed : Report)
+    → bytes ≡ disk → m ≡ restarted bytes w → answer ≡ Ok replayed → Replayed (reads m.history.disk) (Some m.history) (Some after) answer → replayed ≡ report → after.sent ≡ sent → Ends (reads disk) sent report
+agreed_again disk sent report m w bytes after answer replayed bytes_are made is known same said =
+    let history : m.history ≡ start disk = ap (λ (x : MemoryWorld). x.history) made ∙ ap start bytes_are in
+    let by_disk = subst (λ (h : History). Replayed (reads h.disk) (Some h) (Some after) answer) history known in
+    let there = subst (λ (a : Result Report ReplayFault). Replayed (reads disk) (Some (start disk)) (Some after) a) is by_disk in
+    let after_is : after ≡ there.2.0 = same_Some _ _ there.2.1 in
+    let output_is : there.0 ≡ sent = sym (ap (λ (h : History). h.sent) after_is ∙ there.2.2.sent) ∙ said in
+    subst (λ (o : List ℕ). Ends (reads disk) o report) output_is (subst (λ (r : Report). Ends (reads disk) there.0 r) same there.1)

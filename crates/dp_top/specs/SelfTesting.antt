@@ -26,6 +26,7 @@ use Rattle.recorder.specs.declared.record_fault.RecordFault.TheVariants as fault
 use Rattle.recorder.specs.Recording.{Recorded}
 use Rattle.dp_top.specs.declared.self_test_fault.SelfTestFault.{SelfTestFault}
 use Rattle.dp_top.specs.declared.self_test_fault.SelfTestFault.TheVariants as tests
+use Rattle.dp_top.specs.declared.tested_report.TestedReport.{TestedReport}
 
 -- ---- the recording
 
@@ -81,6 +82,11 @@ Tested n (Err (tests.StepLimit steps)) = MadeRecording n (Err (faults.StepLimit 
 Tested n (Err (tests.JournalFull end need)) = MadeRecording n (Err (faults.JournalFull end need))
 Tested n (Err tests.OutOfMemory) = Unit {0}
 Tested n (Err tests.Differs) = ⊥
+
+-- without the replays that agreed with it
+abbrev pub report_in : Result TestedReport SelfTestFault → Result Report SelfTestFault
+report_in (Ok tested) = Ok tested.report
+report_in (Err fault) = Err fault
 
 -- the answers of a replay of it that aren't `Ok`: memory ran out
 abbrev pub IsMemoryFault : ReplayFault → Type 0

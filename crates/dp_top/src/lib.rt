@@ -26,9 +26,11 @@ mod inspecting;
 pub mod laws;
 mod no_input;
 mod recording;
+mod replay_check;
 mod replaying;
 mod self_test_fault;
 mod self_testing;
+mod tested_report;
 mod top;
 
 pub use dp_report::Status;

@@ -8,12 +8,14 @@ ghost use Rattle.epoch_replay.specs.Replaying.{Ends};
 ghost use Rattle.guest_kernel.specs.Start.{start_state};
 ghost use Rattle.journal_text.specs.Reading.{reads};
 ghost use Rattle.recorder.specs.declared.record_fault.RecordFault.TheVariants as faults;
-ghost use Rattle.dp_top.specs.SelfTesting.{IsMemoryFault, MadeRecording, SelfTestedTo, Tested, default_options, of_recording, self_test_line};
+ghost use Rattle.dp_top.specs.SelfTesting.{MadeRecording, SelfTestedTo, Tested, default_options, of_recording, report_in, self_test_line};
 
 use crate::answer::status_of_self_test;
 use crate::laws;
 use crate::no_input::NoInput;
+use crate::replay_check::check_replay;
 use crate::self_test_fault::SelfTestFault;
+use crate::tested_report::TestedReport;
 use device::send_all;
 use disk_mem::{Fails, MemWorld};
 use disk_model::{OpenGate, Stream, World};
@@ -21,7 +23,6 @@ use dp_base::OutOfMemory;
 use dp_base::field::write_bytes;
 use dp_base::limits::MAX_JOURNAL_BYTES;
 use dp_report::{Report, Status, line};
-use epoch_replay::{ReplayFault, replay};
 use guest_gen::make;
 use guest_kernel::{State, start_from_file};
 use itoa::Buffer;
@@ -50,11 +51,11 @@ pub fn test_guest<R: Threads + Wait + Sync, W: World>(
     ensures disk { W.disk_faults result.0 ≡ W.disk_faults world }
     ensures sink_count { W.sink_faults world ≤ W.sink_faults result.0 }
 {
-    let report = match tested_report(rt, alloc, n) {
-        Ok(report) => report,
+    let tested = match tested_report(rt, alloc, n) {
+        Ok(tested) => tested,
         Err(fault) => return (world, status_of_self_test(fault)),
     };
-    let Ok(line) = self_test_line(alloc, n, &report) else {
+    let Ok(line) = self_test_line(alloc, n, &tested) else {
         return (world, Status::OutOfMemory);
     };
     match send_all(&mut world, Stream::Out, &line) {
@@ -63,22 +64,27 @@ pub fn test_guest<R: Threads + Wait + Sync, W: World>(
     }
 }
 
-// The report of guest `n`'s recording, once it was replayed.
+// The report of guest `n`'s recording, once it was replayed with one worker and with four.
 fn tested_report<R: Threads + Wait + Sync>(
     rt: &R,
     alloc: Global,
     n: u32,
-) -> Result<Report, SelfTestFault>
-    ensures { Tested n result }
+) -> Result<TestedReport, SelfTestFault>
+    ensures tested { Tested n (report_in result) }
+    ensures replayed { IfOk result (λ tested. (tested.by_one ≡ 1) × (tested.by_four ≡ 4)) }
 {
     let (world, answer) = record_made(rt, alloc, n)?;
     let report = match answer {
         Ok(report) => report,
         Err(fault) => return Err(fault_of(fault)),
     };
-    check_replay(rt, alloc, &world, report, 1)?;
-    check_replay(rt, alloc, &world, report, 4)?;
-    Ok(report)
+    let by_one = check_replay(rt, alloc, &world, report, 1)?;
+    let by_four = check_replay(rt, alloc, &world, report, 4)?;
+    Ok(TestedReport {
+        report,
+        by_one,
+        by_four,
+    })
 }
 
 // Records guest `n` into a world in memory.
@@ -161,63 +167,15 @@ fn fault_of(fault: RecordFault) -> SelfTestFault
     }
 }
 
-// Replays what was recorded in a world in memory, with so many workers. It sends what the recording sent, and its report is the recording's
-// without squashes. This is compared all the same, so that a program that was built wrong doesn't say that all is well.
-fn check_replay<R: Threads + Sync>(
-    rt: &R,
-    alloc: Global,
-    recorded: &MemWorld,
-    report: Report,
-    workers: u32,
-) -> Result<(), SelfTestFault>
-    requires { Ends (reads recorded.now.history.disk) recorded.now.history.sent (record report { squashes = 0 }) }
-    ensures { IfErr result (λ fault. fault ≡ SelfTestFault.OutOfMemory) }
-{
-    let world = MemWorld::new(alloc, Fails::Never, Fails::Never, u32::MAX)?;
-    let world = world.of_disk(alloc, recorded.bytes())?;
-    let (world, answer) = replay(rt, alloc, world, workers);
-    let replayed = match answer {
-        Ok(replayed) => replayed,
-        Err(fault) => return Err(replay_fault_of(fault)),
-    };
-    let is_same = replayed
-        == Report {
-            squashes: 0,
-            ..report
-        }
-        && world.sent(Stream::Out) == recorded.sent(Stream::Out);
-    if !is_same {
-        return Err(SelfTestFault::Differs);
-    }
-    Ok(())
-}
-
-// The fault of a replay in memory: a call on its world fails only if an allocation does, and no record is refused.
-fn replay_fault_of(fault: ReplayFault) -> SelfTestFault
-    requires { IsMemoryFault fault }
-    ensures { result ≡ SelfTestFault.OutOfMemory }
-{
-    match fault {
-        ReplayFault::DiskFault => SelfTestFault::OutOfMemory,
-        ReplayFault::OutputFault => SelfTestFault::OutOfMemory,
-        ReplayFault::OutOfMemory => SelfTestFault::OutOfMemory,
-        ReplayFault::NoJournal => SelfTestFault::Differs,
-        ReplayFault::BadImage(_) => SelfTestFault::Differs,
-        ReplayFault::BadJournal(_) => SelfTestFault::Differs,
-        ReplayFault::BadEpoch(_) => SelfTestFault::Differs,
-        ReplayFault::BadMark(_) => SelfTestFault::Differs,
-    }
-}
-
-// The line of a self-test.
-fn self_test_line(alloc: Global, n: u32, report: &Report) -> Result<Vec<u8>, OutOfMemory>
-    ensures { IfOk result (λ l. l.items ≡ self_test_line n report.now) }
+// The line of a self-test. It wants the replays too, so that none is sent without them.
+fn self_test_line(alloc: Global, n: u32, tested: &TestedReport) -> Result<Vec<u8>, OutOfMemory>
+    ensures { IfOk result (λ l. l.items ≡ self_test_line n tested.now.report) }
 {
     let mut digits = Buffer::new();
     let mut text = Vec::new(alloc);
     write_bytes(&mut text, b"selftest ")?;
     write_bytes(&mut text, digits.format(n).as_bytes())?;
     write_bytes(&mut text, b": ")?;
-    write_bytes(&mut text, &line(alloc, report)?)?;
+    write_bytes(&mut text, &line(alloc, &tested.report)?)?;
     Ok(text)
 }
