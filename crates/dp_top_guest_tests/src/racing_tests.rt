@@ -3,12 +3,15 @@ use super::RACING_ADDERS;
 use crate::recorded::replay;
 use disk_mem::{HoldGate, MemWorld};
 use disk_model::{Gate, OpenGate, Stream};
+use dp_base::{Log, Tid};
 use dp_top::{Status, run};
-use racing_runner::{ChaosRacer, Racer};
+use guest_kernel::start_from_file;
+use racing_runner::{ChaosRacer, Racer, WildRacer};
 use std::alloc::Global;
 use std::sync::Wait;
 use std::test::Fail;
 use std::thread::Threads;
+use sync_hints::{Hints, Sc, SyncHint};
 use test_files::{WRITES, file_of};
 use test_journals::journal_of;
 use test_worlds::{Failing, disk_of, file_named, inlet_of, texts_of};
@@ -77,6 +80,45 @@ fn rounds_of_chaos(rt: HostRuntime) -> Result<(), Fail> {
         let (world, status) = ran_by(&rt, alloc, &WORDS, &WRITES, racer, &OpenGate)?;
         assert_eq!(rt; status, Status::Ok);
         assert!(rt; is_in_five_epochs(alloc, &world, squashes)?);
+    }
+    Ok(())
+}
+
+// Offers one state of `WRITES`, with the greatest step count, after hints of a thread that is never made: the greatest number of steps, and
+// an SC that stores.
+fn wild_racer(alloc: Global) -> Result<WildRacer, Fail> {
+    let tid = Tid(u16::MAX);
+    let mut counts = Vec::new(alloc);
+    counts.push((tid, u32::MAX))?;
+    let mut order = Vec::new(alloc);
+    order.push(SyncHint { tid, sc: Sc::Won })?;
+    let hints = Hints {
+        counts: Log::from_vec(counts),
+        order: Log::from_vec(order),
+    };
+    let mut next = start_from_file(alloc, &WRITES)?;
+    next.steps = u64::MAX;
+    let mut list = Vec::new(alloc);
+    list.push((hints, next))?;
+    Ok(WildRacer::new(list))
+}
+
+// The first epoch is run without the hints, and the state in which the second would start is squashed. In rounds of one job nobody is asked
+// for offers.
+#[test]
+fn an_offer_that_no_run_has(rt: HostRuntime) -> Result<(), Fail> {
+    let alloc = rt.alloc();
+    for (ahead, squashes) in [("16", b'1'), ("2", b'1'), ("1", b'0')] {
+        let words = [
+            "dpcli", "record", "g", "j", "--epoch", "2", "--ahead", ahead,
+        ];
+        let racer = wild_racer(alloc)?;
+        let (world, status) = ran_by(&rt, alloc, &words, &WRITES, racer, &OpenGate)?;
+        assert_eq!(rt; status, Status::Ok, "ahead {ahead}");
+        assert!(rt;
+            is_in_five_epochs(alloc, &world, squashes)?,
+            "ahead {ahead}"
+        );
     }
     Ok(())
 }

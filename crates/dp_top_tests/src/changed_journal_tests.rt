@@ -160,7 +160,7 @@ fn records_refused(rt: HostRuntime) -> Result<(), Fail> {
 #[test]
 fn guests_and_lists_of_a_journal(rt: HostRuntime) -> Result<(), Fail> {
     let no_guest: &[u8] = b"dpcli: guest refused: 2 NotElf\n";
-    let cases: [(usize, usize, &[u8], (Status, u8), &[u8]); 6] = [
+    let cases: [(usize, usize, &[u8], (Status, u8), &[u8]); 7] = [
         // another guest's first byte; a guest of no byte, before a record of a third kind
         (9, 1, b"\x7e", (Status::BadImage(2), 4), no_guest),
         (
@@ -178,13 +178,20 @@ fn guests_and_lists_of_a_journal(rt: HostRuntime) -> Result<(), Fail> {
             (Status::Ok, 0),
             b"epochs 2 squashes 0 steps 3 sent 0 end exit 7 state 7721bc1cff3d699bd42bce08f27668ac407481c96f7b1c17878d62bfbd540ce7\n",
         ),
-        // the list ends at a closed gate, at one that is neither, and before a body that isn't there whole
+        // the list ends at a closed gate, at one that is neither, and before a body that isn't there whole, also of the greatest length
         (105, 1, b"\x00", (Status::Ok, 0), NONE_OF_EXITS),
         (125, 1, b"\x02", (Status::Ok, 0), NOTE_OF_EXITS),
         (
             125,
             1,
             b"\x01\x02\0\0\0\x02",
+            (Status::Ok, 0),
+            NOTE_OF_EXITS,
+        ),
+        (
+            125,
+            1,
+            b"\x01\xff\xff\xff\xff",
             (Status::Ok, 0),
             NOTE_OF_EXITS,
         ),
@@ -214,13 +221,15 @@ enum Body {
     // An epoch of thread 1, of three steps, and of nine.
     Three,
     Nine,
-    // A mark of the start, of the end, and of the start with another byte at the end of the last page, which is 0.
+    // A mark of the start, of the end, of the start with another byte at the end of the last page, which is 0, and of the end with a step
+    // count of 2^63.
     Start,
     End,
     Other,
+    Far,
 }
 
-use Body::{End, Nine, Other, Start, Three};
+use Body::{End, Far, Nine, Other, Start, Three};
 
 // The state in which `EXITS` ends, as a mark: by the format's tables its x17, x10, pc, end and steps are not those of the
 // start.
@@ -248,6 +257,10 @@ fn bytes_of(alloc: Global, body: Body) -> Result<Vec<u8>, Fail> {
         Body::Other => {
             let start = mark_of_start(alloc, &EXITS)?;
             Ok(replaced(alloc, &start, 69_879, 1, b"\x01")?)
+        }
+        Body::Far => {
+            let end = mark_of_the_end(alloc)?;
+            Ok(replaced(alloc, &end, 1, 8, b"\0\0\0\0\0\0\0\x80")?)
         }
     }
 }
@@ -283,7 +296,7 @@ fn marks_judged(rt: HostRuntime) -> Result<(), Fail> {
     let first_wrong: &[u8] = b"dpcli: record 1 is a wrong mark\n";
     let second_wrong: &[u8] = b"dpcli: record 2 is a wrong mark\n";
     let second_bad: &[u8] = b"dpcli: record 2 does not run\n";
-    let cases: [(Body, Body, (Status, u8), &[u8]); 7] = [
+    let cases: [(Body, Body, (Status, u8), &[u8]); 8] = [
         (Start, Three, (Status::Ok, 0), NOTE_OF_EXITS),
         // A mark is a record too.
         (Start, Nine, (Status::BadEpoch(2), 10), second_bad),
@@ -292,12 +305,29 @@ fn marks_judged(rt: HostRuntime) -> Result<(), Fail> {
         (Three, Start, (Status::BadMark(2), 15), second_wrong),
         (End, Three, (Status::BadMark(1), 15), first_wrong),
         (Other, Three, (Status::BadMark(1), 15), first_wrong),
+        (Three, Far, (Status::BadMark(2), 15), second_wrong),
     ];
     for (first, second, answer, noted) in cases {
         assert_eq!(rt;
             bodies_play_as(&rt, rt.alloc(), first, second, noted)?,
             answer
         );
+    }
+    Ok(())
+}
+
+// Nothing is run from a mark whose step count is 2^63: its guest would write `hi` and a newline. The mark is of the start but for that.
+#[test]
+fn a_mark_of_too_many_steps(rt: HostRuntime) -> Result<(), Fail> {
+    let alloc = rt.alloc();
+    let start = mark_of_start(alloc, &WRITES)?;
+    let far = replaced(alloc, &start, 1, 8, b"\0\0\0\0\0\0\0\x80")?;
+    let journal = journal_of(alloc, &WRITES, &[&far, NINE_STEPS])?;
+    let wrong: &[u8] = b"dpcli: record 1 is a wrong mark\n";
+    for workers in ["1", "2", "64"] {
+        let words = ["dpcli", "replay", "j", "--workers", workers];
+        let came = plays_as(&rt, alloc, &words, &journal, b"", wrong)?;
+        assert_eq!(rt; came, (Status::BadMark(1), 15), "workers {workers}");
     }
     Ok(())
 }

@@ -83,6 +83,7 @@ fn each_emit_of_a_filter(rt: HostRuntime) -> Result<(), Fail> {
     for (piece, number, sent, epochs, bytes) in cases {
         let wanted = Left {
             status: Status::OutputFault,
+            disk_failed: false,
             sent,
             plays: [(Status::Ok, epochs, bytes); 3],
         };
@@ -117,6 +118,7 @@ fn each_emit_of_two_threads(rt: HostRuntime) -> Result<(), Fail> {
         let epochs = if sent < 4 { first.1 } else { 7 };
         let wanted = Left {
             status: Status::OutputFault,
+            disk_failed: false,
             sent,
             plays: [(Status::Ok, epochs, 4); 3],
         };

@@ -73,15 +73,36 @@ fn changed_refused<R: Threads + Wait + Sync>(
 #[test]
 fn images_refused(rt: HostRuntime) -> Result<(), Fail> {
     // In the guest of 96 bytes: an offset, the bytes that are put there, the fault and its line.
-    let cases: [(usize, &[u8], u32, &[u8]); 10] = [
+    let cases: [(usize, &[u8], u32, &[u8]); 14] = [
         (0, b"\x7e", 2, b"dpcli: guest refused: 2 NotElf\n"),
         (4, b"\x02", 3, b"dpcli: guest refused: 3 NotClass32\n"),
         (5, b"\x02", 4, b"dpcli: guest refused: 4 NotLittle\n"),
         (16, b"\x03", 5, b"dpcli: guest refused: 5 NotExec\n"),
         (18, b"\xb7", 6, b"dpcli: guest refused: 6 NotRiscv\n"),
         (42, b"\x21", 7, b"dpcli: guest refused: 7 BadTable\n"),
+        // the greatest number of entries, and the greatest offset of their table
+        (44, b"\xff\xff", 7, b"dpcli: guest refused: 7 BadTable\n"),
+        (
+            28,
+            b"\xff\xff\xff\xff",
+            7,
+            b"dpcli: guest refused: 7 BadTable\n",
+        ),
         (52, b"\x03", 8, b"dpcli: guest refused: 8 Interp\n"),
         (72, b"\x5f", 9, b"dpcli: guest refused: 9 BadSegment\n"),
+        // a segment that ends a byte past the last page, and one of the greatest size
+        (
+            60,
+            b"\xa1\xef\xff\xff",
+            9,
+            b"dpcli: guest refused: 9 BadSegment\n",
+        ),
+        (
+            72,
+            b"\xff\xff\xff\xff",
+            9,
+            b"dpcli: guest refused: 9 BadSegment\n",
+        ),
         // 1,009 pages and the stack's 16
         (
             72,
@@ -103,6 +124,25 @@ fn images_refused(rt: HostRuntime) -> Result<(), Fail> {
             changed_refused(&rt, rt.alloc(), offset, by, line)?,
             (fault, fault)
         );
+    }
+    Ok(())
+}
+
+// The guest of 96 bytes, cut to each length: its header has 52 bytes, and the table of its segments ends at 84.
+#[test]
+fn images_cut_short(rt: HostRuntime) -> Result<(), Fail> {
+    let cases: [(usize, usize, u32, &[u8]); 3] = [
+        (0, 51, 2, b"dpcli: guest refused: 2 NotElf\n"),
+        (52, 83, 7, b"dpcli: guest refused: 7 BadTable\n"),
+        (84, 95, 9, b"dpcli: guest refused: 9 BadSegment\n"),
+    ];
+    for (first, last, number, line) in cases {
+        let fault = Status::BadImage(number);
+        for len in first..=last {
+            let (cut, _) = EXITS.split_at(len.min(EXITS.len()));
+            let came = refused(&rt, rt.alloc(), cut, line)?;
+            assert_eq!(rt; (came, cut.len()), ((fault, fault), len));
+        }
     }
     Ok(())
 }
@@ -175,6 +215,30 @@ fn images_accepted(rt: HostRuntime) -> Result<(), Fail> {
         b"epochs 1 squashes 0 steps 8 sent 3 end exit 0 state 72ae5c3bfa6d562ea014d581330a795ded39dfb7aadbebe470e74bc9a0917fdf\n";
     let came = recorded_as(&rt, rt.alloc(), &TWO_SEGMENTS, b"hi\n", noted)?;
     assert_eq!(rt; came, (Status::Ok, 181, Status::Ok));
+    Ok(())
+}
+
+// The guest of 96 bytes as a segment that ends where memory does, so that nothing is mapped at its entry; and with as many pages as there
+// may be.
+#[test]
+fn images_at_their_bounds(rt: HostRuntime) -> Result<(), Fail> {
+    let cases: [(usize, &[u8], &[u8]); 2] = [
+        (
+            60,
+            b"\xa0\xef\xff\xff",
+            b"epochs 1 squashes 0 steps 1 sent 0 end trap 1 thread 1 value 00010054 state b0195e7131095ce710db8f711b75151e4008e4d86b34881f094043eb987eb0ab\n",
+        ),
+        (
+            72,
+            b"\0\0\x3f\0",
+            b"epochs 1 squashes 0 steps 3 sent 0 end exit 7 state 608f7d9a3e91a785569be376ccb3a41f2ea12f515b7c8caa5de30deea185cb82\n",
+        ),
+    ];
+    for (offset, by, noted) in cases {
+        let file = replaced(rt.alloc(), &EXITS, offset, by.len(), by)?;
+        let came = recorded_as(&rt, rt.alloc(), &file, b"", noted)?;
+        assert_eq!(rt; came, (Status::Ok, 126, Status::Ok));
+    }
     Ok(())
 }
 

@@ -21,11 +21,12 @@ pub(crate) struct Faults {
     pub piece: u32,
 }
 
-// What a recording came to, what it sent, and what a crash leaves behind it: the image of each pick, without what is pending, as it
-// reads, and with each pending byte 1.
+// What a recording came to, whether a call on the disk failed, what it sent, and what a crash leaves behind it: the image of each pick,
+// without what is pending, as it reads, and with each pending byte 1.
 #[derive(Drop)]
 pub(crate) struct Stopped {
     pub status: Status,
+    pub disk_failed: bool,
     pub sent: Vec<u8>,
     pub kept: Vec<u8>,
     pub read: Vec<u8>,
@@ -35,6 +36,7 @@ pub(crate) struct Stopped {
 fn images_of(alloc: Global, world: &MemWorld, status: Status) -> Result<Stopped, Fail> {
     Ok(Stopped {
         status,
+        disk_failed: world.disk_fault_count() > 0,
         sent: world.sent(Stream::Out).to_vec(alloc)?,
         kept: world.crash(alloc, 0)?,
         read: world.crash(alloc, 1)?,
@@ -122,10 +124,11 @@ pub(crate) fn plays<R: Threads + Wait + Sync>(
     Ok((seen.status, epochs_in(&seen.noted)?, seen.sent.len()))
 }
 
-// What a recording came to, how many bytes it sent, and what each image plays to.
+// What a recording came to, whether a call on the disk failed, how many bytes it sent, and what each image plays to.
 #[derive(Clone, Copy, Debug, PartialEq, Eq)]
 pub(crate) struct Left {
     pub status: Status,
+    pub disk_failed: bool,
     pub sent: usize,
     pub plays: [Plays; 3],
 }
@@ -144,6 +147,7 @@ pub(crate) fn what_is_left<R: Threads + Wait + Sync>(
     let said = seen.sent.as_slice();
     Ok(Left {
         status: seen.status,
+        disk_failed: seen.disk_failed,
         sent: said.len(),
         plays: [
             plays(rt, alloc, &seen.kept, said, whole)?,
