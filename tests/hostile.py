@@ -375,6 +375,66 @@ class Corpus:
                     self.journals.append(data)
 
 
+# ---- large guests and long journals
+
+# A guest's pages, the epochs of a round, the workers, and the epochs of the journal: small and large ones of each.
+LARGE_RUNS = [
+    (32, 1, 1, 100),
+    (32, 16, 4, 100),
+    (1008, 1, 1, 100),
+    (1008, 16, 4, 25),
+    (1008, 16, 4, 100),
+    (1008, 64, 64, 100),
+    (1008, 64, 64, 200),
+]
+
+
+def guest_of_pages(pages):
+    """A guest that adds 1 to a word of each of its pages in turn, for ever. With its stack it has 16 pages more."""
+    lui = lambda register, number: number << 12 | register << 7 | 0x37
+    first, after, page, size, word = 5, 6, 7, 28, 29
+    code = [
+        lui(first, 0x11),
+        lui(after, 0x10 + pages),
+        lui(size, 1),
+        first << 15 | page << 7 | 0x13,  # addi page, first, 0
+        page << 15 | 2 << 12 | word << 7 | 0x03,  # lw word, 0(page)
+        1 << 20 | word << 15 | word << 7 | 0x13,  # addi word, word, 1
+        word << 20 | page << 15 | 2 << 12 | 0x23,  # sw word, 0(page)
+        size << 20 | page << 15 | page << 7 | 0x33,  # add page, page, size
+        0xFE000000 | after << 20 | page << 15 | 6 << 12 | 0x8 << 8 | 0xE3,  # bltu page, after, to the load
+        0xFE9FF06F,  # jal to the first addi
+    ]
+    start, address = 84, 0x10000
+    length = start + 4 * len(code)
+    header = b"\x7fELF\x01\x01\x01" + bytes(9) + struct.pack("<HHIIIIIHHHHHH", 2, 243, 1, address + start, 52, 0, 0, 52, 32, 1, 0, 0, 0)
+    segment = struct.pack("<IIIIIIII", 1, 0, address, address, length, pages * 4096, 7, 4096)
+    return header + segment + struct.pack(f"<{len(code)}I", *code)
+
+
+def large_runs(folder, tally):
+    """Records guests of few and of many pages, and replays them. Prints how much memory each run took, and how much it may take."""
+    os.makedirs(folder)
+    path, journal = os.path.join(folder, "large.elf"), os.path.join(folder, "large.dpj")
+    for pages, ahead, workers, epochs in LARGE_RUNS:
+        with open(path, "wb") as file:
+            file.write(guest_of_pages(pages))
+        if os.path.exists(journal):
+            os.remove(journal)
+        options = ["--ahead", str(ahead), "--workers", str(workers), "--epoch", "20000", "--mark", "4", "--limit", str(20000 * epochs)]
+        bound = memory_bound("record", ahead=ahead)
+        recorded = judged(tally, "record", run(folder, ["record", path, journal, *options]), {11}, bound)
+        length = os.path.getsize(journal)
+        bound_of_replay = memory_bound("replay", length, workers)
+        replayed = judged(tally, "replay", run(folder, ["replay", journal, "--workers", str(workers)]), {0}, bound_of_replay)
+        print(
+            f"{pages + 16} pages, --ahead {ahead}, --workers {workers}, a journal of {epochs} epochs and {length:,} bytes: "
+            f"record {recorded.memory / MIB:.0f} MiB of {bound / MIB:.0f}, replay {replayed.memory / MIB:.0f} MiB of {bound_of_replay / MIB:.0f}",
+            flush=True,
+        )
+    shutil.rmtree(folder)
+
+
 KINDS = [("guest", guest_case), ("journal", journal_case), ("journal", journal_case), ("words", words_case)]
 
 
@@ -419,6 +479,11 @@ def main():
     seconds = float(words[0]) if words else 120
     seed = int(words[1]) if len(words) > 1 else int.from_bytes(os.urandom(6), "little")
     print(f"seed {seed}", flush=True)
+    tally, wrong = Tally(), []
+    try:
+        large_runs(os.path.join(work, "large"), tally)
+    except Wrong as large:
+        sys.exit(f"a large guest or journal: {large}; its files are in {work}/large")
     corpus = Corpus(work)
     count = os.cpu_count() if not hasattr(os, "sched_getaffinity") else len(os.sched_getaffinity(0))
     results, stopped = multiprocessing.Queue(), multiprocessing.Event()
@@ -429,7 +494,6 @@ def main():
     ]
     for worker in workers:
         worker.start()
-    tally, wrong = Tally(), []
     for _ in workers:
         part, said = results.get()
         tally.add(part)
