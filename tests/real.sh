@@ -594,6 +594,40 @@ for mark in 1 3 7 16 21; do
   done
 done
 
+# Two guests of a few instructions, whose journals' lengths follow from the format. One writes `hi` in nine steps and stores nothing. With epochs
+# of a step it has a header of 133 bytes, nine epochs of 20, eight marks of 270, and a closed gate. The other reads twice, to its stack, in
+# epochs of three, two and three steps. Its header has 125 bytes, and its epochs 69 in all. The first mark has 270 bytes; the
+# second one has a page's 4,096 bytes more.
+elf_start='\x7fELF\1\1\1\0\0\0\0\0\0\0\0\0\2\0\xf3\0\1\0\0\0\x54\0\1\0\x34\0\0\0\0\0\0\0\0\0\0\0\x34\0\x20\0\1\0\0\0\0\0\0\0\1\0\0\0\0\0\0\0\0\0\1\0\0\0\1\0'
+flags='\5\0\0\0\0\x10\0\0'
+writes='\x13\5\x10\0\xb7\5\1\0\x93\x85\x85\7\x13\6\x30\0\x93\x08\x20\0\x73\0\0\0\x13\5\0\0\x93\x08\x10\0\x73\0\0\0hi\n\0'
+reads='\x93\5\1\0\x13\6\xa0\0\x93\x08\x30\0\x73\0\0\0\x13\5\0\0\x73\0\0\0\x93\x08\x10\0\x73\0\0\0'
+printf "$elf_start"'\x7c\0\0\0\x7c\0\0\0'"$flags$writes" >writes.elf
+printf "$elf_start"'\x74\0\0\0\x74\0\0\0'"$flags$reads" >reads.elf
+run record writes.elf writes.dpj --epoch 1 --mark 1 </dev/null
+check "nine epochs of one step with marks: the status is $status" ended_with 0
+check "nine epochs of one step with marks: $(bytes_of writes.dpj) bytes, not 2,474" test "$(bytes_of writes.dpj)" -eq 2474
+printf 'hi\n' >hi.out
+replays "nine epochs of one step with marks" writes.dpj hi.out
+# spoilt OFFSET BYTE STATUS REASON: the journal with a byte replaced, by one worker and by two.
+spoilt() {
+  cp writes.dpj spoilt.dpj
+  printf "$2" | dd of=spoilt.dpj bs=1 seek="$1" conv=notrunc 2>/dev/null
+  for workers in 1 2; do
+    run replay spoilt.dpj --workers "$workers" </dev/null
+    check "byte $1 of a journal with marks, $workers workers: the status is $status, not $3" ended_with "$3"
+    check "byte $1 of a journal with marks, $workers workers: no reason" note_has "dpcli: $4"
+    check "byte $1 of a journal with marks, $workers workers: some output" is_empty out
+  done
+}
+spoilt 159 '\2' 15 "record 2 is a wrong mark"
+spoilt 422 '\1' 9 "record 2 is malformed"
+printf abc >abc
+run record reads.elf reads.dpj --mark 1 <abc
+check "two reads with marks: the status is $status" ended_with 0
+check "two reads with marks: $(bytes_of reads.dpj) bytes, not 4,831" test "$(bytes_of reads.dpj)" -eq 4831
+replays "two reads with marks" reads.dpj nothing
+
 # ---- what a journal holds
 
 # lists NAME INPUT: a line for the guest, one for each record in order, with the steps of the report in all, and one for the list's end.
