@@ -66,7 +66,7 @@ marked_plays all every since base s (x ∷ xs) last output place chained number 
     ap (λ (l : List Record). play_from base s number l (end place)) (one_marked all every since base s x xs f.here f.ran)
     ∙ epoch_plays base s number x (kept all xs (marks_at every (since + 1) base f.here.state) ++ rest) (end place) (Ok f.here) f.ran
     ∙ ap (behind f.here.output) (marks_play all xs every (since + 1) base f.here.state (number + 1) rest (end place) (made (Ok last) f.output)
-        (marked_plays all every then_ next f.here.state xs last f.output place f.chained) (none_plays all every then_ next f.here.state xs last f.output place f.chained))
+    (marked_plays all every then_ next f.here.state xs last f.output place f.chained) (none_plays all every then_ next f.here.state xs last f.output place f.chained))
     ∙ ap (made (Ok last)) (sym f.joined)
 
 -- ---- its epochs

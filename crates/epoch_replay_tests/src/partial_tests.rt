@@ -105,7 +105,9 @@ fn lines(rt: HostRuntime) -> Result<(), Fail> {
     let text =
         b"guest 112\n1 epoch slices 1 steps 16389 answers 0\n2 mark steps 16389\n3 epoch slices 1 steps 16389 answers 0\n4 mark steps 32778\nend 4797\n";
     let journal = partial_journal(alloc, b"epes")?;
-    let mut world = world_of(alloc, Failing::Never, Failing::Never, 4096)?.of_disk(alloc, &journal)?;
+    let mut world = world_of(alloc, Failing::Never, Failing::Never, 4096)?.of_disk(
+        alloc, &journal,
+    )?;
     if world.attach("j", false).is_err() {
         return Err("the disk is attached".into());
     }

@@ -119,10 +119,12 @@ returns-in_ok-append_mark-in-Commit-clause-goes g c = λ committed.
     let k = (commit_of c.args.core.now c.take_one.new.core c.args.journal.now c.args.ran c.requires.ready c.take_one.ensures c.in-Commit.epoch c.in-Commit.out c.judge_next.new.core c.in-Commit.ensures) in
     let number = c.requires.number in
     let room = c.requires.room in
-    let more = one_more c.args.core.now c.take_one.new.core c.args.journal.now c.args.ran c.requires.ready c.take_one.ensures c.in-Commit.epoch c.in-Commit.out c.judge_next.new.core k in
-    (ready_there c.args.core.now c.take_one.new.core c.args.journal.now c.args.ran c.requires.ready c.take_one.ensures c.in-Commit.epoch c.in-Commit.out c.judge_next.new.core k c.epoch_laws.ensures (omega (arith, number, room)) c.append_mark.new.journal c.in_ok-append_mark-in-Commit.ensures.works, more ∙ sym number,
-    subst IsEncodable (sym c.in_ok-append_mark-in-Commit.ensures.base) (based_there c.args.every c.saturating_add-since.result c.args.tally.now.base c.committed.result.now c.in_ok-mark-in-Commit.mark c.in_ok-mark-in-Commit.ensures c.count.new.self.base
-    (subst IsEncodable (sym c.count.ensures.base) c.requires.base) (subst IsEncodable (sym (c.committed.ensures ∙ ap (λ (d : Core). d.committed) k.there_is)) (encodable_there c.args.core.now c.take_one.new.core c.args.journal.now c.args.ran c.requires.ready c.take_one.ensures c.in-Commit.epoch c.in-Commit.out c.judge_next.new.core k c.epoch_laws.ensures (omega (arith, number, room))))))
+    let more = one_more c.args.core.now c.take_one.new.core c.args.journal.now c.args.ran c.requires.ready c.take_one.ensures c.in-Commit.epoch c.in-Commit.out c.judge_next.new.core k in (
+      ready_there c.args.core.now c.take_one.new.core c.args.journal.now c.args.ran c.requires.ready c.take_one.ensures c.in-Commit.epoch c.in-Commit.out c.judge_next.new.core k c.epoch_laws.ensures (omega (arith, number, room)) c.append_mark.new.journal c.in_ok-append_mark-in-Commit.ensures.works,
+      more ∙ sym number,
+      subst IsEncodable (sym c.in_ok-append_mark-in-Commit.ensures.base) (based_there c.args.every c.saturating_add-since.result c.args.tally.now.base c.committed.result.now c.in_ok-mark-in-Commit.mark c.in_ok-mark-in-Commit.ensures c.count.new.self.base
+          (subst IsEncodable (sym c.count.ensures.base) c.requires.base) (subst IsEncodable (sym (c.committed.ensures ∙ ap (λ (d : Core). d.committed) k.there_is)) (encodable_there c.args.core.now c.take_one.new.core c.args.journal.now c.args.ran c.requires.ready c.take_one.ensures c.in-Commit.epoch c.in-Commit.out c.judge_next.new.core k c.epoch_laws.ensures (omega (arith, number, room))))),
+    )
 
 pub returns-in_ok-append_mark-in-Commit-clause-others : goal.returns-in_ok-append_mark-in-Commit-clause-others
 returns-in_ok-append_mark-in-Commit-clause-others g c = λ input. (
