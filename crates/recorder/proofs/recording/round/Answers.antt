@@ -24,6 +24,9 @@ err_of : {A E : Type 0} (r : Result A E) (P : Type 0) → is_err r ≡ true → 
 err_of (Ok x) P is h = absurd cc
 err_of (Err e) P is h = h
 
+same_fault : {A : Type 0} (f g : RecordFault) → ◌≡◌ {A = Result A RecordFault} (Err f) (Err g) → f ≡ g
+same_fault f g is = cc
+
 pub returns-then-is_err-clause-stopped : goal.returns-then-is_err-clause-stopped
 returns-then-is_err-clause-stopped g c = λ a is so_far.
     let failed : is_err c.draw.result ≡ true = sym c.is_err.ensures.value ∙ c.if-is_err.true in
@@ -130,7 +133,7 @@ returns-in-Err-outcome-clause-input_cause g c = λ bad.
     let steps : StepLaws = record { ready = c.a_supply_lets_a_guest_step.ensures.ready; used_up = c.a_supply_lets_a_guest_step.ensures.used_up; refilled_ = c.a_supply_lets_a_guest_step.ensures.refilled; stamped = c.a_supply_lets_a_guest_step.ensures.stamped } in
     let leaves = round_leaves g.Q.Racer.tells hold last_of steps takes c.a_round_commits_what_joins_on.ensures.starts c.requires.so_far.0 (g.I.Inlet.input c.args.inlet.now) (g.I.Inlet.input c.draw.new.inlet) c.args.recording.racer c.stream-committer.result.1 c.args.recording.state c.args.supply.now c.draw.new.supply c.args.recording.squashes c.plan_of-plan.result c.stream-committer.result.2 _ c.stream-committer.result.0 c.stream-committer.ensures refl c.in-Ok.ensures in
     let out : outcome c.stream-committer.result.0.last c.stream-committer.result.2 ≡ Err c.in-Err-outcome.fault = sym c.outcome.ensures ∙ c.in-Err-outcome.is in
-    let fault : c.in-Err-outcome.fault ≡ faults.InputFault = (let same = bad in cc) in
+    let fault : c.in-Err-outcome.fault ≡ faults.InputFault = same_fault c.in-Err-outcome.fault faults.InputFault bad in
     absurd (by (fault_of_last c.stream-committer.result.0.last c.stream-committer.result.2 c.in-Err-outcome.fault out) fault leaves.no_input)
   where
     by : {last : Result Next RecordFault} {f : RecordFault} → (f ≡ faults.OutOfMemory) ⊎ (last ≡ Err f) → f ≡ faults.InputFault → (last ≡ Err faults.InputFault → ⊥) → ⊥
@@ -145,7 +148,7 @@ returns-in-Err-outcome-clause-disk_cause g c = λ bad.
     let steps : StepLaws = record { ready = c.a_supply_lets_a_guest_step.ensures.ready; used_up = c.a_supply_lets_a_guest_step.ensures.used_up; refilled_ = c.a_supply_lets_a_guest_step.ensures.refilled; stamped = c.a_supply_lets_a_guest_step.ensures.stamped } in
     let leaves = round_leaves g.Q.Racer.tells hold last_of steps takes c.a_round_commits_what_joins_on.ensures.starts c.requires.so_far.0 (g.I.Inlet.input c.args.inlet.now) (g.I.Inlet.input c.draw.new.inlet) c.args.recording.racer c.stream-committer.result.1 c.args.recording.state c.args.supply.now c.draw.new.supply c.args.recording.squashes c.plan_of-plan.result c.stream-committer.result.2 _ c.stream-committer.result.0 c.stream-committer.ensures refl c.in-Ok.ensures in
     let out : outcome c.stream-committer.result.0.last c.stream-committer.result.2 ≡ Err c.in-Err-outcome.fault = sym c.outcome.ensures ∙ c.in-Err-outcome.is in
-    let fault : c.in-Err-outcome.fault ≡ faults.DiskFault = (let same = bad in cc) in
+    let fault : c.in-Err-outcome.fault ≡ faults.DiskFault = same_fault c.in-Err-outcome.fault faults.DiskFault bad in
     by (fault_of_last c.stream-committer.result.0.last c.stream-committer.result.2 c.in-Err-outcome.fault out) fault leaves.disk_cause
   where
     by : {last : Result Next RecordFault} {f : RecordFault} {P : Type 0} → (f ≡ faults.OutOfMemory) ⊎ (last ≡ Err f) → f ≡ faults.DiskFault → (last ≡ Err faults.DiskFault → P) → P
@@ -160,7 +163,7 @@ returns-in-Err-outcome-clause-sink_cause g c = λ bad.
     let steps : StepLaws = record { ready = c.a_supply_lets_a_guest_step.ensures.ready; used_up = c.a_supply_lets_a_guest_step.ensures.used_up; refilled_ = c.a_supply_lets_a_guest_step.ensures.refilled; stamped = c.a_supply_lets_a_guest_step.ensures.stamped } in
     let leaves = round_leaves g.Q.Racer.tells hold last_of steps takes c.a_round_commits_what_joins_on.ensures.starts c.requires.so_far.0 (g.I.Inlet.input c.args.inlet.now) (g.I.Inlet.input c.draw.new.inlet) c.args.recording.racer c.stream-committer.result.1 c.args.recording.state c.args.supply.now c.draw.new.supply c.args.recording.squashes c.plan_of-plan.result c.stream-committer.result.2 _ c.stream-committer.result.0 c.stream-committer.ensures refl c.in-Ok.ensures in
     let out : outcome c.stream-committer.result.0.last c.stream-committer.result.2 ≡ Err c.in-Err-outcome.fault = sym c.outcome.ensures ∙ c.in-Err-outcome.is in
-    let fault : c.in-Err-outcome.fault ≡ faults.OutputFault = (let same = bad in cc) in
+    let fault : c.in-Err-outcome.fault ≡ faults.OutputFault = same_fault c.in-Err-outcome.fault faults.OutputFault bad in
     by (fault_of_last c.stream-committer.result.0.last c.stream-committer.result.2 c.in-Err-outcome.fault out) fault leaves.sink_cause
   where
     by : {last : Result Next RecordFault} {f : RecordFault} {P : Type 0} → (f ≡ faults.OutOfMemory) ⊎ (last ≡ Err f) → f ≡ faults.OutputFault → (last ≡ Err faults.OutputFault → P) → P
