@@ -27,6 +27,19 @@ err_of (Err e) P is h = h
 same_fault : {A : Type 0} (f g : RecordFault) → ◌≡◌ {A = Result A RecordFault} (Err f) (Err g) → f ≡ g
 same_fault f g is = cc
 
+-- a device's fault isn't out of memory, so it is that of the last result
+by_input : {last : Result Next RecordFault} {f : RecordFault} → (f ≡ faults.OutOfMemory) ⊎ (last ≡ Err f) → f ≡ faults.InputFault → (last ≡ Err faults.InputFault → ⊥) → ⊥
+by_input (inl memory) fault never = let bad : faults.OutOfMemory ≡ faults.InputFault = sym memory ∙ fault in absurd cc
+by_input (inr same) fault never = never (same ∙ ap (λ f. Err f) fault)
+
+by_disk : {last : Result Next RecordFault} {f : RecordFault} {P : Type 0} → (f ≡ faults.OutOfMemory) ⊎ (last ≡ Err f) → f ≡ faults.DiskFault → (last ≡ Err faults.DiskFault → P) → P
+by_disk (inl memory) fault rose = let bad : faults.OutOfMemory ≡ faults.DiskFault = sym memory ∙ fault in absurd cc
+by_disk (inr same) fault rose = rose (same ∙ ap (λ f. Err f) fault)
+
+by_sink : {last : Result Next RecordFault} {f : RecordFault} {P : Type 0} → (f ≡ faults.OutOfMemory) ⊎ (last ≡ Err f) → f ≡ faults.OutputFault → (last ≡ Err faults.OutputFault → P) → P
+by_sink (inl memory) fault rose = let bad : faults.OutOfMemory ≡ faults.OutputFault = sym memory ∙ fault in absurd cc
+by_sink (inr same) fault rose = rose (same ∙ ap (λ f. Err f) fault)
+
 pub returns-then-is_err-clause-stopped : goal.returns-then-is_err-clause-stopped
 returns-then-is_err-clause-stopped g c = λ a is so_far.
     let failed : is_err c.draw.result ≡ true = sym c.is_err.ensures.value ∙ c.if-is_err.true in
@@ -134,11 +147,7 @@ returns-in-Err-outcome-clause-input_cause g c = λ bad.
     let leaves = round_leaves g.Q.Racer.tells hold last_of steps takes c.a_round_commits_what_joins_on.ensures.starts c.requires.so_far.0 (g.I.Inlet.input c.args.inlet.now) (g.I.Inlet.input c.draw.new.inlet) c.args.recording.racer c.stream-committer.result.1 c.args.recording.state c.args.supply.now c.draw.new.supply c.args.recording.squashes c.plan_of-plan.result c.stream-committer.result.2 _ c.stream-committer.result.0 c.stream-committer.ensures refl c.in-Ok.ensures in
     let out : outcome c.stream-committer.result.0.last c.stream-committer.result.2 ≡ Err c.in-Err-outcome.fault = sym c.outcome.ensures ∙ c.in-Err-outcome.is in
     let fault : c.in-Err-outcome.fault ≡ faults.InputFault = same_fault c.in-Err-outcome.fault faults.InputFault bad in
-    absurd (by (fault_of_last c.stream-committer.result.0.last c.stream-committer.result.2 c.in-Err-outcome.fault out) fault leaves.no_input)
-  where
-    by : {last : Result Next RecordFault} {f : RecordFault} → (f ≡ faults.OutOfMemory) ⊎ (last ≡ Err f) → f ≡ faults.InputFault → (last ≡ Err faults.InputFault → ⊥) → ⊥
-    by (inl memory) fault never = let bad : faults.OutOfMemory ≡ faults.InputFault = sym memory ∙ fault in absurd cc
-    by (inr same) fault never = never (same ∙ ap (λ f. Err f) fault)
+    absurd (by_input (fault_of_last c.stream-committer.result.0.last c.stream-committer.result.2 c.in-Err-outcome.fault out) fault leaves.no_input)
 
 pub returns-in-Err-outcome-clause-disk_cause : goal.returns-in-Err-outcome-clause-disk_cause
 returns-in-Err-outcome-clause-disk_cause g c = λ bad.
@@ -149,11 +158,7 @@ returns-in-Err-outcome-clause-disk_cause g c = λ bad.
     let leaves = round_leaves g.Q.Racer.tells hold last_of steps takes c.a_round_commits_what_joins_on.ensures.starts c.requires.so_far.0 (g.I.Inlet.input c.args.inlet.now) (g.I.Inlet.input c.draw.new.inlet) c.args.recording.racer c.stream-committer.result.1 c.args.recording.state c.args.supply.now c.draw.new.supply c.args.recording.squashes c.plan_of-plan.result c.stream-committer.result.2 _ c.stream-committer.result.0 c.stream-committer.ensures refl c.in-Ok.ensures in
     let out : outcome c.stream-committer.result.0.last c.stream-committer.result.2 ≡ Err c.in-Err-outcome.fault = sym c.outcome.ensures ∙ c.in-Err-outcome.is in
     let fault : c.in-Err-outcome.fault ≡ faults.DiskFault = same_fault c.in-Err-outcome.fault faults.DiskFault bad in
-    by (fault_of_last c.stream-committer.result.0.last c.stream-committer.result.2 c.in-Err-outcome.fault out) fault leaves.disk_cause
-  where
-    by : {last : Result Next RecordFault} {f : RecordFault} {P : Type 0} → (f ≡ faults.OutOfMemory) ⊎ (last ≡ Err f) → f ≡ faults.DiskFault → (last ≡ Err faults.DiskFault → P) → P
-    by (inl memory) fault rose = let bad : faults.OutOfMemory ≡ faults.DiskFault = sym memory ∙ fault in absurd cc
-    by (inr same) fault rose = rose (same ∙ ap (λ f. Err f) fault)
+    by_disk (fault_of_last c.stream-committer.result.0.last c.stream-committer.result.2 c.in-Err-outcome.fault out) fault leaves.disk_cause
 
 pub returns-in-Err-outcome-clause-sink_cause : goal.returns-in-Err-outcome-clause-sink_cause
 returns-in-Err-outcome-clause-sink_cause g c = λ bad.
@@ -164,11 +169,7 @@ returns-in-Err-outcome-clause-sink_cause g c = λ bad.
     let leaves = round_leaves g.Q.Racer.tells hold last_of steps takes c.a_round_commits_what_joins_on.ensures.starts c.requires.so_far.0 (g.I.Inlet.input c.args.inlet.now) (g.I.Inlet.input c.draw.new.inlet) c.args.recording.racer c.stream-committer.result.1 c.args.recording.state c.args.supply.now c.draw.new.supply c.args.recording.squashes c.plan_of-plan.result c.stream-committer.result.2 _ c.stream-committer.result.0 c.stream-committer.ensures refl c.in-Ok.ensures in
     let out : outcome c.stream-committer.result.0.last c.stream-committer.result.2 ≡ Err c.in-Err-outcome.fault = sym c.outcome.ensures ∙ c.in-Err-outcome.is in
     let fault : c.in-Err-outcome.fault ≡ faults.OutputFault = same_fault c.in-Err-outcome.fault faults.OutputFault bad in
-    by (fault_of_last c.stream-committer.result.0.last c.stream-committer.result.2 c.in-Err-outcome.fault out) fault leaves.sink_cause
-  where
-    by : {last : Result Next RecordFault} {f : RecordFault} {P : Type 0} → (f ≡ faults.OutOfMemory) ⊎ (last ≡ Err f) → f ≡ faults.OutputFault → (last ≡ Err faults.OutputFault → P) → P
-    by (inl memory) fault rose = let bad : faults.OutOfMemory ≡ faults.OutputFault = sym memory ∙ fault in absurd cc
-    by (inr same) fault rose = rose (same ∙ ap (λ f. Err f) fault)
+    by_sink (fault_of_last c.stream-committer.result.0.last c.stream-committer.result.2 c.in-Err-outcome.fault out) fault leaves.sink_cause
 
 pub returns-in-Err-outcome-clause-disk_count : goal.returns-in-Err-outcome-clause-disk_count
 returns-in-Err-outcome-clause-disk_count g c =
