@@ -563,7 +563,7 @@ fi
 # ---- marks
 
 # Twenty epochs of 30,000 steps. With a mark after every so many of them the journal is longer by as many marks, and replays the same by
-# any number of workers. The guest has 28 pages, and stores to a few of them: a mark has at least 6 bytes of each page, and far from all.
+# any number of workers. The guest has 28 pages, and stores to fewer than ten of them: a mark has at least 6 bytes of each page, and far from all.
 run record "$lines" unmarked.dpj --epoch 30000 --limit 600000 --mark 0 --ahead 1 </dev/null
 check "without marks: the status is $status, not StepLimit" ended_with 11
 cp out unmarked.out
@@ -575,7 +575,7 @@ for mark in 1 3 7 16 21; do
   run inspect "marked$mark.dpj" </dev/null
   check "a mark after each $mark epochs: another number of marks" test "$(grep -c ' mark steps ' out)" -eq "$((20 / mark))"
   check "a mark after each $mark epochs: marks that are too short" test "$more" -ge "$((20 / mark * (168 + 28 * 6)))"
-  check "a mark after each $mark epochs: marks that hold what didn't change" test "$more" -le "$((20 / mark * (168 + 28 * 6 + 4 * 4096)))"
+  check "a mark after each $mark epochs: marks that hold what didn't change" test "$more" -le "$((20 / mark * (168 + 28 * 6 + 10 * 4096)))"
   for workers in 1 2 4 64; do
     run replay "marked$mark.dpj" --workers "$workers" </dev/null
     check "a mark after each $mark epochs, replayed by $workers workers: the status is $status" ended_with 0
