@@ -22,7 +22,7 @@ many=$(mktemp -d -p /dev/shm 2>/dev/null || mktemp -d) || exit 1
 trap 'rm -rf "$work" "$many"' EXIT
 cd "$work" || exit 1
 
-checks=1375 # how many there are below; one that isn't made must be missed
+checks=1402 # how many there are below; one that isn't made must be missed
 passed=0
 failed=0
 
