@@ -1,3 +1,0 @@
-pub mod NoSupply
-pub mod Workers
-pub mod Rounds
