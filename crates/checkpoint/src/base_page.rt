@@ -8,7 +8,7 @@ use dp_base::PageView;
 use guest_kernel::Pages;
 
 // Looks from a place on for the page with this number. Also returns the place from which to look for the next number.
-pub fn look_up(pages: &Pages, place: usize, number: u32) -> (usize, Option<PageView<'_>>)
+pub(crate) fn look_up(pages: &Pages, place: usize, number: u32) -> (usize, Option<PageView<'_>>)
     requires { IsPast pages.now place number }
     ensures found { option_map page_of result.1 ≡ page_at pages.now number }
     ensures kept { IfSome result.1 (λ page. IsPage (page_of page)) }

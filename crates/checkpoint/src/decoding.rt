@@ -111,7 +111,7 @@ fn bounds_of(head: Head, live: usize, pages: u16) -> Bounds
 }
 
 // So many threads, and the bytes behind them.
-pub fn read_threads(
+pub(crate) fn read_threads(
     alloc: Global,
     count: u16,
     bytes: &[u8],

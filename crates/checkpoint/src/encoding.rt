@@ -12,7 +12,7 @@ use std::alloc::Global;
 
 // A vector as a sink.
 #[derive(Drop)]
-pub struct Buffer {
+pub(crate) struct Buffer {
     pub bytes: Vec<u8>,
 }
 

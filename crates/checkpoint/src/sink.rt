@@ -5,7 +5,7 @@ ghost use Rattle.checkpoint.specs.Sink.{Adds};
 use dp_base::OutOfMemory;
 
 /// What takes bytes, one row after another.
-pub trait Sink {
+pub(crate) trait Sink {
     /// It took these bytes so far.
     ghost holds: { Self → List ℕ → Type 0 };
 

@@ -13,7 +13,7 @@ use guest_kernel::State;
 use guest_state::{End, Hart, Thread};
 
 /// Puts a state's bytes.
-pub fn write_state<S: Sink>(sink: &mut S, state: &State) -> Result<(), OutOfMemory>
+pub(crate) fn write_state<S: Sink>(sink: &mut S, state: &State) -> Result<(), OutOfMemory>
     ensures added { Adds S.holds sink.old sink.new result (state_bytes state.now) }
     ensures cause { IsErr result → S.may_fail ≡ true }
 {
@@ -24,7 +24,7 @@ pub fn write_state<S: Sink>(sink: &mut S, state: &State) -> Result<(), OutOfMemo
     Ok(())
 }
 
-pub fn write_numbers<S: Sink>(sink: &mut S, state: &State) -> Result<(), OutOfMemory>
+pub(crate) fn write_numbers<S: Sink>(sink: &mut S, state: &State) -> Result<(), OutOfMemory>
     ensures added { Adds S.holds sink.old sink.new result (little_bytes 8 state.now.steps
         ++ (little_bytes 8 state.now.input ++ (word state.now.heap ++ word state.now.brk))) }
     ensures cause { IsErr result → S.may_fail ≡ true }
@@ -35,7 +35,7 @@ pub fn write_numbers<S: Sink>(sink: &mut S, state: &State) -> Result<(), OutOfMe
     write_word(sink, state.brk)
 }
 
-pub fn write_end<S: Sink>(sink: &mut S, end: End) -> Result<(), OutOfMemory>
+pub(crate) fn write_end<S: Sink>(sink: &mut S, end: End) -> Result<(), OutOfMemory>
     ensures added { Adds S.holds sink.old sink.new result (end_bytes end) }
     ensures cause { IsErr result → S.may_fail ≡ true }
 {
@@ -56,7 +56,10 @@ pub fn write_end<S: Sink>(sink: &mut S, end: End) -> Result<(), OutOfMemory>
 }
 
 // The threads, behind their number.
-pub fn write_counted_threads<S: Sink>(sink: &mut S, threads: &[Thread]) -> Result<(), OutOfMemory>
+pub(crate) fn write_counted_threads<S: Sink>(
+    sink: &mut S,
+    threads: &[Thread],
+) -> Result<(), OutOfMemory>
     requires { length threads.now < 2 ^ 16 }
     ensures added { Adds S.holds sink.old sink.new result
         (little_bytes 2 (length threads.now) ++ flat_map thread_bytes threads.now) }
@@ -161,7 +164,7 @@ fn write_page<S: Sink>(sink: &mut S, page: &PageView<'_>) -> Result<(), OutOfMem
     sink.put(page.bytes)
 }
 
-pub fn write_word<S: Sink>(sink: &mut S, number: u32) -> Result<(), OutOfMemory>
+pub(crate) fn write_word<S: Sink>(sink: &mut S, number: u32) -> Result<(), OutOfMemory>
     ensures added { Adds S.holds sink.old sink.new result (word number) }
     ensures cause { IsErr result → S.may_fail ≡ true }
 {

@@ -21,7 +21,7 @@ use std::marker::Model;
 /// A change is recorded before it is made, and what it needs is allocated before that. So one that answers `OutOfMemory`
 /// changes nothing.
 #[derive(Drop)]
-pub struct Contents {
+pub(crate) struct Contents {
     alloc: Global,
     first: Vec<u8>,
     disk: Vec<u8>,

@@ -9,7 +9,7 @@ use crate::Fails;
 /// Which calls of a kind fail, how many there were, and how many of them failed. Counts are at most 2^64 - 1, where they
 /// stay.
 #[derive(Drop)]
-pub struct Counter {
+pub(crate) struct Counter {
     pub fails: Fails,
     pub calls: u64,
     pub faults: u64,

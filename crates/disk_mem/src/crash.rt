@@ -11,7 +11,11 @@ use dp_base::OutOfMemory;
 use std::alloc::Global;
 
 /// The disk without what is pending, at the least length, behind these calls on a disk that had these bytes first.
-pub fn kept_bytes(alloc: Global, first: &[u8], calls: &[Call]) -> Result<Vec<u8>, OutOfMemory>
+pub(crate) fn kept_bytes(
+    alloc: Global,
+    first: &[u8],
+    calls: &[Call],
+) -> Result<Vec<u8>, OutOfMemory>
     ensures { IfOk result (λ bytes. bytes.items ≡ without_pending (replay (start first.now) calls.now).pending) }
 {
     let mut disk = first.to_vec(alloc)?;
@@ -24,7 +28,11 @@ pub fn kept_bytes(alloc: Global, first: &[u8], calls: &[Call]) -> Result<Vec<u8>
 }
 
 /// The same with each pending byte 1, at the greatest length.
-pub fn bytes_with_ones(alloc: Global, first: &[u8], calls: &[Call]) -> Result<Vec<u8>, OutOfMemory>
+pub(crate) fn bytes_with_ones(
+    alloc: Global,
+    first: &[u8],
+    calls: &[Call],
+) -> Result<Vec<u8>, OutOfMemory>
     ensures { IfOk result (λ bytes. bytes.items ≡ with_ones (replay (start first.now) calls.now).pending) }
 {
     let mut disk = first.to_vec(alloc)?;

@@ -7,7 +7,7 @@ use std::marker::Model;
 
 /// Pieces, which are given from the first byte of the first one on. Clauses see the bytes that were given, and what is left.
 #[derive(Drop)]
-pub struct Pieces {
+pub(crate) struct Pieces {
     pieces: Vec<Vec<u8>>,
     // how many pieces were given, and how many bytes of the one behind them
     at: usize,

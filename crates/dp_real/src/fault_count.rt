@@ -7,7 +7,7 @@ use disk_model::Failed;
 
 /// How often calls of one kind have failed, and what the system refused last.
 #[derive(Drop)]
-pub struct FaultCount {
+pub(crate) struct FaultCount {
     /// At most 2^64 - 1, where it stays.
     pub faults: u64,
     pub last: Option<Refusal>,

@@ -5,7 +5,7 @@ use std::os::unix::fs::FileExt;
 
 /// A file from an offset on, as a reader and a writer. The file's own position stays. The system refuses offsets from 2^63 on.
 #[derive(Drop)]
-pub struct FileAt<'a> {
+pub(crate) struct FileAt<'a> {
     pub file: &'a File,
     /// The offset of the next byte.
     pub at: u64,

@@ -14,7 +14,7 @@ const STREAM_PATHS: [&str; 2] = ["/proc/self/fd/1", "/proc/self/fd/2"];
 
 /// An open journal. Its lock is given back where it is dropped.
 #[derive(Drop)]
-pub struct JournalFile {
+pub(crate) struct JournalFile {
     file: File,
     // How many bytes the file has, unless another program has changed it.
     len: u64,

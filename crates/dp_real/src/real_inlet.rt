@@ -106,7 +106,7 @@ impl<R: Read> Inlet for RealInlet<R> {
 }
 
 /// A time in nanoseconds, at most 2^64 - 1.
-pub fn nanoseconds(time: Duration) -> u64
+pub(crate) fn nanoseconds(time: Duration) -> u64
     ensures { result ≡ min (as_nanos time) (2 ^ 64 - 1) }
 {
     match u64::try_from(time.as_nanos()) {

@@ -13,7 +13,7 @@ pub struct Refusal {
 }
 
 /// A call's answer, with what was tried.
-pub fn tried<T>(tried: &'static str, answer: io::Result<T>) -> Result<T, Refusal>
+pub(crate) fn tried<T>(tried: &'static str, answer: io::Result<T>) -> Result<T, Refusal>
     ensures value { IfOk result (λ value. answer ≡ Ok value) }
     ensures fault { OnErr result (IsErr answer) }
 {

@@ -31,7 +31,11 @@ fn interrupts_so_far<C: Clock>(clock: &C, before: u32, error: &io::Error) -> Opt
 }
 
 /// One read. Returns how many bytes were given. 0 in a buffer that isn't empty is the reader's end.
-pub fn read_some<C: Clock, R: Read>(clock: &C, reader: &mut R, buf: &mut [u8]) -> io::Result<usize>
+pub(crate) fn read_some<C: Clock, R: Read>(
+    clock: &C,
+    reader: &mut R,
+    buf: &mut [u8],
+) -> io::Result<usize>
     ensures within { IfOk result (λ n. n ≤ length buf.old) }
     ensures bytes { ReadConsumes (R.remaining reader.old) (R.remaining reader.new) result buf.new }
 {
@@ -49,7 +53,11 @@ pub fn read_some<C: Clock, R: Read>(clock: &C, reader: &mut R, buf: &mut [u8]) -
 }
 
 /// The same, of at most 65,536 bytes. The buffer stays as it is behind those that were given, and whole if the read fails.
-pub fn read_start<C: Clock, R: Read>(clock: &C, reader: &mut R, buf: &mut [u8]) -> io::Result<usize>
+pub(crate) fn read_start<C: Clock, R: Read>(
+    clock: &C,
+    reader: &mut R,
+    buf: &mut [u8],
+) -> io::Result<usize>
     ensures within { IfOk result (λ n. n ≤ length buf.old) }
     ensures piece { IfOk result (λ n. n ≤ 65536) }
     ensures kept { OnErr result (buf.new ≡ buf.old) }
@@ -66,7 +74,11 @@ pub fn read_start<C: Clock, R: Read>(clock: &C, reader: &mut R, buf: &mut [u8]) 
 
 /// Reads until the buffer is full or the reader is at its end. Returns how many bytes were given. If a read fails, those that were
 /// given before it, fewer than the buffer's, stand at its start.
-pub fn fill<C: Clock, R: Read>(clock: &C, reader: &mut R, buf: &mut [u8]) -> io::Result<usize>
+pub(crate) fn fill<C: Clock, R: Read>(
+    clock: &C,
+    reader: &mut R,
+    buf: &mut [u8],
+) -> io::Result<usize>
     ensures within { IfOk result (λ n. n ≤ length buf.old) }
     ensures bytes { IfOk result (λ n. Consumes (R.remaining reader.old) (R.remaining reader.new) (take n buf.new)) }
     ensures end { IfOk result (λ n. n < length buf.old → IsAtEnd (R.remaining reader.new)) }
@@ -84,7 +96,11 @@ pub fn fill<C: Clock, R: Read>(clock: &C, reader: &mut R, buf: &mut [u8]) -> io:
 }
 
 /// One write. Returns how many bytes were taken, at least one if there is one.
-pub fn write_some<C: Clock, W: Write>(clock: &C, writer: &mut W, bytes: &[u8]) -> io::Result<usize>
+pub(crate) fn write_some<C: Clock, W: Write>(
+    clock: &C,
+    writer: &mut W,
+    bytes: &[u8],
+) -> io::Result<usize>
     ensures some { IfOk result (λ n. 0 < length bytes.now → 0 < n) }
     ensures within { IfOk result (λ n. n ≤ length bytes.now) }
     ensures bytes { WriteAppends (W.contents writer.old) (W.contents writer.new) result bytes.now }
@@ -107,7 +123,11 @@ pub fn write_some<C: Clock, W: Write>(clock: &C, writer: &mut W, bytes: &[u8]) -
 }
 
 /// Writes all of the bytes. If a write fails, the first of them were written, or none, and not all.
-pub fn write_whole<C: Clock, W: Write>(clock: &C, writer: &mut W, bytes: &[u8]) -> io::Result<()>
+pub(crate) fn write_whole<C: Clock, W: Write>(
+    clock: &C,
+    writer: &mut W,
+    bytes: &[u8],
+) -> io::Result<()>
     ensures whole { OnOk result (Appends (W.contents writer.old) (W.contents writer.new) bytes.now) }
     ensures part { OnErr result (AppendsStart (W.contents writer.old) (W.contents writer.new) bytes.now) }
 {

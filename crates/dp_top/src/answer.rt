@@ -8,7 +8,7 @@ use epoch_replay::{InspectFault, ReplayFault};
 use recorder::RecordFault;
 
 /// The status of a recording's answer.
-pub fn status_of_answer(answer: Result<Report, RecordFault>) -> Status
+pub(crate) fn status_of_answer(answer: Result<Report, RecordFault>) -> Status
     ensures { result ≡ status_of answer }
 {
     match answer {
@@ -24,7 +24,7 @@ pub fn status_of_answer(answer: Result<Report, RecordFault>) -> Status
 }
 
 /// The status of a replay's answer.
-pub fn status_of_replayed(answer: Result<Report, ReplayFault>) -> Status
+pub(crate) fn status_of_replayed(answer: Result<Report, ReplayFault>) -> Status
     ensures { result ≡ status_of_replay answer }
 {
     match answer {
@@ -41,7 +41,7 @@ pub fn status_of_replayed(answer: Result<Report, ReplayFault>) -> Status
 }
 
 /// The status of an inspection's answer.
-pub fn status_of_inspected(answer: Result<(), InspectFault>) -> Status
+pub(crate) fn status_of_inspected(answer: Result<(), InspectFault>) -> Status
     ensures { result ≡ status_of_inspection answer }
 {
     match answer {
@@ -55,7 +55,7 @@ pub fn status_of_inspected(answer: Result<(), InspectFault>) -> Status
 }
 
 /// The status of a self-test without a line.
-pub fn status_of_self_test(fault: SelfTestFault) -> Status
+pub(crate) fn status_of_self_test(fault: SelfTestFault) -> Status
     ensures { result ≡ status_of_self_test fault }
 {
     match fault {

@@ -10,7 +10,7 @@ use epoch_replay::inspect;
 use std::alloc::Global;
 
 /// Attaches the journal, which isn't made, and lists its records.
-pub fn inspect_journal<W: World>(alloc: Global, mut world: W, journal: &str) -> (W, Status)
+pub(crate) fn inspect_journal<W: World>(alloc: Global, mut world: W, journal: &str) -> (W, Status)
     ensures inspected { InspectedTo (W.history world) (W.history result.0) result.1 }
     ensures none { result.1 ≡ Status.Ok → W.sink_faults result.0 ≡ W.sink_faults world }
     ensures no_guest_fault { result.1 ≡ Status.GuestFault → ⊥ }

@@ -3,7 +3,7 @@ use disk_model::{Failed, Inlet};
 
 /// An input that is at its end from the start, and a clock that always reads 0.
 #[derive(Drop)]
-pub struct NoInput {
+pub(crate) struct NoInput {
     /// Whether the end was seen.
     pub ended: bool,
     /// How often the clock was read: at most 2^64 - 1, where it stays.

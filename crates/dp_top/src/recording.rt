@@ -20,7 +20,7 @@ use std::sync::Wait;
 use std::thread::Threads;
 
 /// Attaches the journal and records into it.
-pub fn record_guest<
+pub(crate) fn record_guest<
     R: Threads + Wait + Sync,
     I: Inlet,
     W: World + Drop,

@@ -16,7 +16,7 @@ use std::thread::Threads;
 
 /// A replay with so many workers that sent and reported what its recording did. Only `check_replay` makes one.
 #[derive(Drop)]
-pub struct Agreed {
+pub(crate) struct Agreed {
     workers: u32,
 }
 
@@ -34,7 +34,7 @@ impl Model for Agreed {
 /// # Errors
 ///
 /// Returns `OutOfMemory` if memory runs out, and `Differs` if the replay is refused, or sends or reports something else.
-pub fn check_replay<R: Threads + Sync>(
+pub(crate) fn check_replay<R: Threads + Sync>(
     rt: &R,
     alloc: Global,
     recorded: &MemWorld,

@@ -14,7 +14,7 @@ use std::alloc::Global;
 use std::thread::Threads;
 
 /// Attaches the journal, which isn't made, and replays it.
-pub fn replay_journal<R: Threads + Sync, W: World>(
+pub(crate) fn replay_journal<R: Threads + Sync, W: World>(
     rt: &R,
     alloc: Global,
     mut world: W,

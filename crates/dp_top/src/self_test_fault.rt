@@ -6,7 +6,7 @@ use dp_base::OutOfMemory;
 
 /// Why a self-test ended without the line of its guest.
 #[derive(Clone, Copy, Debug, PartialEq, Eq)]
-pub enum SelfTestFault {
+pub(crate) enum SelfTestFault {
     /// The guest took this many steps, as many as it may, and hasn't ended.
     StepLimit(u64),
     /// The next record doesn't fit: the journal's end, and how many bytes are needed from there on.

@@ -4,7 +4,7 @@ use dp_report::Report;
 
 /// The report of a recording, and the replays that agreed with it.
 #[derive(Drop)]
-pub struct TestedReport {
+pub(crate) struct TestedReport {
     pub report: Report,
     /// With one worker.
     pub by_one: Agreed,

@@ -22,7 +22,7 @@ const BEHIND_GUEST: [u8; 21] = [
 pub(crate) const RECORD: [&str; 4] = ["dpcli", "record", "g", "j"];
 
 /// The report's line of the guest of three steps, which is run as one epoch.
-pub const NOTE_OF_EXITS: &[u8] =
+pub(crate) const NOTE_OF_EXITS: &[u8] =
     b"epochs 1 squashes 0 steps 3 sent 0 end exit 7 state 7721bc1cff3d699bd42bce08f27668ac407481c96f7b1c17878d62bfbd540ce7\n";
 
 const USAGE: &[u8] =

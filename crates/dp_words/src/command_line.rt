@@ -10,7 +10,7 @@ use dp_base::limits::{MAX_EPOCH_STEPS, MAX_JOBS, MAX_WORKERS};
 use std::alloc::{AllocError, Global};
 
 /// The whole command line. It fails only if an allocation does.
-pub fn command_line<'a>(alloc: Global) -> Result<Command<'a>, AllocError>
+pub(crate) fn command_line<'a>(alloc: Global) -> Result<Command<'a>, AllocError>
     ensures { IfOk result (λ line. app_of line ≡ command_line) }
 {
     Command::new(alloc, "dpcli")

@@ -11,7 +11,7 @@ use clap::ArgMatches;
 use std::alloc::{AllocError, Global};
 
 /// The command of `record`. It fails only if an allocation does.
-pub fn record(alloc: Global, matches: &ArgMatches<'_>) -> Result<Command, AllocError>
+pub(crate) fn record(alloc: Global, matches: &ArgMatches<'_>) -> Result<Command, AllocError>
     requires { HasValues record_words (rows_of (found_of matches.now)) }
     ensures command { IfOk result (λ command. command ≡ record_of (rows_of (found_of matches.now))) }
     ensures ranges { IfOk result IsInRange }
@@ -31,7 +31,7 @@ pub fn record(alloc: Global, matches: &ArgMatches<'_>) -> Result<Command, AllocE
 }
 
 /// The command of `replay`. It fails only if an allocation does.
-pub fn replay(alloc: Global, matches: &ArgMatches<'_>) -> Result<Command, AllocError>
+pub(crate) fn replay(alloc: Global, matches: &ArgMatches<'_>) -> Result<Command, AllocError>
     requires { HasValues replay_words (rows_of (found_of matches.now)) }
     ensures command { IfOk result (λ command. command ≡ replay_of (rows_of (found_of matches.now))) }
     ensures ranges { IfOk result IsInRange }
@@ -44,7 +44,7 @@ pub fn replay(alloc: Global, matches: &ArgMatches<'_>) -> Result<Command, AllocE
 }
 
 /// The command of `inspect`. It fails only if an allocation does.
-pub fn inspect(alloc: Global, matches: &ArgMatches<'_>) -> Result<Command, AllocError>
+pub(crate) fn inspect(alloc: Global, matches: &ArgMatches<'_>) -> Result<Command, AllocError>
     requires { HasValues inspect_words (rows_of (found_of matches.now)) }
     ensures command { IfOk result (λ command. command ≡ inspect_of (rows_of (found_of matches.now))) }
     ensures ranges { IfOk result IsInRange }
@@ -55,7 +55,7 @@ pub fn inspect(alloc: Global, matches: &ArgMatches<'_>) -> Result<Command, Alloc
 }
 
 /// The command of `selftest`.
-pub fn selftest(matches: &ArgMatches<'_>) -> Command
+pub(crate) fn selftest(matches: &ArgMatches<'_>) -> Command
     requires { HasValues selftest_words (rows_of (found_of matches.now)) }
     ensures command { result ≡ selftest_of (rows_of (found_of matches.now)) }
     ensures ranges { IsInRange result }

@@ -14,28 +14,28 @@ const MAGIC: [u8; 4] = [0x7f, b'E', b'L', b'F'];
 const EV_CURRENT: u8 = 1;
 
 // Offsets of the header's fields.
-pub const EI_CLASS: usize = 4;
+pub(crate) const EI_CLASS: usize = 4;
 
-pub const EI_DATA: usize = 5;
+pub(crate) const EI_DATA: usize = 5;
 
 const EI_VERSION: usize = 6;
 
-pub const E_TYPE: usize = 16;
+pub(crate) const E_TYPE: usize = 16;
 
-pub const E_MACHINE: usize = 18;
+pub(crate) const E_MACHINE: usize = 18;
 
 const E_VERSION: usize = 20;
 
-pub const E_ENTRY: usize = 24;
+pub(crate) const E_ENTRY: usize = 24;
 
-pub const E_PHOFF: usize = 28;
+pub(crate) const E_PHOFF: usize = 28;
 
 const E_PHENTSIZE: usize = 42;
 
-pub const E_PHNUM: usize = 44;
+pub(crate) const E_PHNUM: usize = 44;
 
 /// Returns whether a file has no ELF header of version 1.
-pub fn is_not_elf(file: &[u8]) -> bool
+pub(crate) fn is_not_elf(file: &[u8]) -> bool
     ensures answer { result ≡ is_not_elf file.now }
     ensures has_header { result ≡ false → 52 ≤ length file.now }
 {
@@ -46,7 +46,7 @@ pub fn is_not_elf(file: &[u8]) -> bool
 }
 
 /// Returns whether the entries of a file's program header table don't have 32 bytes, or the table isn't in the file.
-pub fn has_bad_table(file: &[u8]) -> bool
+pub(crate) fn has_bad_table(file: &[u8]) -> bool
     requires { 52 ≤ length file.now }
     ensures answer { result ≡ has_bad_table file.now }
     ensures has_table { result ≡ false → e_phoff file.now + 32 * e_phnum file.now ≤ length file.now }

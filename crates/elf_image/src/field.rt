@@ -6,7 +6,7 @@ use byteorder::{ByteOrder, LittleEndian};
 
 /// Returns the byte at an offset.
 #[tactic(auto, unfolding(crate::specs::File::field))]
-pub fn byte_at(file: &[u8], offset: usize) -> u8
+pub(crate) fn byte_at(file: &[u8], offset: usize) -> u8
     requires { offset < length file.now }
     ensures { result ≡ field 1 offset file.now }
 {
@@ -15,7 +15,7 @@ pub fn byte_at(file: &[u8], offset: usize) -> u8
 
 /// Returns the number in the 2 bytes from an offset on.
 #[tactic(auto, unfolding(crate::specs::File::field))]
-pub fn half_at(file: &[u8], offset: usize) -> u16
+pub(crate) fn half_at(file: &[u8], offset: usize) -> u16
     requires { offset + 2 ≤ length file.now }
     ensures { result ≡ field 2 offset file.now }
 {
@@ -24,7 +24,7 @@ pub fn half_at(file: &[u8], offset: usize) -> u16
 
 /// Returns the number in the 4 bytes from an offset on.
 #[tactic(auto, unfolding(crate::specs::File::field))]
-pub fn word_at(file: &[u8], offset: usize) -> u32
+pub(crate) fn word_at(file: &[u8], offset: usize) -> u32
     requires { offset + 4 ≤ length file.now }
     ensures { result ≡ field 4 offset file.now }
 {

@@ -10,7 +10,7 @@ use dp_base::limits::{MAX_PAGES, PAGE_BYTES};
 use std::alloc::Global;
 
 /// Returns whether two of the spans have a byte in common.
-pub fn overlap(spans: &[Span]) -> bool
+pub(crate) fn overlap(spans: &[Span]) -> bool
     ensures { result ≡ overlap spans.now }
 {
     let mut rest = spans;
@@ -31,7 +31,7 @@ fn meets_one(span: Span, others: &[Span]) -> bool
 
 /// Returns the first pages that a guest starts with, by number, rising: those that have a byte of one of the spans, and those of
 /// the stack. There is one more of them than a guest may have, where there are so many.
-pub fn first_pages(alloc: Global, spans: &[Span]) -> Result<Vec<u32>, OutOfMemory>
+pub(crate) fn first_pages(alloc: Global, spans: &[Span]) -> Result<Vec<u32>, OutOfMemory>
     requires { All (λ s. s.addr + s.size ≤ MEMORY_END) spans.now }
     ensures { IfOk result (λ numbers. numbers.items ≡ take (MAX_PAGES + 1) (start_pages spans.now)) }
 {
@@ -70,7 +70,7 @@ fn lesser(a: Option<u32>, b: Option<u32>) -> Option<u32>
 }
 
 /// Returns the start of the next page behind the span that ends last.
-pub fn heap_start(spans: &[Span]) -> u32
+pub(crate) fn heap_start(spans: &[Span]) -> u32
     requires { All (λ s. s.addr + s.size ≤ MEMORY_END) spans.now }
     ensures { result ≡ heap_start spans.now }
 {

@@ -17,11 +17,11 @@ const PT_LOAD: u32 = 1;
 const PT_INTERP: u32 = 3;
 
 /// No address of a segment lies here or behind.
-pub const MEMORY_END: u64 = PAGE_NUMBERS as u64 * PAGE_BYTES as u64;
+pub(crate) const MEMORY_END: u64 = PAGE_NUMBERS as u64 * PAGE_BYTES as u64;
 
 /// An entry of the table, without p_paddr and p_align.
 #[derive(Clone, Copy, Debug, PartialEq, Eq)]
-pub struct ProgramHeader {
+pub(crate) struct ProgramHeader {
     pub p_type: u32,
     pub p_offset: u32,
     pub p_vaddr: u32,
@@ -46,7 +46,7 @@ fn entry_at(file: &[u8], offset: usize) -> ProgramHeader
 }
 
 /// Returns the entries of a file's table.
-pub fn program_headers(alloc: Global, file: &[u8]) -> Result<Vec<ProgramHeader>, OutOfMemory>
+pub(crate) fn program_headers(alloc: Global, file: &[u8]) -> Result<Vec<ProgramHeader>, OutOfMemory>
     requires has_header { 52 ≤ length file.now }
     requires has_table { e_phoff file.now + 32 * e_phnum file.now ≤ length file.now }
     ensures { IfOk result (λ headers. headers.items ≡ program_headers file.now) }
@@ -60,14 +60,17 @@ pub fn program_headers(alloc: Global, file: &[u8]) -> Result<Vec<ProgramHeader>,
 }
 
 /// Returns whether one of the entries names an interpreter.
-pub fn has_interpreter(headers: &[ProgramHeader]) -> bool
+pub(crate) fn has_interpreter(headers: &[ProgramHeader]) -> bool
     ensures { result ≡ list_any is_interpreter headers.now }
 {
     headers.iter().any(|p| p.p_type == PT_INTERP)
 }
 
 /// Returns the entries that are loaded.
-pub fn loaded(alloc: Global, headers: &[ProgramHeader]) -> Result<Vec<ProgramHeader>, OutOfMemory>
+pub(crate) fn loaded(
+    alloc: Global,
+    headers: &[ProgramHeader],
+) -> Result<Vec<ProgramHeader>, OutOfMemory>
     ensures { IfOk result (λ loaded. loaded.items ≡ filter is_loaded headers.now) }
 {
     let mut loaded = Vec::new(alloc);
@@ -81,7 +84,7 @@ pub fn loaded(alloc: Global, headers: &[ProgramHeader]) -> Result<Vec<ProgramHea
 
 /// Returns whether an entry that is loaded is longer in the file than in memory, isn't in the file, ends behind the memory, or
 /// has a page of the stack.
-pub fn has_bad_entry(file: &[u8], loaded: &[ProgramHeader]) -> bool
+pub(crate) fn has_bad_entry(file: &[u8], loaded: &[ProgramHeader]) -> bool
     ensures { result ≡ list_any (is_bad_entry file.now) loaded.now }
 {
     loaded.iter().any(|p| is_bad_entry(file, *p))
@@ -101,7 +104,7 @@ fn is_bad_entry(file: &[u8], p: ProgramHeader) -> bool
 }
 
 /// Returns where the segments of these entries lie: of each entry that has bytes in memory.
-pub fn spans(alloc: Global, loaded: &[ProgramHeader]) -> Result<Vec<Span>, OutOfMemory>
+pub(crate) fn spans(alloc: Global, loaded: &[ProgramHeader]) -> Result<Vec<Span>, OutOfMemory>
     ensures { IfOk result (λ spans. spans.items ≡ map entry_span (filter has_bytes loaded.now)) }
 {
     let mut spans = Vec::new(alloc);

@@ -9,7 +9,7 @@ pub struct Span {
 }
 
 /// The stack of thread 1.
-pub const STACK: Span = Span {
+pub(crate) const STACK: Span = Span {
     addr: PAGE_BYTES * FIRST_STACK_PAGE,
     size: PAGE_BYTES * STACK_PAGES,
 };

@@ -11,7 +11,7 @@ use dp_base::journal_reader::skip_slices;
 
 /// What an epoch's record holds.
 #[derive(Clone, Copy)]
-pub struct EpochCounts {
+pub(crate) struct EpochCounts {
     pub slices: u32,
     /// The steps of all slices.
     pub steps: u64,
@@ -19,7 +19,7 @@ pub struct EpochCounts {
 }
 
 /// Returns what the epoch with this body holds.
-pub fn epoch_counts(body: &[u8]) -> Option<EpochCounts>
+pub(crate) fn epoch_counts(body: &[u8]) -> Option<EpochCounts>
     ensures { (e : Epoch) → IsEpoch e → body.now ≡ epoch_body e → result ≡ Some (counts_of e) }
 {
     count_epoch(body)
@@ -41,7 +41,7 @@ fn count_epoch(body: &[u8]) -> Option<EpochCounts>
 }
 
 /// Returns the step count of the state in the mark with this body, full or partial.
-pub fn marked_steps(body: &[u8]) -> Option<u64>
+pub(crate) fn marked_steps(body: &[u8]) -> Option<u64>
     ensures full { (c : Checkpoint) → IsCheckpoint c → body.now ≡ mark_kind ∷ checkpoint_bytes c → result ≡ Some c.steps }
     ensures partial { (m : Partial) → IsPartial m → body.now ≡ partial_bytes m → result ≡ Some m.fields.steps }
 {

@@ -23,7 +23,7 @@ use std::alloc::Global;
 
 /// Where an inspection is in its journal.
 #[derive(Clone, Copy)]
-pub struct Listing {
+pub(crate) struct Listing {
     /// The offset of the next record's gate.
     pub at: u64,
     /// The number of the next record, from 1 on.

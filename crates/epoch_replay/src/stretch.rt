@@ -20,7 +20,7 @@ const TOO_MANY: u64 = 1 << 63;
 
 /// What a worker runs: a stretch that has begun.
 #[derive(Drop)]
-pub struct Job {
+pub(crate) struct Job {
     /// Its number among those that run side by side, from 1.
     pub index: u32,
     pub stretch: Stretch,
@@ -28,7 +28,7 @@ pub struct Job {
 
 /// A stretch that was run, and what it results in. It says nothing of what comes before it.
 #[derive(Drop)]
-pub struct Stretch {
+pub(crate) struct Stretch {
     /// The gate of its first record.
     pub first: u64,
     /// The base of the mark with which it begins. If it begins with an epoch, this is the same as its start.
@@ -49,7 +49,7 @@ pub struct Stretch {
 
 /// Runs a stretch of the file: its epochs up to the next mark, or up to a limit of this file. Returns `None` if an epoch can't be
 /// run. `None` says nothing of the journal: the replay runs these records itself.
-pub fn run_job<G: Gate>(
+pub(crate) fn run_job<G: Gate>(
     alloc: Global,
     file: &[u8],
     job: Job,
@@ -72,7 +72,12 @@ pub fn run_job<G: Gate>(
 }
 
 /// Begins a stretch at this gate in this state, which is also the base.
-pub fn begin_at(alloc: Global, file: &[u8], at: u64, state: &State) -> Result<Stretch, OutOfMemory>
+pub(crate) fn begin_at(
+    alloc: Global,
+    file: &[u8],
+    at: u64,
+    state: &State,
+) -> Result<Stretch, OutOfMemory>
     requires within { at ≤ length file.now }
     ensures is { IfOk result (IsStretch file.now) }
     ensures start { IfOk result (λ stretch. stretch.start ≡ state.now) }
@@ -93,7 +98,7 @@ pub fn begin_at(alloc: Global, file: &[u8], at: u64, state: &State) -> Result<St
 }
 
 /// Begins a stretch with the mark at this gate, over this base. Returns `None` if there is no mark, or if it has no state.
-pub fn begin_at_mark(
+pub(crate) fn begin_at_mark(
     alloc: Global,
     file: &[u8],
     at: u64,

@@ -33,7 +33,7 @@ const WORTH_A_THREAD: u64 = 16_384;
 /// Runs stretches side by side from where the replay is, if it is at the first record or at a mark, and takes the results in
 /// order, up to the first whose start the play doesn't reach. Returns whether the replay went on. With one worker it returns
 /// `false` at once.
-pub fn play_window<R: Threads + Sync, W: World, G: Gate + Sync>(
+pub(crate) fn play_window<R: Threads + Sync, W: World, G: Gate + Sync>(
     rt: &R,
     alloc: Global,
     world: &mut W,

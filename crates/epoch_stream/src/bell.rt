@@ -7,7 +7,7 @@ const LOOKS: u32 = 64;
 
 /// Wakes those that wait for something. Promises nothing: who wakes looks again.
 #[derive(Drop)]
-pub struct Bell {
+pub(crate) struct Bell {
     // How often it was rung.
     rings: Mutex<u32>,
     rung: Condvar,
@@ -51,7 +51,7 @@ impl Bell {
 
 /// The bells of a round: for jobs that were published, and for results that were deposited. Both are rung at the end of the jobs.
 #[derive(Drop)]
-pub struct Bells {
+pub(crate) struct Bells {
     pub jobs: Bell,
     pub results: Bell,
 }

@@ -5,7 +5,7 @@ use job_board::Board;
 
 /// What a worker deposits for a job.
 #[derive(Drop)]
-pub enum Deposit {
+pub(crate) enum Deposit {
     /// The result of its epoch.
     Ran(Ran),
     /// The round was stopped, and the job wasn't run.
@@ -13,4 +13,4 @@ pub enum Deposit {
     OutOfMemory,
 }
 
-pub type EpochBoard = Board<Job, Deposit>;
+pub(crate) type EpochBoard = Board<Job, Deposit>;

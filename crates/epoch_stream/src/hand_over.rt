@@ -21,7 +21,7 @@ use supply::Supply;
 
 /// What the taker's part leaves.
 #[derive(Drop)]
-pub struct Taken<T: Drop> {
+pub(crate) struct Taken<T: Drop> {
     pub taker: T,
     pub collector: Collector<Deposit>,
     /// `Yes` if all results were taken.
@@ -73,7 +73,7 @@ fn pick(waiting: &mut Vec<Option<Deposit>>, place: usize) -> Option<Deposit>
 
 /// What was collected and waits for its turn.
 #[derive(Drop)]
-pub struct Tray {
+pub(crate) struct Tray {
     pub collector: Collector<Deposit>,
     /// The deposit of each job, by the job's number less one.
     pub waiting: Vec<Option<Deposit>>,
@@ -131,7 +131,7 @@ fn wait_for<R: Wait>(
 }
 
 /// Takes the results in the order of the jobs, up to the last one, or until the taker has enough.
-pub fn take_all<R: Wait, T: Taker + Drop>(
+pub(crate) fn take_all<R: Wait, T: Taker + Drop>(
     rt: &R,
     alloc: Global,
     board: &EpochBoard,

@@ -23,7 +23,7 @@ use sync_hints::Hints;
 
 /// Takes offers. Each ends the job that is open, which is then published, and opens the next one.
 #[derive(Drop)]
-pub struct Desk<'b, R: Wait> {
+pub(crate) struct Desk<'b, R: Wait> {
     rt: &'b R,
     board: &'b EpochBoard,
     bells: &'b Bells,
@@ -155,7 +155,7 @@ fn bounds_for(plan: &Plan, limit: u64, first: u16, start: &State) -> Bounds
 
 /// What the racer's thread needs.
 #[derive(Drop)]
-pub struct Racing<Q: Drop, P: Drop> {
+pub(crate) struct Racing<Q: Drop, P: Drop> {
     pub racer: Q,
     pub publisher: P,
     pub watcher: Watcher,
@@ -166,7 +166,7 @@ pub struct Racing<Q: Drop, P: Drop> {
 
 /// What a race leaves.
 #[derive(Drop)]
-pub struct RaceEnd<Q: Drop, P: Drop> {
+pub(crate) struct RaceEnd<Q: Drop, P: Drop> {
     pub racer: Q,
     pub receipt: P,
     /// Whether the racer saw the stop.
@@ -176,20 +176,20 @@ pub struct RaceEnd<Q: Drop, P: Drop> {
 
 /// What the racer's thread leaves.
 #[derive(Drop)]
-pub struct Raced<Q: Drop, P: Drop> {
+pub(crate) struct Raced<Q: Drop, P: Drop> {
     pub end: RaceEnd<Q, P>,
     pub watcher: Watcher,
 }
 
-pub type RacingOf<Q> = Racing<Q, Publisher<Job, Deposit>>;
+pub(crate) type RacingOf<Q> = Racing<Q, Publisher<Job, Deposit>>;
 
-pub type RacedOf<Q> = Raced<Q, Receipt<Job, Deposit>>;
+pub(crate) type RacedOf<Q> = Raced<Q, Receipt<Job, Deposit>>;
 
-pub type RaceEndOf<Q> = RaceEnd<Q, Receipt<Job, Deposit>>;
+pub(crate) type RaceEndOf<Q> = RaceEnd<Q, Receipt<Job, Deposit>>;
 
 /// Races, and publishes each job once an offer ends it. After an `Ok` the open job is the last one, and has no hints. It is published unless the
 /// racer saw the stop: its hints would not be those of an offer then, and no worker would run it.
-pub fn run_racer<R: Threads + Wait + Sync, Q: Racer + Drop>(
+pub(crate) fn run_racer<R: Threads + Wait + Sync, Q: Racer + Drop>(
     rt: &R,
     alloc: Global,
     board: &EpochBoard,

@@ -19,7 +19,7 @@ use stop_word::{StopWord, Stopper, Watcher};
 
 /// What a round's threads need.
 #[derive(Drop)]
-pub struct Ready {
+pub(crate) struct Ready {
     pub tray: Tray,
     pub stopper: Stopper,
     pub passes: Vec<Pass>,
@@ -29,7 +29,7 @@ pub struct Ready {
 
 /// A round before it begins.
 #[derive(Drop)]
-pub struct SetUp {
+pub(crate) struct SetUp {
     /// Where the first job starts.
     pub start: State,
     pub board: EpochBoard,
@@ -79,7 +79,12 @@ fn add_watchers(
 }
 
 /// Makes all that a round of so many jobs needs that starts in this state.
-pub fn set_up(alloc: Global, jobs: u32, workers: u32, first: &State) -> Result<SetUp, OutOfMemory>
+pub(crate) fn set_up(
+    alloc: Global,
+    jobs: u32,
+    workers: u32,
+    first: &State,
+) -> Result<SetUp, OutOfMemory>
     requires some { 0 < workers }
     requires few { workers ≤ 64 }
     requires few_jobs { jobs ≤ MAX_JOBS }

@@ -28,7 +28,7 @@ use supply::Supply;
 
 /// What a round's threads leave.
 #[derive(Drop)]
-pub struct Finished<Q: Drop, T: Drop> {
+pub(crate) struct Finished<Q: Drop, T: Drop> {
     pub taken: Taken<T>,
     pub raced: RaceEndOf<Q>,
     pub workers: Vec<Worker<Job, Deposit>>,
@@ -105,7 +105,12 @@ fn in_scope<
 }
 
 /// Runs racer, workers and taker at once.
-pub fn run_round<R: Threads + Wait + Sync, Q: Racer + Drop + Send, G: Gate + Sync, T: Taker + Drop>(
+pub(crate) fn run_round<
+    R: Threads + Wait + Sync,
+    Q: Racer + Drop + Send,
+    G: Gate + Sync,
+    T: Taker + Drop,
+>(
     rt: &R,
     alloc: Global,
     board: &EpochBoard,

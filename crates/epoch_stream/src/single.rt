@@ -15,7 +15,7 @@ use supply::Supply;
 use sync_hints::Hints;
 
 /// Runs a round of one job. No offer of a racer is taken then, so none races, and no thread is started.
-pub fn run_one<Q: Racer + Drop, G: Gate, T: Taker + Drop>(
+pub(crate) fn run_one<Q: Racer + Drop, G: Gate, T: Taker + Drop>(
     alloc: Global,
     start: State,
     racer: Q,

@@ -16,7 +16,7 @@ pub use starts::{join_all, start_all};
 
 /// What the racer's thread promises: the jobs on the board are made of its offers.
 #[derive(Drop)]
-pub struct RacerPromise<Q: Drop> {
+pub(crate) struct RacerPromise<Q: Drop> {
     pub racing: Snapshot<RacingOf<Q>>,
     pub board: Snapshot<EpochBoard>,
     pub stop: Snapshot<StopWord>,
@@ -32,7 +32,7 @@ impl<Q: Racer + Drop> Promise<RacedOf<Q>> for RacerPromise<Q> {
 
 /// What a worker's thread promises: it has deposited for each job that it claimed.
 #[derive(Drop)]
-pub struct WorkerPromise {
+pub(crate) struct WorkerPromise {
     pub board: Snapshot<EpochBoard>,
     pub supply: Snapshot<Supply>,
     pub number: u32,
@@ -46,14 +46,14 @@ impl Promise<Pass> for WorkerPromise {
 
 /// A worker that was started, or that ran here because no thread could be made.
 #[derive(Drop)]
-pub enum Started {
+pub(crate) enum Started {
     There(PromisedHandle<Pass, WorkerPromise>),
     Here(Pass),
 }
 
 /// The racer, started, or run here.
 #[derive(Drop)]
-pub enum Racers<Q: Racer + Drop> {
+pub(crate) enum Racers<Q: Racer + Drop> {
     There(PromisedHandle<RacedOf<Q>, RacerPromise<Q>>),
     Here(RacedOf<Q>),
 }

@@ -18,7 +18,7 @@ use supply::Supply;
 
 /// What a worker starts with, and what it leaves.
 #[derive(Drop)]
-pub struct Pass {
+pub(crate) struct Pass {
     pub worker: Worker<Job, Deposit>,
     pub watcher: Watcher,
 }
@@ -55,7 +55,7 @@ fn deposit_for<G: Gate>(
 }
 
 /// Runs jobs until there are no more.
-pub fn work<R: Wait, G: Gate>(
+pub(crate) fn work<R: Wait, G: Gate>(
     rt: &R,
     alloc: Global,
     board: &EpochBoard,

@@ -12,16 +12,16 @@ use crate::instruction::Instruction::{
 use crate::register::Register::{A0, A1, A2, A3, A7, Ra, S0, S1, S2, S3, S4, T0, T1, Zero};
 
 /// Where the file is mapped.
-pub const FILE_ADDRESS: u32 = 0x0001_0000;
+pub(crate) const FILE_ADDRESS: u32 = 0x0001_0000;
 
 /// Bytes of the file's headers. The code follows them.
-pub const HEADER_BYTES: u32 = 84;
+pub(crate) const HEADER_BYTES: u32 = 84;
 
 /// Instructions of the code.
-pub const CODE_LEN: usize = 85;
+pub(crate) const CODE_LEN: usize = 85;
 
 /// Bytes of the file: headers, code, and two words.
-pub const FILE_BYTES: u32 = HEADER_BYTES + 4 * CODE_LEN as u32 + 8;
+pub(crate) const FILE_BYTES: u32 = HEADER_BYTES + 4 * CODE_LEN as u32 + 8;
 
 // Offsets in the file of the words behind the code: how many threads are spawned, and how many rounds each thread makes.
 const SPAWNED: u32 = FILE_BYTES - 8;
@@ -100,7 +100,7 @@ const RELEASE: u16 = 70;
 const HELD: u16 = 80;
 
 /// The code.
-pub const CODE: [Instruction; CODE_LEN] = [
+pub(crate) const CODE: [Instruction; CODE_LEN] = [
     // Thread 1: it spawns the others, each with a clear word of its own.
     Lui(S0, SHARED_ADDRESS),
     Lui(S1, FILE_ADDRESS),

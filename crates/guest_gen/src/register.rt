@@ -4,7 +4,7 @@ ghost use Rattle.guest_gen.specs.Register.{number_of};
 
 /// A register that made guests use.
 #[derive(Clone, Copy)]
-pub enum Register {
+pub(crate) enum Register {
     Zero,
     Ra,
     T0,

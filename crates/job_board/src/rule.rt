@@ -20,7 +20,7 @@ impl Size for Brand {
 }
 
 /// The rule of the job queue.
-pub struct JobsInOrder;
+pub(crate) struct JobsInOrder;
 
 impl<J> Protocol<JobItem<J>, View<JobItem<J>>> for JobsInOrder {
     ghost use Rattle.job_board.specs.Queue.{InOrder, root};
@@ -32,7 +32,7 @@ impl<J> Protocol<JobItem<J>, View<JobItem<J>>> for JobsInOrder {
 }
 
 /// The rule of the result queue.
-pub struct ResultsInOrder;
+pub(crate) struct ResultsInOrder;
 
 impl<R> Protocol<ResultItem<R>, View<ResultItem<R>>> for ResultsInOrder {
     ghost use Rattle.job_board.specs.Queue.{InOrder, root};

@@ -5,7 +5,7 @@ ghost use Rattle.journal_text.specs.Reading.{first_bytes};
 use dp_base::limits::MAX_JOURNAL_BYTES;
 
 /// As much of the file as is read.
-pub fn first_bytes(bytes: &[u8]) -> &[u8]
+pub(crate) fn first_bytes(bytes: &[u8]) -> &[u8]
     ensures { result.now ≡ first_bytes bytes.now }
 {
     if bytes.len() as u64 <= MAX_JOURNAL_BYTES {

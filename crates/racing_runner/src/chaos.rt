@@ -85,7 +85,7 @@ impl ChaosRacer {
 
 // An offer, and where the run goes on.
 #[derive(Drop)]
-pub struct Made {
+pub(crate) struct Made {
     offer: Offer,
     end: State,
 }

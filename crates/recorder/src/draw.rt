@@ -17,7 +17,11 @@ use supply::{InputFault, Supply};
 /// # Errors
 ///
 /// `InputFault` if input was due and could not be read. The clock wasn't read then.
-pub fn draw<I: Inlet>(inlet: &mut I, supply: &mut Supply, state: &State) -> Result<(), InputFault>
+pub(crate) fn draw<I: Inlet>(
+    inlet: &mut I,
+    supply: &mut Supply,
+    state: &State,
+) -> Result<(), InputFault>
     requires supply { IsSupply supply.old }
     requires room { supply.old.room ≡ MAX_ROOM }
     requires place { supply.old.place ≤ state.now.input }

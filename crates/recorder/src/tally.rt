@@ -9,7 +9,7 @@ use guest_kernel::State;
 /// What was committed so far: the number of epochs, of those since the last mark, and the bytes of output that were sent; the thread
 /// that is tried first in the next epoch; and the state of the last mark, or the start, which is the base of the next mark.
 #[derive(Drop)]
-pub struct Tally {
+pub(crate) struct Tally {
     pub first: u16,
     pub epochs: u32,
     pub since: u32,
@@ -19,7 +19,7 @@ pub struct Tally {
 
 /// What became of the next result of a round.
 #[derive(Clone, Copy)]
-pub enum Next {
+pub(crate) enum Next {
     /// It was committed. More may follow.
     Committed,
     /// It was squashed, and the round is over.

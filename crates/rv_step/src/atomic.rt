@@ -20,7 +20,7 @@ const STORE_DENIED: u8 = 7;
 
 /// How an instruction of the A extension ends. A trap's value is the address of the access.
 #[derive(Clone, Copy)]
-pub enum AtomicEnd {
+pub(crate) enum AtomicEnd {
     Went,
     LoadMisaligned,
     LoadDenied,
@@ -57,7 +57,7 @@ fn trap(cause: u8, value: u32) -> Stepped
 }
 
 /// LR: loads a word into a register, and reserves its address.
-pub fn load_reserved<M: Mem>(hart: &mut Hart, memory: &mut M, rd: u8, at: u32) -> AtomicEnd
+pub(crate) fn load_reserved<M: Mem>(hart: &mut Hart, memory: &mut M, rd: u8, at: u32) -> AtomicEnd
     requires { rd < 32 }
     ensures answer { IfSome (M.memory memory.old) (λ m. IfOk (outcome result at) (λ stepped. stepped ≡ answer_for (loads_reserved rd at hart.old m))) }
     ensures hart { IfSome (M.memory memory.old) (λ m. OnOk (outcome result at) (hart.new ≡ hart_after (loads_reserved rd at hart.old m) hart.old)) }
@@ -82,7 +82,7 @@ pub fn load_reserved<M: Mem>(hart: &mut Hart, memory: &mut M, rd: u8, at: u32) -
 }
 
 /// SC: stores a word where its address is reserved, and says in a register whether it has. The reservation ends.
-pub fn store_conditional<M: Mem>(
+pub(crate) fn store_conditional<M: Mem>(
     hart: &mut Hart,
     memory: &mut M,
     rd: u8,
@@ -152,7 +152,7 @@ fn fail_unheld<M: Mem>(hart: &mut Hart, memory: &mut M, rd: u8, at: u32) -> Atom
 }
 
 /// An AMO: loads a word into a register, and stores what the operation makes of it and a value.
-pub fn change_word<M: Mem>(
+pub(crate) fn change_word<M: Mem>(
     hart: &mut Hart,
     memory: &mut M,
     op: AmoOp,

@@ -14,7 +14,7 @@ const INSTRUCTION_MISALIGNED: u8 = 0;
 
 /// Writes a register and goes on behind the instruction.
 #[inline(always)]
-pub fn write(hart: &mut Hart, rd: u8, value: u32) -> Stepped
+pub(crate) fn write(hart: &mut Hart, rd: u8, value: u32) -> Stepped
     requires { rd < 32 }
     ensures answer { result ≡ Stepped.Went }
     ensures hart { hart.new ≡ next (with_register hart.old rd value) }
@@ -26,7 +26,7 @@ pub fn write(hart: &mut Hart, rd: u8, value: u32) -> Stepped
 
 /// AUIPC: writes the sum of pc and an immediate to a register.
 #[inline(always)]
-pub fn add_to_pc(hart: &mut Hart, rd: u8, imm: u32) -> Stepped
+pub(crate) fn add_to_pc(hart: &mut Hart, rd: u8, imm: u32) -> Stepped
     requires { rd < 32 }
     ensures answer { result ≡ Stepped.Went }
     ensures hart { hart.new ≡ next (with_register hart.old rd (wrapped (hart.old.pc + imm))) }
@@ -46,7 +46,7 @@ pub fn address(hart: &Hart, rs1: u8, imm: u32) -> u32
 
 /// JALR: jumps to the sum of a register and an immediate, with its lowest bit cleared. The register is read before `rd` is written.
 #[inline(always)]
-pub fn jump_register(hart: &mut Hart, rd: u8, rs1: u8, imm: u32) -> Stepped
+pub(crate) fn jump_register(hart: &mut Hart, rd: u8, rs1: u8, imm: u32) -> Stepped
     requires destination { rd < 32 }
     requires source { rs1 < 32 }
     ensures answer { (m : Memory) → result ≡ answer_for (jumps rd (address hart.old rs1 imm / 2 * 2) hart.old m) }
@@ -60,7 +60,7 @@ pub fn jump_register(hart: &mut Hart, rd: u8, rs1: u8, imm: u32) -> Stepped
 
 /// Jumps, and writes the address behind the instruction to a register.
 #[inline(always)]
-pub fn jump(hart: &mut Hart, rd: u8, target: u32) -> Stepped
+pub(crate) fn jump(hart: &mut Hart, rd: u8, target: u32) -> Stepped
     requires { rd < 32 }
     ensures answer { (m : Memory) → result ≡ answer_for (jumps rd target hart.old m) }
     ensures hart { (m : Memory) → hart.new ≡ hart_after (jumps rd target hart.old m) hart.old }
@@ -80,7 +80,7 @@ pub fn jump(hart: &mut Hart, rd: u8, target: u32) -> Stepped
 
 /// Goes on behind the instruction, or, where a branch is taken, at pc and its immediate.
 #[inline(always)]
-pub fn branch(hart: &mut Hart, taken: bool, imm: u32) -> Stepped
+pub(crate) fn branch(hart: &mut Hart, taken: bool, imm: u32) -> Stepped
     ensures answer { (m : Memory) → result ≡ answer_for (branches taken imm hart.old m) }
     ensures hart { (m : Memory) → hart.new ≡ hart_after (branches taken imm hart.old m) hart.old }
     ensures stays { (result ≡ Stepped.Went) ⊎ (hart.new ≡ hart.old) }

@@ -18,7 +18,7 @@ const BREAKPOINT: u8 = 3;
 
 /// Does an instruction. After all but `Went` the hart is unchanged, and so is a memory whose pages are known.
 #[inline(always)]
-pub fn execute<M: Mem>(
+pub(crate) fn execute<M: Mem>(
     instr: Instr,
     hart: &mut Hart,
     memory: &mut M,

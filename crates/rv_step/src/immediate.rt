@@ -3,7 +3,7 @@ ghost use Rattle.std.specs.Prelude.{◌≡◌};
 ghost use Rattle.rv_step.specs.Field.{immediate_b, immediate_i, immediate_j, immediate_s, immediate_u};
 
 #[inline(always)]
-pub fn immediate_i(word: u32) -> u32
+pub(crate) fn immediate_i(word: u32) -> u32
     ensures { result ≡ immediate_i word }
 {
     let bits = word >> 20;
@@ -15,7 +15,7 @@ pub fn immediate_i(word: u32) -> u32
 }
 
 #[inline(always)]
-pub fn immediate_s(word: u32) -> u32
+pub(crate) fn immediate_s(word: u32) -> u32
     ensures { result ≡ immediate_s word }
 {
     let bits = ((word >> 25) << 5) + ((word >> 7) & 0x1f);
@@ -27,7 +27,7 @@ pub fn immediate_s(word: u32) -> u32
 }
 
 #[inline(always)]
-pub fn immediate_b(word: u32) -> u32
+pub(crate) fn immediate_b(word: u32) -> u32
     ensures { result ≡ immediate_b word }
 {
     let bits = ((word >> 31) << 12)
@@ -42,14 +42,14 @@ pub fn immediate_b(word: u32) -> u32
 }
 
 #[inline(always)]
-pub fn immediate_u(word: u32) -> u32
+pub(crate) fn immediate_u(word: u32) -> u32
     ensures { result ≡ immediate_u word }
 {
     (word >> 12) << 12
 }
 
 #[inline(always)]
-pub fn immediate_j(word: u32) -> u32
+pub(crate) fn immediate_j(word: u32) -> u32
     ensures { result ≡ immediate_j word }
 {
     let bits = ((word >> 31) << 20)

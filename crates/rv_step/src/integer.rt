@@ -3,7 +3,7 @@ ghost use Rattle.std.specs.Prelude.{◌≡◌, ◌<◌};
 ghost use Rattle.rv_step.specs.Effect.{one_if, shift_of, shifted_left, shifted_right, shifted_right_arithmetic};
 
 #[inline(always)]
-pub fn one_if(holds: bool) -> u32
+pub(crate) fn one_if(holds: bool) -> u32
     ensures { result ≡ one_if holds }
 {
     if holds { 1 } else { 0 }
@@ -11,7 +11,7 @@ pub fn one_if(holds: bool) -> u32
 
 /// How far a shift by a register goes.
 #[inline(always)]
-pub fn shift_amount(value: u32) -> u32
+pub(crate) fn shift_amount(value: u32) -> u32
     ensures amount { result ≡ shift_of value }
     ensures small { result < 32 }
 {
@@ -19,7 +19,7 @@ pub fn shift_amount(value: u32) -> u32
 }
 
 #[inline(always)]
-pub fn shifted_left(value: u32, count: u32) -> u32
+pub(crate) fn shifted_left(value: u32, count: u32) -> u32
     requires { count < 32 }
     ensures { result ≡ shifted_left value count }
 {
@@ -27,7 +27,7 @@ pub fn shifted_left(value: u32, count: u32) -> u32
 }
 
 #[inline(always)]
-pub fn shifted_right(value: u32, count: u32) -> u32
+pub(crate) fn shifted_right(value: u32, count: u32) -> u32
     requires { count < 32 }
     ensures { result ≡ shifted_right value count }
 {
@@ -35,7 +35,7 @@ pub fn shifted_right(value: u32, count: u32) -> u32
 }
 
 #[inline(always)]
-pub fn shifted_right_arithmetic(value: u32, count: u32) -> u32
+pub(crate) fn shifted_right_arithmetic(value: u32, count: u32) -> u32
     requires { count < 32 }
     ensures { result ≡ shifted_right_arithmetic value count }
 {

@@ -16,7 +16,7 @@ const STORE_DENIED: u8 = 7;
 
 /// What a load makes of the bytes that it has got.
 #[derive(Clone, Copy, Debug, PartialEq, Eq)]
-pub enum Extension {
+pub(crate) enum Extension {
     Zero,
     Sign,
 }
@@ -58,7 +58,7 @@ fn sign_extended_half(value: u32) -> u32
 
 /// Loads the bytes at an address into a register.
 #[inline(always)]
-pub fn load<M: Mem>(
+pub(crate) fn load<M: Mem>(
     hart: &mut Hart,
     memory: &mut M,
     rd: u8,
@@ -87,7 +87,7 @@ pub fn load<M: Mem>(
 
 /// Stores the low bytes of a value at an address.
 #[inline(always)]
-pub fn store<M: Mem>(
+pub(crate) fn store<M: Mem>(
     hart: &mut Hart,
     memory: &mut M,
     at: u32,

@@ -5,11 +5,11 @@ ghost use Rattle.dp_base.specs.Counts.{Counted};
 use dp_base::{Access, AmoOp, Mem, OutOfMemory, Width};
 
 /// Where the memory begins.
-pub const BASE: u32 = 0x0001_0000;
+pub(crate) const BASE: u32 = 0x0001_0000;
 
 /// A memory of 64 bytes, with an answer of its own for each kind of access. Its pages aren't known to any proof.
 #[derive(Clone, Copy, PartialEq, Eq)]
-pub struct SmallMemory {
+pub(crate) struct SmallMemory {
     pub bytes: [u8; 64],
     pub fetches: Access<()>,
     pub reads: Access<()>,

@@ -23,7 +23,7 @@ const DATA_FLAGS: u8 = 6;
 const X7: u32 = 0x1357_2468;
 
 /// Returns whether a row's instruction does what the row says.
-pub fn agrees(alloc: Global, row: &Row) -> Result<bool, OutOfMemory>
+pub(crate) fn agrees(alloc: Global, row: &Row) -> Result<bool, OutOfMemory>
     ensures { IfOk result (λ agrees. (agrees ≡ true) ↔ (outcome row.now.word row.now.before ≡ Some row.now.after)) }
 {
     match run(alloc, row.word, &row.before)? {

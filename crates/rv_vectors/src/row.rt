@@ -6,7 +6,7 @@ use hex::FromHex;
 
 /// What stands in the registers and in the sixteen bytes before an instruction.
 #[derive(Clone, Copy, Debug, PartialEq, Eq)]
-pub struct Before {
+pub(crate) struct Before {
     pub x5: u32,
     pub x6: u32,
     pub bytes: [u8; 16],
@@ -14,7 +14,7 @@ pub struct Before {
 
 /// What stands there behind it, and how far pc went.
 #[derive(Clone, Copy, Debug, PartialEq, Eq)]
-pub struct After {
+pub(crate) struct After {
     pub x5: u32,
     pub x6: u32,
     pub x7: u32,
@@ -24,7 +24,7 @@ pub struct After {
 
 /// An instruction and what it does.
 #[derive(Clone, Copy, Debug, PartialEq, Eq)]
-pub struct Row {
+pub(crate) struct Row {
     pub word: u32,
     pub before: Before,
     pub after: After,
@@ -32,7 +32,7 @@ pub struct Row {
 
 /// Returns the row that a line has, or `None` if it has none: a name and nine fields, with one space between two of them.
 #[tactic(auto, unfolding(crate::specs::Reading::row_of))]
-pub fn parse(line: &str) -> Option<Row>
+pub(crate) fn parse(line: &str) -> Option<Row>
     ensures { result ≡ row_of line.now }
 {
     let (_name, rest) = field_at(line)?;

@@ -11,7 +11,7 @@ use std::alloc::Global;
 
 /// What a line of the input came to.
 #[derive(Clone, Copy, Debug, PartialEq, Eq)]
-pub enum Verdict {
+pub(crate) enum Verdict {
     /// Its instruction does what the row says.
     Agrees,
     /// Its instruction does something else, which may be a trap or a call, or its word is none.
@@ -23,7 +23,7 @@ pub enum Verdict {
 }
 
 /// Runs the instruction of the row that a line has, and returns what came of it.
-pub fn judge(alloc: Global, line: &str) -> Result<Verdict, OutOfMemory>
+pub(crate) fn judge(alloc: Global, line: &str) -> Result<Verdict, OutOfMemory>
     ensures rowless { IfOk result (λ verdict. is_rowless line.now ≡ true → verdict ≡ NoRow) }
     ensures row { IfOk result (λ verdict. is_rowless line.now ≡ false → MatchOption (row_of line.now) (verdict ≡ Unreadable) (λ row. IsVerdictOn row verdict)) }
 {

@@ -12,7 +12,7 @@ pub struct View {
 }
 
 /// The word is 1 exactly if the stopper has stopped, and is seen so only then.
-pub struct StopRule;
+pub(crate) struct StopRule;
 
 impl TableRule<u8, View, ()> for StopRule {
     ghost use Rattle.stop_word.specs.Stops.{Stops, first_view};

@@ -17,7 +17,7 @@ use stop_word::StopWord;
 use supply::Supply;
 
 /// Starts the racer, or runs it here if no thread can be made.
-pub fn start_racer<'s, E, R: Threads + Wait + Sync, Q: Racer + Drop + Send + 's>(
+pub(crate) fn start_racer<'s, E, R: Threads + Wait + Sync, Q: Racer + Drop + Send + 's>(
     scope: &Scope<'s, E>,
     rt: &'s R,
     alloc: Global,
@@ -61,7 +61,7 @@ pub fn start_racer<'s, E, R: Threads + Wait + Sync, Q: Racer + Drop + Send + 's>
 }
 
 /// Returns what the racer leaves, once it has returned.
-pub fn join_racer<R: Threads, Q: Racer + Drop>(
+pub(crate) fn join_racer<R: Threads, Q: Racer + Drop>(
     rt: &R,
     board: &EpochBoard,
     stop: &StopWord,

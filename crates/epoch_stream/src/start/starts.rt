@@ -62,7 +62,7 @@ fn start_one<'s, E, R: Threads + Wait + Sync, G: Gate + Sync>(
 }
 
 /// Starts all workers, in order.
-pub fn start_all<'s, E, R: Threads + Wait + Sync, G: Gate + Sync>(
+pub(crate) fn start_all<'s, E, R: Threads + Wait + Sync, G: Gate + Sync>(
     scope: &Scope<'s, E>,
     rt: &'s R,
     alloc: Global,
@@ -123,7 +123,7 @@ fn join_one<R: Threads>(
 }
 
 /// The workers, in order, once they have returned.
-pub fn join_all<R: Threads>(
+pub(crate) fn join_all<R: Threads>(
     rt: &R,
     board: &EpochBoard,
     supply: &Supply,
