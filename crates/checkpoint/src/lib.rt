@@ -21,15 +21,15 @@
 mod base_page;
 mod decoding;
 mod encoding;
-mod hash;
 pub mod laws;
 mod partial_decoding;
 mod partial_encoding;
 mod sink;
+mod state_digest;
 mod writer;
 
 pub use decoding::decode;
 pub use encoding::encode;
-pub use hash::digest;
 pub use partial_decoding::decode_partial;
 pub use partial_encoding::encode_partial;
+pub use state_digest::digest;

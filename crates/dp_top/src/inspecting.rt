@@ -3,7 +3,7 @@ ghost use Rattle.std.specs.Prelude.{◌≡◌, ◌≤◌};
 ghost use Rattle.disk_model.specs.Counts.{Rose};
 ghost use Rattle.dp_top.specs.Running.{InspectedTo};
 
-use crate::answer::status_of_inspected;
+use crate::command_status::status_of_inspected;
 use disk_model::World;
 use dp_report::Status;
 use epoch_replay::inspect;

@@ -21,7 +21,8 @@
 //! ```
 #![tactic(auto)]
 
-mod answer;
+mod command_status;
+mod commands;
 mod inspecting;
 pub mod laws;
 mod no_input;
@@ -31,7 +32,6 @@ mod replaying;
 mod self_test_fault;
 mod self_testing;
 mod tested_report;
-mod top;
 
+pub use commands::run;
 pub use dp_report::Status;
-pub use top::run;

@@ -9,7 +9,7 @@ ghost use Rattle.recorder.specs.Moments.{EachMoment};
 ghost use Rattle.recorder.specs.Recording.{Recorded};
 ghost use Rattle.dp_top.specs.Answer.{status_of};
 
-use crate::answer::status_of_answer;
+use crate::command_status::status_of_answer;
 use disk_model::{Gate, Inlet, World};
 use dp_report::Status;
 use guest_kernel::State;

@@ -6,7 +6,7 @@ ghost use Rattle.epoch_replay.specs.Replaying.{EachMoment, IsKnownToEnd, OnDisk}
 ghost use Rattle.journal_text.specs.Reading.{reads};
 ghost use Rattle.dp_top.specs.Running.{ReplayedTo};
 
-use crate::answer::status_of_replayed;
+use crate::command_status::status_of_replayed;
 use disk_model::World;
 use dp_report::Status;
 use epoch_replay::replay;

@@ -10,7 +10,7 @@ ghost use Rattle.journal_text.specs.Reading.{reads};
 ghost use Rattle.recorder.specs.declared.record_fault.RecordFault.TheVariants as faults;
 ghost use Rattle.dp_top.specs.SelfTesting.{MadeRecording, SelfTestedTo, Tested, default_options, of_recording, report_in, self_test_line};
 
-use crate::answer::status_of_self_test;
+use crate::command_status::status_of_self_test;
 use crate::laws;
 use crate::no_input::NoInput;
 use crate::replay_check::check_replay;

@@ -18,7 +18,7 @@
 
 mod command;
 mod command_line;
-mod matched;
+mod command_values;
 mod parsing;
 mod text;
 

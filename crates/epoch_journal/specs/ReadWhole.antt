@@ -1,8 +1,8 @@
 -- What `read_whole` gives. This project's own.
 use Rattle.std.specs.Prelude.{◌≡◌, ◌≤◌, ℕ, Bool, false, List, length, take, Option, Some, None, Result, Ok, Err, ⊤}
 use Rattle.dp_base.specs.declared.limits.TheConstants.{MAX_JOURNAL_BYTES}
-use Rattle.epoch_journal.specs.declared.whole.ReadFault.{ReadFault}
-use Rattle.epoch_journal.specs.declared.whole.ReadFault.TheVariants as reads
+use Rattle.epoch_journal.specs.declared.reading.ReadFault.{ReadFault}
+use Rattle.epoch_journal.specs.declared.reading.ReadFault.TheVariants as reads
 
 -- the first bytes of the disk, where it is known
 abbrev pub IsReadWhole : Option (List ℕ) → List ℕ → Type 0

@@ -17,9 +17,9 @@ mod append;
 mod begin;
 mod journal;
 pub mod laws;
-mod whole;
+mod reading;
 
 pub use append::AppendFault;
 pub use begin::BeginFault;
 pub use journal::Journal;
-pub use whole::{ReadFault, read_whole};
+pub use reading::{ReadFault, read_whole};

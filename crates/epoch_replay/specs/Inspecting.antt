@@ -3,8 +3,8 @@ use Rattle.std.specs.Prelude.{◌≡◌, ◌+◌, ◌-◌, ◌≤◌, ℕ, Bool,
 use Rattle.disk_model.specs.History.{History}
 use Rattle.disk_model.specs.Known.{IfKnown}
 use Rattle.disk_model.specs.Moments.{Always}
-use Rattle.epoch_journal.specs.declared.whole.ReadFault.{ReadFault}
-use Rattle.epoch_journal.specs.declared.whole.ReadFault.TheVariants as reads
+use Rattle.epoch_journal.specs.declared.reading.ReadFault.{ReadFault}
+use Rattle.epoch_journal.specs.declared.reading.ReadFault.TheVariants as reads
 use Rattle.journal_text.specs.Reading.{Reading, bad_record, end, tail_at}
 use Rattle.journal_text.specs.Records.{list_from, next_at}
 use Rattle.epoch_replay.specs.declared.inspect_fault.InspectFault.{InspectFault}

@@ -13,7 +13,7 @@ use Rattle.guest_kernel.specs.State.{without_reservation}
 use Rattle.guest_kernel.specs.Turn.{turn}
 use Rattle.epoch_runner.specs.Answering.{can_step}
 use Rattle.epoch_runner.specs.declared.bounds.Bounds.{Bounds}
-use Rattle.epoch_runner.specs.declared.stage.HintTurn.{HintTurn}
+use Rattle.epoch_runner.specs.declared.hint_stage.HintTurn.{HintTurn}
 use Rattle.epoch_runner.specs.Hinted.{Following, any_left, at_entry, is_thread, lefts}
 use Rattle.epoch_runner.specs.HintRun.{HasFollowed, HintedSoFar, IsHand, IsInHand, IsStopped, begins_by, hand_steps, hand_thread, with_hand, without_hand}
 use Rattle.epoch_runner.specs.Schedule.{Course, closed, closed_by, starting}

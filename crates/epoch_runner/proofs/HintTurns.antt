@@ -3,9 +3,9 @@ use Rattle.std.proofs.Common.{◌≡◌, ◌<◌, ◌≤◌, ℕ, true, false, c
 use Rattle.std.proofs.lemmas.Bool.{and_from, and_parts, cond-true, not-true, not_from_false}
 use Rattle.dp_base.specs.declared.tid.Tid.{Tid}
 use Rattle.guest_kernel.specs.declared.state.State.{State}
-use Rattle.epoch_runner.specs.declared.stage.HintTurn.{HintTurn}
-use Rattle.epoch_runner.specs.declared.stage.Stage.{Stage}
-use Rattle.epoch_runner.specs.declared.stage.Stage.TheVariants.{Others, Own, Last}
+use Rattle.epoch_runner.specs.declared.hint_stage.HintTurn.{HintTurn}
+use Rattle.epoch_runner.specs.declared.hint_stage.Stage.{Stage}
+use Rattle.epoch_runner.specs.declared.hint_stage.Stage.TheVariants.{Others, Own, Last}
 use Rattle.epoch_runner.specs.Hinted.{Following, HintedTurn, by_last_rule, by_others, by_own, by_stage, entry_turn, goes_plain, hinted, is_thread, last_rule, plain_turn, rule_1, rule_4}
 use Rattle.epoch_runner.specs.HintRun.{IsAt, IsNextTurn}
 use Rattle.epoch_runner.proofs.LowestThreads.{lowest_itself, lowest_passes}

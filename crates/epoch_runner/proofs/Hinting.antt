@@ -20,7 +20,7 @@ use Rattle.guest_kernel.specs.Threads.{thread_at}
 use Rattle.guest_kernel.specs.Turn.{turn, yields}
 use Rattle.epoch_runner.specs.Answering.{answers_for, ready_at, ready_by}
 use Rattle.epoch_runner.specs.declared.bounds.Bounds.{Bounds}
-use Rattle.epoch_runner.specs.declared.stage.HintTurn.{HintTurn}
+use Rattle.epoch_runner.specs.declared.hint_stage.HintTurn.{HintTurn}
 use Rattle.epoch_runner.specs.Hinted.{Following, HintedTurn, any_left, goes_plain, hinted, is_plain, is_thread, left_of, less, plain_turn}
 use Rattle.epoch_runner.specs.HintRun.{HasGonePlain, HasTaken, HasTurned, HintedSoFar, IsAt, IsHand, IsInHand, IsNextTurn, begins_by, hand_steps, with_steps, without_hand}
 use Rattle.epoch_runner.specs.Schedule.{Course, course, followed, next, progress, starting, step, takes_turn, turn_of, turned}

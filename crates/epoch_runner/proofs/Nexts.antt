@@ -13,8 +13,8 @@ use Rattle.guest_kernel.specs.Peek.{peeked}
 use Rattle.guest_kernel.specs.State.{has_ended}
 use Rattle.guest_kernel.specs.Threads.{thread_at}
 use Rattle.epoch_runner.specs.declared.bounds.Bounds.{Bounds}
-use Rattle.epoch_runner.specs.declared.stage.Stage.{Stage}
-use Rattle.epoch_runner.specs.declared.stage.Stage.TheVariants.{Others, Own, Last}
+use Rattle.epoch_runner.specs.declared.hint_stage.Stage.{Stage}
+use Rattle.epoch_runner.specs.declared.hint_stage.Stage.TheVariants.{Others, Own, Last}
 use Rattle.epoch_runner.specs.Answering.{can_step, is_ready, is_unanswered, ready_at, ready_by}
 use Rattle.epoch_runner.specs.Hinted.{Following, HintedTurn, any_left, by_last_rule, by_others, by_stage, entry_turn, goes_plain, hinted, is_plain, is_thread, last_rule, left_of, plain_turn, rule_1, rule_2, rule_3, rule_4}
 use Rattle.epoch_runner.specs.Lowest.{lowest_from}

@@ -7,8 +7,8 @@ use Rattle.dp_base.specs.declared.limits.TheConstants.{EPOCH_END_BYTES}
 use Rattle.dp_base.specs.declared.slice.Slice.{Slice}
 use Rattle.dp_base.specs.declared.tid.Tid.{Tid}
 use Rattle.dp_base.specs.Journal.{IsAnswer, steps_of}
-use Rattle.guest_kernel.specs.declared.kernel.Turn.{Turn}
-use Rattle.guest_kernel.specs.declared.kernel.Turn.TheVariants as answers
+use Rattle.guest_kernel.specs.declared.turn.Turn.{Turn}
+use Rattle.guest_kernel.specs.declared.turn.Turn.TheVariants as answers
 use Rattle.guest_kernel.specs.declared.state.State.{State}
 use Rattle.guest_kernel.specs.Answers.{bytes_read}
 use Rattle.guest_kernel.specs.Call.{After, Refusal}

@@ -18,9 +18,9 @@ use Rattle.epoch_runner.specs.Schedule.{Course, course, starting}
 use Rattle.epoch_runner.specs.SliceRun.{Traced}
 use Rattle.epoch_runner.specs.declared.bounds.Bounds.{Bounds}
 use Rattle.epoch_runner.specs.declared.following.Following as code
-use Rattle.epoch_runner.specs.declared.stage.HintTurn.{HintTurn}
-use Rattle.epoch_runner.specs.declared.stage.Stage.{Stage}
-use Rattle.epoch_runner.specs.declared.stage.Stage.TheVariants.{Others, Own, Last}
+use Rattle.epoch_runner.specs.declared.hint_stage.HintTurn.{HintTurn}
+use Rattle.epoch_runner.specs.declared.hint_stage.Stage.{Stage}
+use Rattle.epoch_runner.specs.declared.hint_stage.Stage.TheVariants.{Others, Own, Last}
 use Rattle.supply.specs.Supplied.{Supplied}
 use Rattle.sync_hints.specs.declared.hints.Hints.{Hints}
 use Rattle.sync_hints.specs.declared.hints.SyncHint.{SyncHint}

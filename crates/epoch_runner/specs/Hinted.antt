@@ -6,8 +6,8 @@ use Rattle.guest_kernel.specs.declared.state.State.{State}
 use Rattle.guest_kernel.specs.Peek.{peeked}
 use Rattle.epoch_runner.specs.Answering.{ready_at}
 use Rattle.epoch_runner.specs.Lowest.{lowest_from}
-use Rattle.epoch_runner.specs.declared.stage.Stage.{Stage}
-use Rattle.epoch_runner.specs.declared.stage.Stage.TheVariants.{Others, Own, Last}
+use Rattle.epoch_runner.specs.declared.hint_stage.Stage.{Stage}
+use Rattle.epoch_runner.specs.declared.hint_stage.Stage.TheVariants.{Others, Own, Last}
 use Rattle.supply.specs.Supplied.{Supplied}
 use Rattle.sync_hints.specs.declared.hints.Sc.{Sc}
 use Rattle.sync_hints.specs.declared.hints.Sc.TheVariants.{NotSc, Won, Lost}

@@ -5,8 +5,8 @@ ghost use Rattle.epoch_runner.specs.Schedule.{after_last};
 ghost use Rattle.epoch_runner.specs.Trace.{traced};
 
 use crate::bounds::Bounds;
-use crate::rules::is_thread;
-use crate::stage::HintTurn;
+use crate::hint_rules::is_thread;
+use crate::hint_stage::HintTurn;
 use crate::trace::Trace;
 use dp_base::{OutOfMemory, Slice, Tid};
 use guest_kernel::State;

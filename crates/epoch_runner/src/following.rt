@@ -3,9 +3,9 @@ ghost use Rattle.std.specs.Prelude.{◌≡◌, ◌≤◌, IfOk, IfNone, IfSome, 
 ghost use Rattle.epoch_runner.specs.Hinted.{any_left, at_entry, by_own, hinted, left_of, lefts, less};
 ghost use Rattle.epoch_runner.specs.HintRun.{IsNextTurn, following_of};
 
-use crate::left::{left_of, lefts};
-use crate::rules::{can_be_done, first_stage, goes_plain, lowest_plain};
-use crate::stage::{HintTurn, Stage};
+use crate::steps_left::{left_of, lefts};
+use crate::hint_rules::{can_be_done, first_stage, goes_plain, lowest_plain};
+use crate::hint_stage::{HintTurn, Stage};
 use dp_base::{OutOfMemory, Tid};
 use guest_kernel::State;
 use std::alloc::Global;

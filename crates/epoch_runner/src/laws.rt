@@ -19,7 +19,7 @@ ghost use Rattle.epoch_runner.specs.Supplying.{IsSuppliedBy, IsSuppliedRun};
 ghost use Rattle.sync_hints.specs.declared.hints.Hints.{Hints};
 ghost use Rattle.supply.specs.Supplied.{IsSupply, Supplied, end_of, refilled};
 
-use crate::kernel::{run_laws, turn_laws};
+use crate::kernel_laws::{run_laws, turn_laws};
 
 /// A state, hints, a supply and bounds determine the epoch: its slices, its answers, its output and its end.
 pub fn a_schedule_is_determined()

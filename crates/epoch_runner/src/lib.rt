@@ -23,20 +23,20 @@
 #![tactic(auto)]
 
 mod answer;
-mod begin;
 mod bounds;
-mod choice;
 mod course;
 mod epoch_run;
-mod follow;
 mod following;
-mod kernel;
+mod hint_phase;
+mod hint_rules;
+mod hint_stage;
+mod hint_turns;
+mod kernel_laws;
 pub mod laws;
-mod left;
-mod rules;
 mod run;
+mod schedule;
 mod slice;
-mod stage;
+mod steps_left;
 mod sync;
 mod trace;
 mod walk;
@@ -44,6 +44,6 @@ mod walk;
 pub use answer::{can_step, input_due};
 pub use bounds::Bounds;
 pub use epoch_run::{EpochRun, Ran};
+pub use hint_stage::Stage;
 pub use run::run_epoch;
-pub use stage::Stage;
 pub use walk::{NextTurn, Walk};

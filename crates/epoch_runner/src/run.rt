@@ -4,12 +4,12 @@ ghost use Rattle.epoch_runner.specs.Answering.{can_step};
 ghost use Rattle.epoch_runner.specs.Running.{HasRun, HasRunEpoch};
 
 use crate::answer::can_step;
-use crate::begin::{Begun, begin};
+use crate::hint_phase::{Begun, begin};
 use crate::bounds::Bounds;
-use crate::choice::next_thread;
+use crate::schedule::next_thread;
 use crate::course::Course;
 use crate::epoch_run::{EpochRun, Ran};
-use crate::kernel::{run_laws, turn_laws};
+use crate::kernel_laws::{run_laws, turn_laws};
 use crate::slice::run_slice;
 use dp_base::{Bytes, OutOfMemory, Slice};
 use epoch_record::Epoch;

@@ -14,8 +14,8 @@ ghost use Rattle.epoch_runner.specs.Trace.{traced};
 
 use crate::answer::{answer_to, can_take};
 use crate::bounds::Bounds;
-use crate::choice::is_long;
-use crate::kernel::turn_laws;
+use crate::schedule::is_long;
+use crate::kernel_laws::turn_laws;
 use crate::trace::Trace;
 use dp_base::{OutOfMemory, Tid};
 use guest_kernel::{Peek, State, Turn};

@@ -12,8 +12,8 @@ ghost use Rattle.sync_hints.specs.NoHints.{no_hints};
 
 use crate::answer::{can_step, ready_at};
 use crate::bounds::Bounds;
-use crate::choice::{is_long, lowest_from};
-use crate::kernel::turn_laws;
+use crate::schedule::{is_long, lowest_from};
+use crate::kernel_laws::turn_laws;
 use crate::slice::one_turn;
 use crate::sync::sync_of;
 use crate::trace::Trace;

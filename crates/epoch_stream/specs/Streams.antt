@@ -15,8 +15,8 @@ use Rattle.racing_runner.specs.declared.offer.More.{More}
 use Rattle.racing_runner.specs.Offers.{IfTold, Tells}
 use Rattle.epoch_runner.specs.declared.epoch_run.Ran.{Ran}
 use Rattle.epoch_stream.specs.declared.deposit.Deposit.{Deposit}
-use Rattle.epoch_stream.specs.declared.ready.Ready.{Ready}
-use Rattle.epoch_stream.specs.declared.ready.SetUp.{SetUp}
+use Rattle.epoch_stream.specs.declared.round_parts.Ready.{Ready}
+use Rattle.epoch_stream.specs.declared.round_parts.SetUp.{SetUp}
 use Rattle.epoch_stream.specs.Results.{IsResultOf}
 use Rattle.epoch_stream.specs.Offers.{AreFirstOf, AreJobs, offers_within}
 use Rattle.epoch_stream.specs.Takes.{HadEnough, WentOn}

@@ -10,7 +10,7 @@ use crate::bell::Bells;
 use crate::deposit::{Deposit, EpochBoard};
 use crate::hand_over::{Taken, take_all};
 use crate::race::{RaceEndOf, Raced, RacingOf};
-use crate::ready::Ready;
+use crate::round_parts::Ready;
 use crate::start::{join_all, join_racer, start_all, start_racer};
 use crate::taker::Taker;
 use disk_model::Gate;

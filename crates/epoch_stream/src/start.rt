@@ -11,8 +11,8 @@ use supply::Supply;
 mod racing;
 mod starts;
 
-pub use racing::{join_racer, start_racer};
-pub use starts::{join_all, start_all};
+pub(crate) use racing::{join_racer, start_racer};
+pub(crate) use starts::{join_all, start_all};
 
 /// What the racer's thread promises: the jobs on the board are made of its offers.
 #[derive(Drop)]

@@ -6,7 +6,7 @@ ghost use Rattle.epoch_stream.specs.Streams.{Streamed, and_then};
 use crate::bell::Bells;
 use crate::hand_over::Taken;
 use crate::race::{RaceEnd, Racing};
-use crate::ready::{SetUp, set_up};
+use crate::round_parts::{SetUp, set_up};
 use crate::round::{Finished, run_round};
 use crate::single::run_one;
 use crate::taker::Taker;

@@ -4,10 +4,10 @@ use Rattle.dp_base.specs.declared.limits.TheConstants.{MAX_BODY_BYTES}
 use Rattle.dp_base.specs.Journal as journal
 use Rattle.guest_state.specs.Checkpoint as state
 use Rattle.partial_mark.specs.Partial as marks
-use Rattle.journal_text.specs.declared.head.Head.{Head}
-use Rattle.journal_text.specs.declared.head.Head.TheVariants.{Whole, NoJournal}
-use Rattle.journal_text.specs.declared.next.Rec.{Rec}
-use Rattle.journal_text.specs.declared.next.Rec.TheVariants.{Epoch, Mark, Partial, End, Bad}
+use Rattle.journal_text.specs.declared.journal_header.Head.{Head}
+use Rattle.journal_text.specs.declared.journal_header.Head.TheVariants.{Whole, NoJournal}
+use Rattle.journal_text.specs.declared.record.Rec.{Rec}
+use Rattle.journal_text.specs.declared.record.Rec.TheVariants.{Epoch, Mark, Partial, End, Bad}
 use Rattle.journal_text.specs.Records.{body_of, bad, ended, epoch, found, mark, next_at, partial, record_in}
 
 -- what an answer says of a header at the start of a file

@@ -20,11 +20,11 @@
 #![tactic(auto)]
 
 mod frame;
-mod head;
+mod journal_header;
 pub mod laws;
-mod limit;
-mod next;
+mod read_limit;
+mod record;
 
 pub use frame::Frame;
-pub use head::{Head, header};
-pub use next::{MARK_KIND, Rec, next_record};
+pub use journal_header::{Head, header};
+pub use record::{MARK_KIND, Rec, next_record};

@@ -4,7 +4,7 @@ ghost use Rattle.guest_kernel.specs.State.{has_ended};
 ghost use Rattle.racing_runner.specs.Chaos.{bounds_of, flipped, made, offered, offers};
 ghost use Rattle.racing_runner.specs.Offers.{HasOffered};
 
-use crate::flip::flip;
+use crate::flipped_state::flip;
 use crate::offer::{More, Offer};
 use crate::plan::Plan;
 use crate::racer::{JobSink, Racer};

@@ -18,8 +18,8 @@
 #![tactic(auto)]
 
 mod chaos;
-mod flip;
-mod gather;
+mod flipped_state;
+mod gathered_offers;
 mod idle;
 mod offer;
 mod plan;
@@ -28,7 +28,7 @@ mod stretch;
 mod wild;
 
 pub use chaos::ChaosRacer;
-pub use gather::{Gather, offers_of};
+pub use gathered_offers::{Gather, offers_of};
 pub use idle::IdleRacer;
 pub use offer::{More, Offer};
 pub use plan::Plan;

@@ -43,7 +43,6 @@
 
 mod commit;
 mod committer;
-mod draw;
 mod due_mark;
 pub mod laws;
 mod options;
@@ -51,9 +50,10 @@ mod plan;
 mod ready;
 mod record_fault;
 mod recording;
+mod report;
 mod results;
+mod round_input;
 mod tally;
-mod telling;
 
 pub use commit::{CommitFault, commit_epoch};
 pub use dp_report::Report;

@@ -15,12 +15,12 @@ ghost use Rattle.recorder.specs.Taking.{outcome};
 ghost use Rattle.recorder.specs.declared.record_fault.RecordFault.TheVariants as faults;
 
 use crate::committer::Committer;
-use crate::draw::draw;
+use crate::round_input::draw;
 use crate::options::Options;
 use crate::plan::plan_of;
 use crate::record_fault::RecordFault;
 use crate::tally::{Next, Tally};
-use crate::telling::tell;
+use crate::report::tell;
 use commit_core::Core;
 use disk_model::{Gate, Inlet, World};
 use dp_base::OutOfMemory;

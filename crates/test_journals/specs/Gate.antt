@@ -1,7 +1,7 @@
 -- What is seen at a gate. This project's own.
 use Rattle.std.specs.Prelude.{ℕ, length}
-use Rattle.journal_text.specs.declared.next.Rec.{Rec}
-use Rattle.journal_text.specs.declared.next.Rec.TheVariants as records
+use Rattle.journal_text.specs.declared.record.Rec.{Rec}
+use Rattle.journal_text.specs.declared.record.Rec.TheVariants as records
 use Rattle.test_journals.specs.declared.gate.Kind.{Kind}
 use Rattle.test_journals.specs.declared.gate.Kind.TheVariants.{Epoch, Mark, Partial, End, Bad}
 

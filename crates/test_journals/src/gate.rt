@@ -1,6 +1,6 @@
 // What is seen at a gate.
 ghost use Rattle.std.specs.Prelude.{◌≡◌};
-ghost use Rattle.journal_text.specs.declared.next.Rec.{Rec};
+ghost use Rattle.journal_text.specs.declared.record.Rec.{Rec};
 ghost use Rattle.journal_text.specs.Reading.{first_bytes};
 ghost use Rattle.journal_text.specs.View.{IsNext};
 ghost use Rattle.test_journals.specs.Gate.{seen_as};

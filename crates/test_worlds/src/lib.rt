@@ -2,12 +2,12 @@
 #![tactic(auto)]
 
 mod failing;
-mod givens;
 mod letters;
+mod outside;
 
 pub use failing::{Failing, disk_of, fails_of, world_of};
-pub use givens::{file_named, inlet_of, texts_of};
 pub use letters::letters_of;
+pub use outside::{file_named, inlet_of, texts_of};
 
 #[cfg(test)]
 mod tests;

@@ -27,7 +27,7 @@ mod noted_words;
 mod pace;
 mod part;
 mod pass;
-mod plain;
+mod round_robin;
 mod stretch;
 mod thread_racer;
 mod thread_run;

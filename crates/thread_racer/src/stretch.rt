@@ -5,7 +5,7 @@ use crate::course::Course;
 use crate::kept_words::{KeptWords, blocks_of};
 use crate::pace::{Pace, cost_of_pass};
 use crate::pass::race_pass;
-use crate::plain::{run_to_end, use_quotas};
+use crate::round_robin::{run_to_end, use_quotas};
 use crate::thread_run::{
     Share, ThreadRun, add_threads, grant, logs_of, ready_count, running_count,
 };

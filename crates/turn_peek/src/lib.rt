@@ -21,9 +21,9 @@
 pub mod arguments;
 pub mod laws;
 mod peek;
-mod plain;
+mod plain_word;
 mod read_call;
 
 pub use peek::{Peek, peek_thread};
-pub use plain::is_plain;
+pub use plain_word::is_plain;
 pub use read_call::read_at_once;

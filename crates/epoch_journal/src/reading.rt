@@ -1,0 +1,80 @@
+// A whole journal is read.
+ghost use Rattle.std.specs.Prelude.{◌≡◌, ◌<◌, ◌≤◌, IfOk, IsErrOf, IsTrue, length};
+ghost use Rattle.dp_base.specs.declared.limits.TheConstants.{MAX_JOURNAL_BYTES};
+ghost use Rattle.disk_model.specs.Counts.{Rose};
+ghost use Rattle.disk_model.specs.Known.{known_disk};
+ghost use Rattle.epoch_journal.specs.ReadWhole.{IsReadOn, IsReadSoFar, IsReadWhole, MetNoOther};
+ghost use Rattle.epoch_journal.specs.declared.reading.ReadFault.TheVariants as reads;
+
+use disk_model::{Failed, World};
+use dp_base::OutOfMemory;
+use dp_base::field::write_bytes;
+use dp_base::limits::MAX_JOURNAL_BYTES;
+use std::alloc::Global;
+
+/// Why a journal was not read. The disk is as it was.
+#[derive(Clone, Copy, Debug, PartialEq, Eq)]
+pub enum ReadFault {
+    DiskFault,
+    OutOfMemory,
+}
+
+impl From<Failed> for ReadFault {
+    ghost from_gives = { λ _ e. e ≡ reads.DiskFault };
+
+    fn from(_: Failed) -> Self {
+        ReadFault::DiskFault
+    }
+}
+
+impl From<OutOfMemory> for ReadFault {
+    ghost from_gives = { λ _ e. e ≡ reads.OutOfMemory };
+
+    fn from(_: OutOfMemory) -> Self {
+        ReadFault::OutOfMemory
+    }
+}
+
+// Bytes that one read asks for at most.
+const CHUNK_BYTES: usize = 4096;
+
+/// Returns the disk's first 2^30 bytes, or all that it has.
+pub fn read_whole<W: World>(alloc: Global, world: &mut W) -> Result<Vec<u8>, ReadFault>
+    ensures bytes { IfOk result (λ bytes. IsReadWhole (known_disk (W.history world.old)) bytes.items) }
+    ensures few { IfOk result (λ bytes. length bytes.items ≤ MAX_JOURNAL_BYTES) }
+    ensures history { W.history world.new ≡ W.history world.old }
+    ensures cause { IsErrOf result ReadFault.DiskFault →
+        Rose (W.disk_faults world.old) (W.disk_faults world.new) }
+    ensures others { MetNoOther result (W.disk_faults world.old) (W.disk_faults world.new) }
+    ensures count { W.disk_faults world.old ≤ W.disk_faults world.new }
+    ensures sink { W.sink_faults world.new ≡ W.sink_faults world.old }
+{
+    let mut bytes = Vec::new(alloc);
+    let mut more = true;
+    'chunks: while more && bytes.len() < MAX_JOURNAL_BYTES as usize {
+        more = read_chunk(world, &mut bytes)?;
+    }
+    Ok(bytes)
+}
+
+// Reads on behind these bytes, up to 2^30 in all. Returns whether there was something.
+fn read_chunk<W: World>(world: &mut W, bytes: &mut Vec<u8>) -> Result<bool, ReadFault>
+    requires { length bytes.old.items < MAX_JOURNAL_BYTES }
+    ensures bytes { IfOk result (λ more. IsReadSoFar (known_disk (W.history world.old)) bytes.old.items →
+        IsReadOn (known_disk (W.history world.old)) bytes.new.items more) }
+    ensures few { IfOk result (λ more. length bytes.new.items ≤ MAX_JOURNAL_BYTES) }
+    ensures kept { IfOk result (λ more. length bytes.old.items ≤ length bytes.new.items) }
+    ensures grows { IfOk result (λ more. IsTrue more → length bytes.old.items < length bytes.new.items) }
+    ensures history { W.history world.new ≡ W.history world.old }
+    ensures cause { IsErrOf result ReadFault.DiskFault →
+        Rose (W.disk_faults world.old) (W.disk_faults world.new) }
+    ensures others { MetNoOther result (W.disk_faults world.old) (W.disk_faults world.new) }
+    ensures count { W.disk_faults world.old ≤ W.disk_faults world.new }
+    ensures sink { W.sink_faults world.new ≡ W.sink_faults world.old }
+{
+    let mut chunk = [0; CHUNK_BYTES];
+    let most = (MAX_JOURNAL_BYTES as usize - bytes.len()).min(CHUNK_BYTES);
+    let count = world.read_at(bytes.len() as u64, &mut chunk[..most])?;
+    write_bytes(bytes, &chunk[..count])?;
+    Ok(count > 0)
+}

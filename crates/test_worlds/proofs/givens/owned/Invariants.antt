@@ -1,5 +1,0 @@
-use Rattle.std.proofs.Common.{◌≡◌, map, take}
-use Rattle.test_worlds.proofs.givens.owned.Given as goal
-
-abbrev pub invariant-loop-piece : goal.invariant-loop-piece
-invariant-loop-piece l = map (λ v. v.items) l.owned.items ≡ map (λ piece. piece.now) (take l.piece-index l.pieces)
