@@ -11,7 +11,7 @@ use Rattle.dp_base.specs.Journal.{many_at}
 use Rattle.dp_base.proofs.Fields.{bind_some}
 use Rattle.guest_state.specs.declared.thread.Thread.{Thread}
 use Rattle.guest_state.specs.Checkpoint.{Checkpoint, checkpoint_from, thread_from, page_from, is_bounded, is_heap, live, rising, traps_within, if_bounded}
-use Rattle.checkpoint.specs.declared.decoding.Head.{Head}
+use Rattle.checkpoint.specs.declared.decoding.CheckpointHead.{CheckpointHead}
 use Rattle.checkpoint.specs.Reading.{behind_head, if_rising, rising_pages_at, with_head}
 
 many_length : {X : Type 0} (item : List ℕ → Option (X × List ℕ)) (n : ℕ) (bytes : List ℕ) (x : List X × List ℕ) → many_at item n bytes ≡ Some x → length x.0 ≡ n
@@ -23,7 +23,7 @@ many_length {X} item (suc n) bytes x is =
     sym (ap (λ (t : List X × List ℕ). length t.0) (same_Some _ _ b.2)) ∙ ap suc (many_length item n a.0.1 b.0 b.1)
 
 -- all that stands before the pages
-pub record BeforePages (body : List ℕ) (head : Head) (threads : List Thread) (page_count : ℕ) (behind : List ℕ) : Type 0 where
+pub record BeforePages (body : List ℕ) (head : CheckpointHead) (threads : List Thread) (page_count : ℕ) (behind : List ℕ) : Type 0 where
   pub rest : List ℕ
   pub page_counts : List ℕ
   pub head_at : checkpoint_from body ≡ behind_head (head, rest)
@@ -31,10 +31,10 @@ pub record BeforePages (body : List ℕ) (head : Head) (threads : List Thread) (
   pub page_count_at : number_at 2 page_counts ≡ Some (page_count, behind)
 
 -- what the head's clause says where one was read
-pub head_read : {A : Type 0} (f : A → Head × List ℕ) (o : Option A) (x : A) (r : Option (Checkpoint × List ℕ)) → o ≡ Some x → r ≡ with_head (option_map f o) → r ≡ behind_head (f x)
+pub head_read : {A : Type 0} (f : A → CheckpointHead × List ℕ) (o : Option A) (x : A) (r : Option (Checkpoint × List ℕ)) → o ≡ Some x → r ≡ with_head (option_map f o) → r ≡ behind_head (f x)
 head_read {A} f o x r is clause = clause ∙ ap (λ (p : Option A). with_head (option_map f p)) is
 
-module _ (body : List ℕ) (head : Head) (threads : List Thread) (page_count : ℕ) (behind : List ℕ) (h : BeforePages body head threads page_count behind) where
+module _ (body : List ℕ) (head : CheckpointHead) (threads : List Thread) (page_count : ℕ) (behind : List ℕ) (h : BeforePages body head threads page_count behind) where
   abbrev made : List Page → Checkpoint
   made pages = record { steps = head.steps; input = head.input; heap = head.heap; brk = head.brk; end = head.end; threads = threads; pages = pages }
 

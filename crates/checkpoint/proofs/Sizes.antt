@@ -7,7 +7,7 @@ use Rattle.byteorder.specs.Endian.{little_bytes}
 use Rattle.dp_base.specs.declared.limits.TheConstants.{MAX_BODY_BYTES}
 use Rattle.dp_base.specs.declared.page.Page.{Page}
 use Rattle.guest_state.specs.Checkpoint.{Checkpoint, IsCheckpoint, IsFreeHart, IsPageContent, IsThread, checkpoint_bytes, end_bytes, hart_bytes, page_bytes, thread_bytes, word}
-use Rattle.partial_mark.specs.Partial.{IsContent, IsPartial, IsPartialPage, Partial, PartialPage, content_bytes, fields_bytes, outline, page_outline, partial_bytes, partial_page_bytes}
+use Rattle.partial_mark.specs.Partial.{IsStoredContent, IsPartial, IsPartialPage, Partial, PartialPage, content_bytes, fields_bytes, outline, page_outline, partial_bytes, partial_page_bytes}
 use Rattle.guest_state.specs.declared.end.End.{End}
 use Rattle.guest_state.specs.declared.end.End.TheVariants as ends
 use Rattle.guest_state.specs.declared.hart.Hart.{Hart}
@@ -66,7 +66,7 @@ encoding_short c is =
 
 -- ---- of partial marks
 
-content_long : (content : Option (List ℕ)) → IsContent content → length (content_bytes content) ≤ 4097
+content_long : (content : Option (List ℕ)) → IsStoredContent content → length (content_bytes content) ≤ 4097
 content_long None is = omega arith
 content_long (Some bytes) is = omega (arith, is.0)
 

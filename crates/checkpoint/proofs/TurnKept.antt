@@ -8,7 +8,7 @@ use Rattle.dp_base.specs.declared.tid.Tid.{Tid}
 use Rattle.guest_state.specs.declared.thread.Thread.{Thread}
 use Rattle.guest_state.specs.declared.thread.Thread.TheVariants.{Runs, Waits, Gone}
 use Rattle.guest_kernel.specs.declared.state.State.{State}
-use Rattle.guest_kernel.specs.Call.{After, Refusal}
+use Rattle.guest_kernel.specs.Call.{After, TurnRefusal}
 use Rattle.guest_kernel.specs.State.{has_ended, without_reservation}
 use Rattle.guest_kernel.specs.Threads.{AreFew, thread_at}
 use Rattle.guest_kernel.specs.Turn.{turn, by_effect, by_thread}
@@ -18,11 +18,11 @@ use Rattle.checkpoint.proofs.Keeping.{built}
 use Rattle.checkpoint.proofs.TurnLaws.{Fits, Keeps, TurnLaws}
 use Rattle.checkpoint.proofs.Turning.{few_before, runs_keeps}
 
-abbrev KeepsAll : State → Tid → Result After Refusal → Type 0
+abbrev KeepsAll : State → Tid → Result After TurnRefusal → Type 0
 KeepsAll s tid (Ok after) = Fits s after.state tid × AreFew s.threads
 KeepsAll s tid (Err refusal) = Unit {0}
 
-with_few : (s : State) (tid : Tid) (r : Result After Refusal) → AreFew s.threads → Keeps s tid r → KeepsAll s tid r
+with_few : (s : State) (tid : Tid) (r : Result After TurnRefusal) → AreFew s.threads → Keeps s tid r → KeepsAll s tid r
 with_few s tid (Ok after) few keeps = (keeps, few)
 with_few s tid (Err refusal) few keeps = tt
 

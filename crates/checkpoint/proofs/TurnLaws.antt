@@ -12,7 +12,7 @@ use Rattle.guest_state.specs.Checkpoint.{IsThread, IsWord}
 use Rattle.dp_base.specs.Memory.{ArePages, Memory, stored}
 use Rattle.cow_pages.specs.Heap.{with_heap}
 use Rattle.guest_kernel.specs.declared.state.State.{State}
-use Rattle.guest_kernel.specs.Call.{After, Refusal}
+use Rattle.guest_kernel.specs.Call.{After, TurnRefusal}
 use Rattle.guest_kernel.specs.State.{without_reservation}
 use Rattle.guest_kernel.specs.Threads.{AreFew, awake, waits_on, woken}
 use Rattle.guest_kernel.specs.Turn.{turn}
@@ -55,6 +55,6 @@ pub record Fits (s left : State) (tid : Tid) : Type 0 where
   pub pages : PagesFit (without_reservation left tid).pages
   pub rest : left.steps < 2 ^ 64 → left.input < 2 ^ 64 → RestFits (without_reservation left tid) s.heap
 
-abbrev pub Keeps : State → Tid → Result After Refusal → Type 0
+abbrev pub Keeps : State → Tid → Result After TurnRefusal → Type 0
 Keeps s tid (Ok after) = Fits s after.state tid
 Keeps s tid (Err refusal) = Unit {0}

@@ -23,7 +23,7 @@ use Rattle.dp_base.specs.Memory.{Memory, bytes_with, loaded, put_bytes, stored}
 use Rattle.guest_state.specs.Register.{with_register, next}
 use Rattle.guest_kernel.specs.declared.state.State.{State}
 use Rattle.guest_kernel.specs.Break.{may_move_break, page_from, with_break}
-use Rattle.guest_kernel.specs.Call.{Written, answered, begins_to_wait, bytes_written, called, cleared, end_of_exit, end_of_waiting, exits, exits_all, is_cleared, may_spawn, sets_break, silent, spawned_hart, spawns, waits, waits_by, wakes, written, written_by, EAGAIN, EINVAL, ENOSYS, called_alone, has_clock, has_read}
+use Rattle.guest_kernel.specs.Call.{Written, answered, begins_to_wait, bytes_written, called, cleared, end_of_exit, end_of_waiting, exits, exits_all, is_cleared, may_spawn, sets_break, silent, spawned_hart, spawns, waits, waits_by, wakes, written_out, written_by, EAGAIN, EINVAL, ENOSYS, called_alone, has_clock, has_read}
 use Rattle.turn_peek.specs.Arguments.{a0, a1, a2, a3, minus, moved, EFAULT}
 use Rattle.dp_base.proofs.Lists.{all_append, all_set, get_set, set_set}
 use Rattle.guest_kernel.proofs.Places.{nonzero, place_of}
@@ -143,7 +143,7 @@ module _ (laws : TurnLaws) (s : State) (tid : Tid) (hart : Hart) (clear : ℕ) (
   abbrev HasWord : Written → Type 0
   HasWord w = IsWord w.answer
 
-  written_word : (memory : Memory) (fd addr len : ℕ) → HasWord (written memory fd addr len)
+  written_word : (memory : Memory) (fd addr len : ℕ) → HasWord (written_out memory fd addr len)
   written_word memory fd addr len =
       cond_both (not (fd == 1)) _ _ HasWord (λ _. omega arith)
       (λ _. cond_both (len == 0) _ _ HasWord (λ _. omega arith) (λ _. bytes_word (moved len) (bytes_with 4 memory addr (moved len)) (min-le_right len MAX_CALL_BYTES)))

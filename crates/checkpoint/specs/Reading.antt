@@ -4,10 +4,10 @@ use Rattle.dp_base.specs.declared.page.Page.{Page}
 use Rattle.dp_base.specs.Field.{◌>>=◌, number_at}
 use Rattle.dp_base.specs.Journal.{many_at}
 use Rattle.guest_state.specs.Checkpoint.{Checkpoint, if_bounded, page_from, rising, thread_from}
-use Rattle.checkpoint.specs.declared.decoding.Head.{Head}
+use Rattle.checkpoint.specs.declared.decoding.CheckpointHead.{CheckpointHead}
 
 -- what is left to read behind a head
-abbrev pub behind_head : Head × List ℕ → Option (Checkpoint × List ℕ)
+abbrev pub behind_head : CheckpointHead × List ℕ → Option (Checkpoint × List ℕ)
 behind_head head = do
   threads ← many_at thread_from head.0.thread_count head.1
   page_count ← number_at 2 threads.1
@@ -15,7 +15,7 @@ behind_head head = do
   if_bounded (record { steps = head.0.steps; input = head.0.input; heap = head.0.heap; brk = head.0.brk; end = head.0.end; threads = threads.0; pages = pages.0 }) pages.1
 
 -- a checkpoint by its head, where there is one
-abbrev pub with_head : Option (Head × List ℕ) → Option (Checkpoint × List ℕ)
+abbrev pub with_head : Option (CheckpointHead × List ℕ) → Option (Checkpoint × List ℕ)
 with_head head = head >>= behind_head
 
 abbrev pub if_rising : List Page × List ℕ → Option (List Page × List ℕ)

@@ -11,12 +11,12 @@ use dp_base::OutOfMemory;
 use dp_base::field::{read_u16, read_u32, read_u64};
 use dp_base::limits::MAX_PAGES;
 use guest_kernel::{Pages, State, Threads};
-use guest_state::{Bounds, End, Thread, live_count, read_end, read_page, read_thread};
+use guest_state::{CheckpointBounds, End, Thread, live_count, read_end, read_page, read_thread};
 use std::alloc::Global;
 
 // What a checkpoint has before its threads, and how many of them follow.
 #[derive(Clone, Copy)]
-struct Head {
+struct CheckpointHead {
     steps: u64,
     input: u64,
     heap: u32,
@@ -67,7 +67,7 @@ pub fn decode(alloc: Global, body: &[u8]) -> Result<Option<State>, OutOfMemory>
 
 // What stands before the threads, and the bytes behind it.
 #[tactic(auto, unfolding(guest_state::specs::Checkpoint::checkpoint_from))]
-fn read_head(bytes: &[u8]) -> Option<(Head, &[u8])>
+fn read_head(bytes: &[u8]) -> Option<(CheckpointHead, &[u8])>
     ensures { checkpoint_from bytes.now ≡ with_head (option_map (λ x. (x.0, x.1.now)) result) }
 {
     let (steps, rest) = read_u64(bytes)?;
@@ -76,7 +76,7 @@ fn read_head(bytes: &[u8]) -> Option<(Head, &[u8])>
     let (brk, rest) = read_u32(rest)?;
     let (end, rest) = read_end(rest)?;
     let (thread_count, rest) = read_u16(rest)?;
-    let head = Head {
+    let head = CheckpointHead {
         steps,
         input,
         heap,
@@ -88,7 +88,7 @@ fn read_head(bytes: &[u8]) -> Option<(Head, &[u8])>
 }
 
 // What the bounds are about, in a state with so many threads alive and so many pages, whose numbers rise.
-fn bounds_of(head: Head, live: usize, pages: u16) -> Bounds
+fn bounds_of(head: CheckpointHead, live: usize, pages: u16) -> CheckpointBounds
     ensures { result ≡ record {
       heap = head.heap;
       brk = head.brk;
@@ -99,7 +99,7 @@ fn bounds_of(head: Head, live: usize, pages: u16) -> Bounds
       rising = true;
     } }
 {
-    Bounds {
+    CheckpointBounds {
         heap: head.heap,
         brk: head.brk,
         end: head.end,

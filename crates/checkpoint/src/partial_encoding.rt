@@ -4,7 +4,7 @@ ghost use Rattle.std.specs.List.{flat_map};
 ghost use Rattle.byteorder.specs.Endian.{little_bytes};
 ghost use Rattle.dp_base.specs.View.{page_of};
 ghost use Rattle.guest_state.specs.Checkpoint.{end_bytes, thread_bytes, word};
-ghost use Rattle.partial_mark.specs.Base.{content_against, fields_of, has_bytes, page_against, partial_of};
+ghost use Rattle.partial_mark.specs.Base.{content_against, fields_of, has_base_bytes, page_against, partial_of};
 ghost use Rattle.partial_mark.specs.Partial.{content_bytes, counted_bytes, fields_bytes, partial_bytes, partial_page_bytes};
 ghost use Rattle.checkpoint.specs.Sink.{Adds};
 ghost use Rattle.checkpoint.specs.State.{IsEncodable, checkpoint_of};
@@ -90,7 +90,7 @@ fn write_page<S: Sink>(
 {
     write_word(sink, page.number)?;
     sink.put(&[page.flags])?;
-    if has_bytes(page.bytes, same_number) {
+    if has_base_bytes(page.bytes, same_number) {
         sink.put(&[0])
     } else {
         sink.put(&[1])?;
@@ -99,8 +99,8 @@ fn write_page<S: Sink>(
 }
 
 // Whether a page has these bytes.
-fn has_bytes(bytes: &[u8], page: Option<PageView<'_>>) -> bool
-    ensures { result ≡ has_bytes bytes.now (option_map page_of page.entry) }
+fn has_base_bytes(bytes: &[u8], page: Option<PageView<'_>>) -> bool
+    ensures { result ≡ has_base_bytes bytes.now (option_map page_of page.entry) }
 {
     match page {
         Some(page) => equal_bytes(page.bytes, bytes),

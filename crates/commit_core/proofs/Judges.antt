@@ -10,7 +10,7 @@ use Rattle.epoch_runner.specs.declared.epoch_run.EpochRun.{EpochRun}
 use Rattle.epoch_runner.specs.declared.epoch_run.Ran.{Ran}
 use Rattle.epoch_runner.specs.declared.epoch_run.Ran.TheVariants.{Epoch, Idle}
 use Rattle.guest_kernel.specs.declared.state.State.{State}
-use Rattle.commit_core.specs.JudgedRound.{AreLinked, IsJudged, IsWithin, RoundEnd, SaysOf, over, squashed, used_up}
+use Rattle.commit_core.specs.JudgedRound.{AreLinked, IsRoundJudged, IsWithin, RoundEnd, SaysOf, over, squashed, used_up}
 
 -- ---- lists
 
@@ -30,8 +30,8 @@ linked-push s t [] r l e = (e ∙ l, refl)
 linked-push s t (x ∷ runs) r l e = (l.0, linked-push x.end t runs r l.1 e)
 
 -- where the next result isn't committed the round is these epochs
-closes : (s t : State) (runs : List EpochRun) (rest : List Ran) (end : RoundEnd) → AreLinked s runs t → IsJudged t rest [] t end → IsJudged s (map Epoch runs ++ rest) runs t end
-closes s t [] rest end l j = subst (λ (x : State). IsJudged x rest [] t end) l j
+closes : (s t : State) (runs : List EpochRun) (rest : List Ran) (end : RoundEnd) → AreLinked s runs t → IsRoundJudged t rest [] t end → IsRoundJudged s (map Epoch runs ++ rest) runs t end
+closes s t [] rest end l j = subst (λ (x : State). IsRoundJudged x rest [] t end) l j
 closes s t (r ∷ runs) rest end l j = (l.0, (refl, closes r.end t runs rest end l.1 j))
 
 -- ---- the next result
@@ -44,9 +44,9 @@ module _ (s : State) (results : List Ran) (runs : List EpochRun) (core : Core) w
   next_stage : (rest : List Ran) → List Stage
   next_stage rest = map Taken rest
 
-  whole : (rest : List Ran) (end : RoundEnd) → results ≡ map Epoch runs ++ rest → AreLinked s runs core.committed → IsJudged core.committed rest [] core.committed end
-      → IsJudged s results runs core.committed end
-  whole rest end all linked j = subst (λ (l : List Ran). IsJudged s l runs core.committed end) (sym all) (closes s core.committed runs rest end linked j)
+  whole : (rest : List Ran) (end : RoundEnd) → results ≡ map Epoch runs ++ rest → AreLinked s runs core.committed → IsRoundJudged core.committed rest [] core.committed end
+      → IsRoundJudged s results runs core.committed end
+  whole rest end all linked j = subst (λ (l : List Ran). IsRoundJudged s l runs core.committed end) (sym all) (closes s core.committed runs rest end linked j)
 
   by_rest : (rest : List Ran) (verdict : Verdict) (there : Core) → results ≡ map Epoch runs ++ rest → core.jobs ≡ all_judged runs ++ map Taken rest → core.judged ≡ length runs → core.closed ≡ false → AreLinked s runs core.committed
       → JudgesNext core (slice_get (map Taken rest) 0) verdict there → SaysOf s results runs there verdict

@@ -17,13 +17,13 @@ pub data RoundEnd : Type 0 where
 
 -- Of these results, judged from a state, these epochs are committed, and the committed state is then that. They are the longest list of
 -- the first results in which each is an epoch that starts where the one before ended.
-abbrev pub IsJudged : State → List Ran → List EpochRun → State → RoundEnd → Type 0
-IsJudged s [] [] t end = (t ≡ s) × (end ≡ used_up)
-IsJudged s [] (y ∷ runs) t end = ⊥
-IsJudged s (Epoch r ∷ results) [] t end = (r.start ≢ s) × ((t ≡ s) × (end ≡ squashed))
-IsJudged s (Epoch r ∷ results) (x ∷ runs) t end = (r.start ≡ s) × ((x ≡ r) × IsJudged r.end results runs t end)
-IsJudged s (Idle x ∷ results) [] t end = (t ≡ s) × (((x ≡ s) × (end ≡ over)) ⊎ ((x ≢ s) × (end ≡ squashed)))
-IsJudged s (Idle x ∷ results) (y ∷ runs) t end = ⊥
+abbrev pub IsRoundJudged : State → List Ran → List EpochRun → State → RoundEnd → Type 0
+IsRoundJudged s [] [] t end = (t ≡ s) × (end ≡ used_up)
+IsRoundJudged s [] (y ∷ runs) t end = ⊥
+IsRoundJudged s (Epoch r ∷ results) [] t end = (r.start ≢ s) × ((t ≡ s) × (end ≡ squashed))
+IsRoundJudged s (Epoch r ∷ results) (x ∷ runs) t end = (r.start ≡ s) × ((x ≡ r) × IsRoundJudged r.end results runs t end)
+IsRoundJudged s (Idle x ∷ results) [] t end = (t ≡ s) × (((x ≡ s) × (end ≡ over)) ⊎ ((x ≢ s) × (end ≡ squashed)))
+IsRoundJudged s (Idle x ∷ results) (y ∷ runs) t end = ⊥
 
 -- epochs, each from the end of the one before
 abbrev pub AreLinked : State → List EpochRun → State → Type 0
@@ -42,9 +42,9 @@ pub record IsWithin (s : State) (results : List Ran) (runs : List EpochRun) (cor
 -- What a verdict says of such a round.
 abbrev pub SaysOf : State → List Ran → List EpochRun → Core → Verdict → Type 0
 SaysOf s results runs core (Commit epoch out) = (r : EpochRun) × ((epoch ≡ r.epoch) × ((out ≡ r.out) × ((core.committed ≡ r.end) × IsWithin s results (runs ++ r ∷ []) core)))
-SaysOf s results runs core (Squash i) = (i ≡ length runs + 1) × IsJudged s results runs core.committed squashed
-SaysOf s results runs core (Over i) = (i ≡ length runs + 1) × IsJudged s results runs core.committed over
-SaysOf s results runs core (NotYet i) = (i ≡ length runs + 1) × IsJudged s results runs core.committed used_up
+SaysOf s results runs core (Squash i) = (i ≡ length runs + 1) × IsRoundJudged s results runs core.committed squashed
+SaysOf s results runs core (Over i) = (i ≡ length runs + 1) × IsRoundJudged s results runs core.committed over
+SaysOf s results runs core (NotYet i) = (i ≡ length runs + 1) × IsRoundJudged s results runs core.committed used_up
 SaysOf s results runs core Noted = ⊥
 SaysOf s results runs core (Double i) = ⊥
 SaysOf s results runs core (Stranger i) = ⊥

@@ -24,8 +24,8 @@ pub record Core : Type 0 where
   pub closed : Bool
 
 -- a round in which nothing was offered
-abbrev pub fresh : State → (jobs : ℕ) → Core
-fresh s jobs = record { committed = s; max_jobs = jobs; jobs = []; judged = 0; closed = false }
+abbrev pub new_core : State → (jobs : ℕ) → Core
+new_core s jobs = record { committed = s; max_jobs = jobs; jobs = []; judged = 0; closed = false }
 
 -- how far a job is; none where it wasn't offered
 abbrev pub stage_at : List Stage → ℕ → Option Stage

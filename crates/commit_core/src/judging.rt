@@ -5,7 +5,7 @@ ghost use Rattle.epoch_runner.specs.declared.epoch_run.EpochRun.{EpochRun};
 ghost use Rattle.epoch_runner.specs.declared.epoch_run.Ran.TheVariants.{Epoch};
 ghost use Rattle.std.specs.Option.{option_copied};
 ghost use Rattle.dp_base.specs.declared.limits.TheConstants.{MAX_JOBS};
-ghost use Rattle.commit_core.specs.Judging.{HasApplied, HasJudged, IsJudgement, claimed, fresh, finished, offered, stage_at, taken};
+ghost use Rattle.commit_core.specs.Judging.{HasApplied, HasJudged, IsJudgement, claimed, new_core, finished, offered, stage_at, taken};
 
 use crate::event::Event;
 use crate::stage::Stage;
@@ -58,7 +58,7 @@ impl Core {
     pub fn round(alloc: Global, committed: State, jobs: u32) -> Result<Core, OutOfMemory>
         requires some { 0 < jobs }
         requires few { jobs ≤ MAX_JOBS }
-        ensures { IfOk result (λ core. core ≡ fresh committed jobs) }
+        ensures { IfOk result (λ core. core ≡ new_core committed jobs) }
     {
         let places = Vec::with_capacity(alloc, jobs as usize)?;
         Ok(Core {

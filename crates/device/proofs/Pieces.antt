@@ -10,7 +10,7 @@ use Rattle.disk_model.specs.declared.world.Stream.TheVariants.{Out, Note}
 use Rattle.disk_model.specs.History.{History, IsImage, Pending}
 use Rattle.disk_model.proofs.Moments.{always-then, always-weaker}
 use Rattle.disk_model.specs.Steps.{stream_of}
-use Rattle.device.specs.Sending.{IsOutSent, IsSending, IsSent, Sent, joined, other}
+use Rattle.device.specs.Sending.{IsOutSent, IsSending, IsSent, Sent, joined_pieces, other}
 
 -- a prefix of a text, with the number of its bytes
 prefix_same : (n : ℕ) (a more : List ℕ) → take (min n (length a)) (a ++ more) ≡ take n a
@@ -74,24 +74,24 @@ module _ (to : Stream) where
   )
 
 module _ (pieces : List (Bor (List ℕ))) where
-  joined-append : (xs ys : List (Bor (List ℕ))) → joined (xs ++ ys) ≡ joined xs ++ joined ys
+  joined-append : (xs ys : List (Bor (List ℕ))) → joined_pieces (xs ++ ys) ≡ joined_pieces xs ++ joined_pieces ys
   joined-append xs ys = ap concat (map-append (λ (p : Bor (List ℕ)). p.now) xs ys) ∙ concat-append (map (λ p. p.now) xs) (map (λ p. p.now) ys)
 
-  joined_more : (i : ℕ) (d : Bor (List ℕ)) → i < length pieces → joined (take (i + 1) pieces) ≡ joined (take i pieces) ++ (get_or pieces i d).now
-  joined_more i d within = ap joined (take_more pieces i d within) ∙ joined-append (take i pieces) (get_or pieces i d ∷ [])
-      ∙ ap (λ (l : List ℕ). joined (take i pieces) ++ l) (append-nil (get_or pieces i d).now)
+  joined_more : (i : ℕ) (d : Bor (List ℕ)) → i < length pieces → joined_pieces (take (i + 1) pieces) ≡ joined_pieces (take i pieces) ++ (get_or pieces i d).now
+  joined_more i d within = ap joined_pieces (take_more pieces i d within) ∙ joined-append (take i pieces) (get_or pieces i d ∷ [])
+      ∙ ap (λ (l : List ℕ). joined_pieces (take i pieces) ++ l) (append-nil (get_or pieces i d).now)
 
-  joined-cut : (i : ℕ) → joined pieces ≡ joined (take i pieces) ++ joined (drop i pieces)
-  joined-cut i = ap joined (sym (take-append-drop i pieces)) ∙ joined-append (take i pieces) (drop i pieces)
+  joined-cut : (i : ℕ) → joined_pieces pieces ≡ joined_pieces (take i pieces) ++ joined_pieces (drop i pieces)
+  joined-cut i = ap joined_pieces (sym (take-append-drop i pieces)) ∙ joined-append (take i pieces) (drop i pieces)
 
   pub piece_sent : (to : Stream) (i : ℕ) (d : Bor (List ℕ)) → i < length pieces → (s t u : History)
-      → Sent to (joined (take i pieces)) true s t → Sent to (get_or pieces i d).now true t u → Sent to (joined (take (i + 1) pieces)) true s u
+      → Sent to (joined_pieces (take i pieces)) true s t → Sent to (get_or pieces i d).now true t u → Sent to (joined_pieces (take (i + 1) pieces)) true s u
   piece_sent to i d within s t u so_far piece = subst (λ (l : List ℕ). Sent to l true s u) (sym (joined_more i d within))
-      (both_sent to (joined (take i pieces)) (get_or pieces i d).now true s t u so_far piece)
+      (both_sent to (joined_pieces (take i pieces)) (get_or pieces i d).now true s t u so_far piece)
 
   pub piece_not_sent : (to : Stream) (i : ℕ) (d : Bor (List ℕ)) → i < length pieces → (s t u : History)
-      → Sent to (joined (take i pieces)) true s t → Sent to (get_or pieces i d).now false t u → Sent to (joined pieces) false s u
+      → Sent to (joined_pieces (take i pieces)) true s t → Sent to (get_or pieces i d).now false t u → Sent to (joined_pieces pieces) false s u
   piece_not_sent to i d within s t u so_far piece =
-      let up_to : Sent to (joined (take (i + 1) pieces)) false s u = subst (λ (l : List ℕ). Sent to l false s u) (sym (joined_more i d within))
-      (both_sent to (joined (take i pieces)) (get_or pieces i d).now false s t u so_far piece) in
-      subst (λ (l : List ℕ). Sent to l false s u) (sym (joined-cut (i + 1))) (prefix_sent to (joined (take (i + 1) pieces)) (joined (drop (i + 1) pieces)) s u up_to)
+      let up_to : Sent to (joined_pieces (take (i + 1) pieces)) false s u = subst (λ (l : List ℕ). Sent to l false s u) (sym (joined_more i d within))
+      (both_sent to (joined_pieces (take i pieces)) (get_or pieces i d).now false s t u so_far piece) in
+      subst (λ (l : List ℕ). Sent to l false s u) (sym (joined-cut (i + 1))) (prefix_sent to (joined_pieces (take (i + 1) pieces)) (joined_pieces (drop (i + 1) pieces)) s u up_to)

@@ -10,7 +10,7 @@ use Rattle.disk_model.specs.Moments.{Always, Then}
 use Rattle.disk_model.specs.Steps.{Emitted, emitted}
 use Rattle.disk_model.proofs.Moments.{always-one, always-start, always-then, got-nothing}
 use Rattle.disk_model.specs.Steps.{stream_of}
-use Rattle.device.specs.Sending.{AreEmits, IsOutSent, IsSending, IsSent, SendCalls, Sent, left_of}
+use Rattle.device.specs.Sending.{AreEmits, IsOutSent, IsSending, IsSent, SendCalls, Sent, left_to_send}
 
 -- before the first part
 out-unsent : (to : Stream) (bytes before sent : List ℕ) → sent ≡ before → IsOutSent to bytes before sent
@@ -81,13 +81,13 @@ pub record IsSentByEmits (to : Stream) (bytes : List ℕ) (n : ℕ) (s t : Histo
 pub none_emitted : (to : Stream) (bytes : List ℕ) (s : History) → IsSentByEmits to bytes 0 s s
 none_emitted to bytes s = record { counts = []; emits = (refl, refl) }
 
-emits-push : (to : Stream) (bytes : List ℕ) (first n k : ℕ) (counts : List ℕ) (s t u : History) → AreEmits to bytes first counts n s t → Emitted to (left_of bytes n) (Ok k) t u → AreEmits to bytes first (counts ++ k ∷ []) (n + k) s u
+emits-push : (to : Stream) (bytes : List ℕ) (first n k : ℕ) (counts : List ℕ) (s t u : History) → AreEmits to bytes first counts n s t → Emitted to (left_to_send bytes n) (Ok k) t u → AreEmits to bytes first (counts ++ k ∷ []) (n + k) s u
 emits-push to bytes first n k [] s t u emits one =
-    (u, subst (λ (h : History). Emitted to (left_of bytes first) (Ok k) h u) emits.1 (subst (λ (m : ℕ). Emitted to (left_of bytes m) (Ok k) t u) emits.0 one), (ap (λ (m : ℕ). m + k) emits.0, refl))
+    (u, subst (λ (h : History). Emitted to (left_to_send bytes first) (Ok k) h u) emits.1 (subst (λ (m : ℕ). Emitted to (left_to_send bytes m) (Ok k) t u) emits.0 one), (ap (λ (m : ℕ). m + k) emits.0, refl))
 emits-push to bytes first n k (x ∷ counts) s t u emits one = (emits.0, emits.1, emits-push to bytes (first + x) n k counts emits.0 t u emits.2 one)
 
-pub emitted_more : (to : Stream) (bytes : List ℕ) (n k : ℕ) (s t u : History) → IsSentByEmits to bytes n s t → Emitted to (left_of bytes n) (Ok k) t u → IsSentByEmits to bytes (n + k) s u
+pub emitted_more : (to : Stream) (bytes : List ℕ) (n k : ℕ) (s t u : History) → IsSentByEmits to bytes n s t → Emitted to (left_to_send bytes n) (Ok k) t u → IsSentByEmits to bytes (n + k) s u
 emitted_more to bytes n k s t u a one = record { counts = a.counts ++ k ∷ []; emits = emits-push to bytes 0 n k a.counts s t u a.emits one }
 
-pub emit_failed : (to : Stream) (bytes : List ℕ) (n : ℕ) (why : Failed) (s t u : History) → IsSentByEmits to bytes n s t → Emitted to (left_of bytes n) (Err why) t u → SendCalls to bytes false s u
+pub emit_failed : (to : Stream) (bytes : List ℕ) (n : ℕ) (why : Failed) (s t u : History) → IsSentByEmits to bytes n s t → Emitted to (left_to_send bytes n) (Err why) t u → SendCalls to bytes false s u
 emit_failed to bytes n why s t u a one = (a.counts, n, t, a.emits, why, one)

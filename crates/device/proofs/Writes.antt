@@ -2,7 +2,7 @@
 use Rattle.std.proofs.Common.{◌≡◌, inl, inr, ℕ, true, false, List, [], length, refl, sym, ◌∙◌, ap, subst}
 use Rattle.disk_model.specs.History.{History, IsImage, Pending, now, nothing_pending, write_pending}
 use Rattle.disk_model.specs.Moments.{Always, Then}
-use Rattle.disk_model.specs.Steps.{Synced, Wrote, passed, written}
+use Rattle.disk_model.specs.Steps.{Synced, Wrote, passed, after_write}
 use Rattle.disk_model.proofs.Moments.{always-one, always-start, always-then, got-nothing}
 use Rattle.disk_model.proofs.Images.{image-pending, image-written}
 use Rattle.device.specs.Writing.{IsTorn, IsWrittenThrough}
@@ -22,8 +22,8 @@ module _ (at : ℕ) (bytes : List ℕ) (s : History) where
   while-pending = torn-then torn (λ image is. is)
 
   -- behind the write, or a part of it
-  written-always : (disk : List ℕ) → Always (IsTorn at count s) s (written at count disk s)
-  written-always disk = always-one (IsTorn at count s) s (written at count disk s) (record { pending = torn; sent = s.sent; piece = [] }) refl while-pending while-pending
+  written-always : (disk : List ℕ) → Always (IsTorn at count s) s (after_write at count disk s)
+  written-always disk = always-one (IsTorn at count s) s (after_write at count disk s) (record { pending = torn; sent = s.sent; piece = [] }) refl while-pending while-pending
 
   not-through : (t : History) → t.sent ≡ s.sent → t.noted ≡ s.noted → t.pending.synced ≡ s.pending.synced → Always (IsTorn at count s) s t → IsWrittenThrough at bytes false s t
   not-through t sent noted kept moments = record {
@@ -37,20 +37,20 @@ module _ (at : ℕ) (bytes : List ℕ) (s : History) where
   pub write-failed : (t : History) → Wrote at bytes false s t → IsWrittenThrough at bytes false s t
   write-failed t (inl e) = subst (IsWrittenThrough at bytes false s) (sym e)
       (not-through s refl refl refl (always-start (IsTorn at count s) s (torn-then s.pending (image-pending at count s.pending))))
-  write-failed t (inr w) = subst (IsWrittenThrough at bytes false s) (sym w.1) (not-through (written at count w.0 s) refl refl refl (written-always w.0))
+  write-failed t (inr w) = subst (IsWrittenThrough at bytes false s) (sym w.1) (not-through (after_write at count w.0 s) refl refl refl (written-always w.0))
 
   pub sync-failed : (t u : History) → Wrote at bytes true s t → Synced false t u → IsWrittenThrough at bytes false s u
   sync-failed t u w sync = behind (subst (λ (v : History). Synced false v u) w.1 sync)
     where
-      behind : Synced false (written at count w.0 s) u → IsWrittenThrough at bytes false s u
-      behind (inl e) = subst (IsWrittenThrough at bytes false s) (sym e) (not-through (written at count w.0 s) refl refl refl (written-always w.0))
-      behind (inr e) = subst (IsWrittenThrough at bytes false s) (sym e) (not-through (passed (written at count w.0 s)) refl refl refl
-          (always-then (IsTorn at count s) s (written at count w.0 s) (passed (written at count w.0 s)) (written-always w.0)
-          (always-one (IsTorn at count s) (written at count w.0 s) (passed (written at count w.0 s)) (now (written at count w.0 s)) refl while-pending while-pending)))
+      behind : Synced false (after_write at count w.0 s) u → IsWrittenThrough at bytes false s u
+      behind (inl e) = subst (IsWrittenThrough at bytes false s) (sym e) (not-through (after_write at count w.0 s) refl refl refl (written-always w.0))
+      behind (inr e) = subst (IsWrittenThrough at bytes false s) (sym e) (not-through (passed (after_write at count w.0 s)) refl refl refl
+          (always-then (IsTorn at count s) s (after_write at count w.0 s) (passed (after_write at count w.0 s)) (written-always w.0)
+          (always-one (IsTorn at count s) (after_write at count w.0 s) (passed (after_write at count w.0 s)) (now (after_write at count w.0 s)) refl while-pending while-pending)))
 
   pub written-through : (t u : History) → Wrote at bytes true s t → Synced true t u → IsWrittenThrough at bytes true s u
   written-through t u w sync =
-      let mid = written at count w.0 s in
+      let mid = after_write at count w.0 s in
       let end : History = record (passed mid) { pending = nothing_pending w.0 } in
       let end-is : u ≡ end = sync ∙ ap (λ (v : History). record (passed v) { pending = nothing_pending v.disk }) w.1 in
       subst (IsWrittenThrough at bytes true s) (sym end-is) (record {

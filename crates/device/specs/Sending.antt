@@ -39,23 +39,23 @@ abbrev pub Sent : Stream → List ℕ → Bool → History → History → Type 
 Sent to bytes ok before after = (count : ℕ) × IsSent to bytes count before after × (ok ≡ true → length bytes ≤ count)
 
 -- the bytes of all pieces, one piece behind another
-abbrev pub joined : List (Bor (List ℕ)) → List ℕ
-joined pieces = concat (map (λ piece. piece.now) pieces)
+abbrev pub joined_pieces : List (Bor (List ℕ)) → List ℕ
+joined_pieces pieces = concat (map (λ piece. piece.now) pieces)
 
 -- ---- its calls
 
 -- the bytes that are left behind so many
-abbrev pub left_of : List ℕ → ℕ → List ℕ
-left_of bytes n = take (length bytes - n) (drop n bytes)
+abbrev pub left_to_send : List ℕ → ℕ → List ℕ
+left_to_send bytes n = take (length bytes - n) (drop n bytes)
 
 -- One emit behind another, each of all that is left, of which so many were taken; before them some were sent, behind them so many.
 abbrev pub AreEmits : Stream → List ℕ → (sent : ℕ) → (counts : List ℕ) → (there : ℕ) → History → History → Type 0
 AreEmits to bytes sent [] there before after = (there ≡ sent) × (after ≡ before)
 AreEmits to bytes sent (k ∷ counts) there before after =
-    (mid : History) × Emitted to (left_of bytes sent) (Ok k) before mid × AreEmits to bytes (sent + k) counts there mid after
+    (mid : History) × Emitted to (left_to_send bytes sent) (Ok k) before mid × AreEmits to bytes (sent + k) counts there mid after
 
 -- all were sent, or one failed
 abbrev pub SendCalls : Stream → List ℕ → Bool → History → History → Type 0
 SendCalls to bytes true before after = (counts : List ℕ) × (there : ℕ) × AreEmits to bytes 0 counts there before after × (length bytes ≤ there)
 SendCalls to bytes false before after =
-    (counts : List ℕ) × (there : ℕ) × (mid : History) × AreEmits to bytes 0 counts there before mid × (why : Failed) × Emitted to (left_of bytes there) (Err why) mid after
+    (counts : List ℕ) × (there : ℕ) × (mid : History) × AreEmits to bytes 0 counts there before mid × (why : Failed) × Emitted to (left_to_send bytes there) (Err why) mid after

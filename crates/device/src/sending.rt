@@ -1,7 +1,7 @@
 ghost use Rattle.std.specs.Prelude.{◌≡◌, ◌≤◌, IsErr, OnOk, is_ok};
 ghost use Rattle.disk_model.specs.Counts.{Rose};
 ghost use Rattle.disk_model.specs.Known.{IfKnown};
-ghost use Rattle.device.specs.Sending.{SendCalls, Sent, joined};
+ghost use Rattle.device.specs.Sending.{SendCalls, Sent, joined_pieces};
 
 use disk_model::{Failed, Stream, World};
 
@@ -33,7 +33,7 @@ pub fn send_all<W: World>(world: &mut W, to: Stream, bytes: &[u8]) -> Result<(),
 ///
 /// `Failed` if the stream failed. Any prefix of all the pieces together may have been sent, and nothing else was.
 pub fn send_pieces<W: World>(world: &mut W, to: Stream, pieces: &[&[u8]]) -> Result<(), Failed>
-    ensures history { IfKnown (Sent to (joined pieces.now) (is_ok result)) (W.history world.old) (W.history world.new) }
+    ensures history { IfKnown (Sent to (joined_pieces pieces.now) (is_ok result)) (W.history world.old) (W.history world.new) }
     ensures none { OnOk result (W.sink_faults world.new ≡ W.sink_faults world.old) }
     ensures cause { IsErr result → Rose (W.sink_faults world.old) (W.sink_faults world.new) }
     ensures count { W.sink_faults world.old ≤ W.sink_faults world.new }

@@ -2,7 +2,7 @@
 use Rattle.std.specs.Prelude.{ℕ, ◌-◌, true, false, List, [], ◌∷◌, ◌++◌, length, take, replicate}
 use Rattle.disk_model.specs.History.{History, nothing_pending}
 use Rattle.disk_model.specs.Known.{overwritten}
-use Rattle.disk_model.specs.Steps.{written, truncated, passed, emitted}
+use Rattle.disk_model.specs.Steps.{after_write, truncated, passed, emitted}
 use Rattle.disk_mem.specs.declared.call.Call.{Call}
 use Rattle.disk_mem.specs.declared.call.Call.TheVariants.{Attach, Len, Read, Write, Cut, Sync, Emit}
 
@@ -19,8 +19,8 @@ abbrev pub after_call : Call → History → History
 after_call (Attach ok) h = h
 after_call (Len ok) h = h
 after_call (Read at count ok) h = h
-after_call (Write at bytes true) h = written at (length bytes) (overwritten at bytes (filled at h.disk)) h
-after_call (Write at bytes false) h = written at (length bytes) h.disk h
+after_call (Write at bytes true) h = after_write at (length bytes) (overwritten at bytes (filled at h.disk)) h
+after_call (Write at bytes false) h = after_write at (length bytes) h.disk h
 after_call (Cut size true) h = truncated size (take size h.disk) h
 after_call (Cut size false) h = truncated size h.disk h
 after_call (Sync true) h = record (passed h) { pending = nothing_pending h.disk }

@@ -86,7 +86,7 @@ impl Files for MemFiles {
                 self.counter.count_fault();
                 Err(FetchFault::Failed)
             }
-            Some(file) => Ok(first_bytes(&file.bytes, MAX_FETCH_BYTES).to_vec(alloc)?),
+            Some(file) => Ok(cut_to(&file.bytes, MAX_FETCH_BYTES).to_vec(alloc)?),
         }
     }
 }
@@ -105,7 +105,7 @@ fn find_named<'a>(files: &'a [NamedFile], name: &str) -> Option<&'a NamedFile>
 }
 
 // The first bytes, at most so many.
-fn first_bytes(bytes: &[u8], most: usize) -> &[u8]
+fn cut_to(bytes: &[u8], most: usize) -> &[u8]
     ensures bytes { result.now ≡ take most bytes.now }
     ensures few { length result.now ≤ most }
 {

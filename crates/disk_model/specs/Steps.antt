@@ -24,13 +24,13 @@ disk_changed disk pending h = record h {
 }
 
 -- behind a write that gave the disk this content, whole or in part
-abbrev pub written : (at count : ℕ) → (disk : List ℕ) → History → History
-written at count disk h = disk_changed disk (write_pending at count h.pending) h
+abbrev pub after_write : (at count : ℕ) → (disk : List ℕ) → History → History
+after_write at count disk h = disk_changed disk (write_pending at count h.pending) h
 
 -- A write. One that fails did nothing, or any part of its work, and its range is pending.
 abbrev pub Wrote : ℕ → List ℕ → Bool → History → History → Type 0
-Wrote at bytes true h there = (disk : List ℕ) × (there ≡ written at (length bytes) disk h) × (at ≤ length h.disk → disk ≡ overwritten at bytes h.disk)
-Wrote at bytes false h there = (there ≡ h) ⊎ ((disk : List ℕ) × (there ≡ written at (length bytes) disk h))
+Wrote at bytes true h there = (disk : List ℕ) × (there ≡ after_write at (length bytes) disk h) × (at ≤ length h.disk → disk ≡ overwritten at bytes h.disk)
+Wrote at bytes false h there = (there ≡ h) ⊎ ((disk : List ℕ) × (there ≡ after_write at (length bytes) disk h))
 
 -- A cut to this length is pending too. One past the end may lengthen the disk.
 abbrev pub cut_pending : ℕ → Pending → Pending

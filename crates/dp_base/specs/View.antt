@@ -6,9 +6,9 @@ use Rattle.dp_base.specs.declared.answer_view.AnswerView.TheVariants.{Read, Cloc
 use Rattle.dp_base.specs.declared.page.Page.{Page}
 use Rattle.dp_base.specs.declared.page.PageView.{PageView}
 
-abbrev pub answer_of : AnswerView → Answer
-answer_of (Read bytes) = answers.Read bytes.now
-answer_of (Clock reading) = answers.Clock reading
+abbrev pub answer_of_view : AnswerView → Answer
+answer_of_view (Read bytes) = answers.Read bytes.now
+answer_of_view (Clock reading) = answers.Clock reading
 
 abbrev pub page_of : PageView → Page
 page_of v = record { number = v.number; flags = v.flags; bytes = v.bytes.now }

@@ -4,7 +4,7 @@
 ghost use Rattle.std.specs.Prelude.{◌≡◌, ℕ, List, option_map, is_some};
 ghost use Rattle.dp_base.specs.Journal.{answer_at, clock_at, epoch_body_at, many_at, read_at, slice_at, steps_of};
 ghost use Rattle.dp_base.specs.Encoding.{whole};
-ghost use Rattle.dp_base.specs.View.{answer_of};
+ghost use Rattle.dp_base.specs.View.{answer_of_view};
 
 use crate::field::{read_bytes, read_u8, read_u16, read_u32, read_u64};
 use crate::journal::{CLOCK_KIND, EPOCH_KIND, READ_KIND};
@@ -31,7 +31,7 @@ pub fn read_slice(bytes: &[u8]) -> Option<(Slice, &[u8])>
 /// of more than 4,096 bytes.
 #[tactic(auto, unfolding(crate::specs::Journal::answer_at))]
 pub fn read_answer(bytes: &[u8]) -> Option<(AnswerView<'_>, &[u8])>
-    ensures { option_map (λ x. (answer_of x.0, x.1.now)) result ≡ answer_at bytes.now }
+    ensures { option_map (λ x. (answer_of_view x.0, x.1.now)) result ≡ answer_at bytes.now }
 {
     let (kind, rest) = read_u8(bytes)?;
     if kind == READ_KIND {
@@ -46,7 +46,7 @@ pub fn read_answer(bytes: &[u8]) -> Option<(AnswerView<'_>, &[u8])>
 // What a read took, behind its kind.
 #[tactic(auto, unfolding(crate::specs::Journal::read_at))]
 fn read_input(bytes: &[u8]) -> Option<(AnswerView<'_>, &[u8])>
-    ensures { option_map (λ x. (answer_of x.0, x.1.now)) result ≡ read_at bytes.now }
+    ensures { option_map (λ x. (answer_of_view x.0, x.1.now)) result ≡ read_at bytes.now }
 {
     let (size, rest) = read_u16(bytes)?;
     let (taken, rest) = read_bytes(rest, usize::from(size))?;
@@ -60,7 +60,7 @@ fn read_input(bytes: &[u8]) -> Option<(AnswerView<'_>, &[u8])>
 // A reading of the clock, behind its kind.
 #[tactic(auto, unfolding(crate::specs::Journal::clock_at))]
 fn read_clock(bytes: &[u8]) -> Option<(AnswerView<'_>, &[u8])>
-    ensures { option_map (λ x. (answer_of x.0, x.1.now)) result ≡ clock_at bytes.now }
+    ensures { option_map (λ x. (answer_of_view x.0, x.1.now)) result ≡ clock_at bytes.now }
 {
     let (reading, rest) = read_u64(bytes)?;
     Some((AnswerView::Clock(reading), rest))

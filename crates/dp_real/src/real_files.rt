@@ -62,11 +62,11 @@ fn read_file(runtime: &HostRuntime, name: &str, buffer: Vec<u8>) -> Result<Vec<u
     ensures few { IfOk result (λ bytes. length bytes.items ≤ length buffer.items) }
 {
     let mut file = tried("open", fs::open(runtime, name))?;
-    tried("read", first_bytes(runtime, &mut file, buffer))
+    tried("read", read_first(runtime, &mut file, buffer))
 }
 
 // The bytes that a reader gives up to its end, or the first of them, at most as many as the buffer has.
-fn first_bytes<C: Clock, R: Read>(
+fn read_first<C: Clock, R: Read>(
     clock: &C,
     reader: &mut R,
     mut buffer: Vec<u8>,

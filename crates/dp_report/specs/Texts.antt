@@ -30,14 +30,14 @@ image_faults =
     codes "TooLong" ∷ codes "NotElf" ∷ codes "NotClass32" ∷ codes "NotLittle" ∷ codes "NotExec" ∷ codes "NotRiscv" ∷ codes "BadTable"
     ∷ codes "Interp" ∷ codes "BadSegment" ∷ codes "TooManyPages" ∷ []
 
-abbrev pub image_fault : ℕ → List ℕ
-image_fault fault = get_or (codes "Unknown" ∷ image_faults) fault (codes "Unknown")
+abbrev pub image_fault_text : ℕ → List ℕ
+image_fault_text fault = get_or (codes "Unknown" ∷ image_faults) fault (codes "Unknown")
 
 abbrev pub status_line : Status → List ℕ
 status_line statuses.Ok = []
 status_line statuses.Usage = codes "usage: dpcli record GUEST JOURNAL [options], replay JOURNAL [--workers N], inspect JOURNAL, selftest N\n"
 status_line statuses.GuestFault = codes "dpcli: guest file could not be read\n"
-status_line (statuses.BadImage fault) = codes "dpcli: guest refused: " ++ decimal fault ++ codes " " ++ image_fault fault ++ codes "\n"
+status_line (statuses.BadImage fault) = codes "dpcli: guest refused: " ++ decimal fault ++ codes " " ++ image_fault_text fault ++ codes "\n"
 status_line statuses.InputFault = codes "dpcli: input failed\n"
 status_line statuses.DiskFault = codes "dpcli: journal device failed\n"
 status_line statuses.OutputFault = codes "dpcli: output failed\n"

@@ -2,8 +2,8 @@ ghost use Rattle.std.specs.Prelude.{◌≡◌, ◌≤◌, ◌++◌, IsErr, codes
 ghost use Rattle.disk_model.specs.Counts.{Rose};
 ghost use Rattle.disk_model.specs.Known.{IfKnown};
 ghost use Rattle.disk_model.specs.declared.world.Stream.TheVariants.{Note};
-ghost use Rattle.device.specs.Sending.{Sent, joined};
-ghost use Rattle.dp_report.specs.Texts.{image_fault, status_line};
+ghost use Rattle.device.specs.Sending.{Sent, joined_pieces};
+ghost use Rattle.dp_report.specs.Texts.{image_fault_text, status_line};
 
 use crate::output_fault::OutputFault;
 use crate::status::Status;
@@ -100,7 +100,7 @@ fn note_record<W: World>(world: &mut W, number: u32, said: &[u8]) -> Result<(), 
 
 // Emits these pieces on Note.
 fn note<W: World>(world: &mut W, pieces: &[&[u8]]) -> Result<(), OutputFault>
-    ensures history { IfKnown (Sent Note (joined pieces.now) (is_ok result)) (W.history world.old) (W.history world.new) }
+    ensures history { IfKnown (Sent Note (joined_pieces pieces.now) (is_ok result)) (W.history world.old) (W.history world.new) }
     ensures cause { IsErr result → Rose (W.sink_faults world.old) (W.sink_faults world.new) }
     ensures count { W.sink_faults world.old ≤ W.sink_faults world.new }
     ensures disk { W.disk_faults world.new ≡ W.disk_faults world.old }
@@ -113,7 +113,7 @@ fn note<W: World>(world: &mut W, pieces: &[&[u8]]) -> Result<(), OutputFault>
 
 // Why a guest's file is refused.
 fn image_fault_name(fault: u32) -> &'static [u8]
-    ensures { result.now ≡ image_fault fault }
+    ensures { result.now ≡ image_fault_text fault }
 {
     match fault {
         1 => b"TooLong",

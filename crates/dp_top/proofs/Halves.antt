@@ -9,7 +9,7 @@ use Rattle.dp_base.specs.Journal.{Epoch, IsGuest}
 use Rattle.disk_model.specs.History.{History}
 use Rattle.disk_model.specs.Input.{Input}
 use Rattle.dp_report.specs.declared.report.Report.{Report}
-use Rattle.epoch_replay.specs.Play.{Play, Played, Refusal, bad_image, no_journal, play_of, played, played_if, plays_to}
+use Rattle.epoch_replay.specs.Play.{Play, Played, PlayRefusal, bad_image, no_journal, play_of, played, played_if, plays_to}
 use Rattle.epoch_replay.specs.Replaying.{Ends, Replayed, report_of as report_in}
 use Rattle.epoch_replay.proofs.Going.{made}
 use Rattle.guest_kernel.specs.declared.state.State.{State}
@@ -35,7 +35,7 @@ played_in other (played p) = p
 played_in other no_journal = other
 played_in other (bad_image fault) = other
 
-abbrev state_in : State → Result State Refusal → State
+abbrev state_in : State → Result State PlayRefusal → State
 state_in other (Ok s) = s
 state_in other (Err why) = other
 

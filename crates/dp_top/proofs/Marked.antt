@@ -5,7 +5,7 @@ use Rattle.std.specs.Cmp.Lexicographic.{pointwise, other_text}
 use Rattle.checkpoint.specs.State.{checkpoint_of, state_bytes}
 use Rattle.dp_base.specs.Journal.{Epoch}
 use Rattle.epoch_replay.proofs.Going.{epoch_plays, made, partial_plays}
-use Rattle.epoch_replay.specs.Play.{Played, behind, is_right, is_right_if, play_from}
+use Rattle.epoch_replay.specs.Play.{Played, played_after, is_right, is_right_if, play_from}
 use Rattle.epoch_replay.specs.Replaying.{epochs_of}
 use Rattle.guest_kernel.specs.declared.state.State.{State}
 use Rattle.guest_kernel.specs.Slices.{chain}
@@ -65,7 +65,7 @@ marked_plays all every since base s (x ∷ xs) last output place chained number 
     let rest = marked_from all every then_ next f.here.state xs in
     ap (λ (l : List Record). play_from base s number l (end place)) (one_marked all every since base s x xs f.here f.ran)
     ∙ epoch_plays base s number x (kept all xs (marks_at every (since + 1) base f.here.state) ++ rest) (end place) (Ok f.here) f.ran
-    ∙ ap (behind f.here.output) (marks_play all xs every (since + 1) base f.here.state (number + 1) rest (end place) (made (Ok last) f.output)
+    ∙ ap (played_after f.here.output) (marks_play all xs every (since + 1) base f.here.state (number + 1) rest (end place) (made (Ok last) f.output)
     (marked_plays all every then_ next f.here.state xs last f.output place f.chained) (none_plays all every then_ next f.here.state xs last f.output place f.chained))
     ∙ ap (made (Ok last)) (sym f.joined)
 

@@ -10,7 +10,7 @@ use Rattle.dp_report.specs.declared.status.Status.TheVariants as statuses
 use Rattle.epoch_replay.specs.declared.replay_fault.ReplayFault.{ReplayFault}
 use Rattle.epoch_replay.specs.declared.replay_fault.ReplayFault.TheVariants as faults
 use Rattle.epoch_replay.specs.Faults.{MetNoOther}
-use Rattle.epoch_replay.specs.Replaying.{EachMoment, OnDisk, Replayed, output_of}
+use Rattle.epoch_replay.specs.Replaying.{EachReplayMoment, OnDisk, Replayed, output_of}
 use Rattle.epoch_replay.specs.Play.{plays_to}
 use Rattle.epoch_replay.proofs.Moments.{Moments, noted_moments, quiet}
 use Rattle.journal_text.specs.Reading.{reads}
@@ -31,8 +31,8 @@ pub attached : (before there after : Option History) (answer : Result Report Rep
     → OnDisk (known_disk there) (λ bytes. Replayed (reads bytes) there after answer) → ReplayedTo before after status
 attached before there after answer status same is replayed = (answer, is, subst (λ (h : Option History). OnDisk (known_disk h) (λ bytes. Replayed (reads bytes) h after answer)) same replayed)
 
-pub attached_moments : (before there after : Option History) → there ≡ before → OnDisk (known_disk there) (λ bytes. EachMoment (reads bytes) there after) → OnDisk (known_disk before) (λ bytes. EachMoment (reads bytes) before after)
-attached_moments before there after same each = subst (λ (h : Option History). OnDisk (known_disk h) (λ bytes. EachMoment (reads bytes) h after)) same each
+pub attached_moments : (before there after : Option History) → there ≡ before → OnDisk (known_disk there) (λ bytes. EachReplayMoment (reads bytes) there after) → OnDisk (known_disk before) (λ bytes. EachReplayMoment (reads bytes) before after)
+attached_moments before there after same each = subst (λ (h : Option History). OnDisk (known_disk h) (λ bytes. EachReplayMoment (reads bytes) h after)) same each
 
 -- at every moment the disk is as it was, and a prefix of the text that the disk's bytes say was sent
 abbrev pub Sends : (says : List ℕ → List ℕ) → (known : Option (List ℕ)) → (before after : Option History) → Type 0
@@ -46,7 +46,7 @@ abbrev replayed_text : List ℕ → List ℕ
 replayed_text bytes = output_of (plays_to (reads bytes))
 
 -- nothing was done
-pub quiet_moments : (before after : Option History) → after ≡ before → OnDisk (known_disk before) (λ bytes. EachMoment (reads bytes) before after)
+pub quiet_moments : (before after : Option History) → after ≡ before → OnDisk (known_disk before) (λ bytes. EachReplayMoment (reads bytes) before after)
 quiet_moments before after same = quiet_on replayed_text (known_disk before) before after same
 
 pub told_on : (says : List ℕ → List ℕ) (known : Option (List ℕ)) (before mid after : Option History) (text : List ℕ) (ok : Bool) → Sends says known before mid → IfKnown (Sent Note text ok) mid after
@@ -55,8 +55,8 @@ told_on says None before mid after text ok each line = (each.0, noted_moments (s
 told_on says (Some disk) before mid after text ok each line = noted_moments (says disk) text ok before mid after each line
 
 -- and then the status's line is sent
-pub told_moments : (before mid after : Option History) (text : List ℕ) (ok : Bool) → OnDisk (known_disk before) (λ bytes. EachMoment (reads bytes) before mid) → IfKnown (Sent Note text ok) mid after
-    → OnDisk (known_disk before) (λ bytes. EachMoment (reads bytes) before after)
+pub told_moments : (before mid after : Option History) (text : List ℕ) (ok : Bool) → OnDisk (known_disk before) (λ bytes. EachReplayMoment (reads bytes) before mid) → IfKnown (Sent Note text ok) mid after
+    → OnDisk (known_disk before) (λ bytes. EachReplayMoment (reads bytes) before after)
 told_moments before mid after text ok each line = told_on replayed_text (known_disk before) before mid after text ok each line
 
 -- ---- the counts of faults at Ok

@@ -21,7 +21,7 @@ use Rattle.epoch_replay.specs.declared.replay_fault.ReplayFault.TheVariants as r
 use Rattle.epoch_replay.specs.Inspecting.{SendsInOrder}
 use Rattle.disk_mem.specs.Replay.{start}
 use Rattle.dp_base.specs.Field.{AreBytes}
-use Rattle.epoch_replay.specs.Play.{Play, Refusal, bad_image, no_journal, played, plays_to}
+use Rattle.epoch_replay.specs.Play.{Play, PlayRefusal, bad_image, no_journal, played, plays_to}
 use Rattle.epoch_replay.specs.Replaying.{Ends, HasSent, Replayed, report_of}
 use Rattle.epoch_replay.proofs.Moments.{noted_moments, quiet, sent_moments}
 use Rattle.guest_gen.specs.Guest.{guest_file}
@@ -205,7 +205,7 @@ sent_plays law number readings ended file state options before left answer accep
 -- ---- a replay of it
 
 -- a play to its end
-abbrev IsWhole : Result State Refusal → Type 0
+abbrev IsWhole : Result State PlayRefusal → Type 0
 IsWhole (Ok s) = Unit {0}
 IsWhole (Err why) = ⊥
 

@@ -69,8 +69,8 @@ Did tells words files i j before after status =
 
 -- The command came to this, and then the status's line was sent on Note: all of it, or a prefix. At Ok it has no line: the
 -- report's has been sent by then, and an inspection and a self-test have none.
-abbrev pub Ran : Tells → List (String Global) → Option (List File) → (i j : Option Input) → (before after : Option History) → Status → (told : Bool) → Type 0
-Ran tells words files i j before after status told = (done : Option History) × Did tells words files i j before done status × IfKnown (Sent Note (status_line status) told) done after
+abbrev pub RanCommand : Tells → List (String Global) → Option (List File) → (i j : Option Input) → (before after : Option History) → Status → (told : Bool) → Type 0
+RanCommand tells words files i j before after status told = (done : Option History) × Did tells words files i j before done status × IfKnown (Sent Note (status_line status) told) done after
 
 -- the guest's file is refused
 abbrev pub IsBadImage : Status → Type 0

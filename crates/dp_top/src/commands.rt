@@ -2,14 +2,14 @@
 ghost use Rattle.std.specs.Prelude.{◌≡◌, ◌≤◌, ◌⊎◌, ℕ, Bool, false};
 ghost use Rattle.disk_model.specs.Counts.{Rose};
 ghost use Rattle.disk_model.specs.Known.{IfKnown, known_disk};
-ghost use Rattle.epoch_replay.specs.Replaying.{EachMoment, IsKnownToEnd, OnDisk};
+ghost use Rattle.epoch_replay.specs.Replaying.{EachReplayMoment, IsKnownToEnd, OnDisk};
 ghost use Rattle.journal_text.specs.Reading.{reads};
 ghost use Rattle.dp_words.specs.Commands.{are_taken};
 ghost use Rattle.elf_image.specs.Faults.{number_of};
 ghost use Rattle.dp_top.specs.Answer.{status_of_image};
 ghost use Rattle.dp_top.specs.Asking.{Asked, AskedInspection, AskedReplay, AskedSelfTest};
 ghost use Rattle.dp_top.specs.Moments.{EachListingMoment, EachTestMoment, EveryMoment, StillThroughout};
-ghost use Rattle.dp_top.specs.Running.{CameTo, Did, IsBadImage, IsKnownEmpty, IsKnownListed, IsNoFault, NamesGuest, Ran};
+ghost use Rattle.dp_top.specs.Running.{CameTo, Did, IsBadImage, IsKnownEmpty, IsKnownListed, IsNoFault, NamesGuest, RanCommand};
 
 use crate::inspecting::inspect_journal;
 use crate::recording::record_guest;
@@ -60,7 +60,7 @@ pub fn run<
     // What stands, by the status, and what was sent on Note. The line is cut off only where an emit has failed, and at `OutputFault` one more
     // than the answer's.
     ensures ran { (told : Bool) × (faults : ℕ)
-        × Ran (Q.tells racer) words.now (F.directory files.old) (I.input inlet.old) (I.input inlet.new) (W.history world) (W.history result.0) result.1 told
+        × RanCommand (Q.tells racer) words.now (F.directory files.old) (I.input inlet.old) (I.input inlet.new) (W.history world) (W.history result.0) result.1 told
         × (W.sink_faults world ≤ faults) × (faults ≤ W.sink_faults result.0)
         × (result.1 ≡ Status.OutputFault → Rose (W.sink_faults world) faults)
         × (told ≡ false → Rose faults (W.sink_faults result.0)) }
@@ -76,7 +76,7 @@ pub fn run<
 
     // At every moment of a replay the disk is as it was, and a prefix of the output that its journal plays to was sent.
     ensures every_replay_moment { AskedReplay words.now → OnDisk (known_disk (W.history world))
-        (λ bytes. EachMoment (reads bytes) (W.history world) (W.history result.0)) }
+        (λ bytes. EachReplayMoment (reads bytes) (W.history world) (W.history result.0)) }
 
     // At every moment of an inspection the disk is as it was, and a prefix of its journal's listing was sent.
     ensures every_listing_moment { AskedInspection words.now → OnDisk (known_disk (W.history world))
@@ -163,7 +163,7 @@ fn do_command<
     ensures no_call { (result.1 ≡ Status.Usage) ⊎ (result.1 ≡ Status.GuestFault)
         ⊎ (Asked words.now × IsBadImage result.1) → result.0 ≡ world }
     ensures replay_moments { AskedReplay words.now → OnDisk (known_disk (W.history world))
-        (λ bytes. EachMoment (reads bytes) (W.history world) (W.history result.0)) }
+        (λ bytes. EachReplayMoment (reads bytes) (W.history world) (W.history result.0)) }
     ensures none { result.1 ≡ Status.Ok → (I.input_faults inlet.new ≡ I.input_faults inlet.old)
         × (W.sink_faults result.0 ≡ W.sink_faults world) }
     ensures complete_replay { AskedReplay words.now → IsKnownToEnd (known_disk (W.history world)) →

@@ -2,7 +2,7 @@
 ghost use Rattle.std.specs.Prelude.{◌≡◌, ◌≤◌, ◌⊎◌};
 ghost use Rattle.disk_model.specs.Counts.{Rose};
 ghost use Rattle.disk_model.specs.Known.{known_disk};
-ghost use Rattle.epoch_replay.specs.Replaying.{EachMoment, IsKnownToEnd, OnDisk};
+ghost use Rattle.epoch_replay.specs.Replaying.{EachReplayMoment, IsKnownToEnd, OnDisk};
 ghost use Rattle.journal_text.specs.Reading.{reads};
 ghost use Rattle.dp_top.specs.Running.{ReplayedTo};
 
@@ -23,7 +23,7 @@ pub(crate) fn replay_journal<R: Threads + Sync, W: World>(
 ) -> (W, Status)
     ensures replayed { ReplayedTo (W.history world) (W.history result.0) result.1 }
     ensures moments { OnDisk (known_disk (W.history world))
-        (λ bytes. EachMoment (reads bytes) (W.history world) (W.history result.0)) }
+        (λ bytes. EachReplayMoment (reads bytes) (W.history world) (W.history result.0)) }
     ensures none { result.1 ≡ Status.Ok → W.sink_faults result.0 ≡ W.sink_faults world }
     ensures no_guest_fault { result.1 ≡ Status.GuestFault → ⊥ }
     ensures no_usage { result.1 ≡ Status.Usage → ⊥ }

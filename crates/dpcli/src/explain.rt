@@ -1,5 +1,5 @@
 // The lines that follow a status's line.
-use crate::help::{command_line, help};
+use crate::help::{help, help_command_line};
 use clap::error::ErrorKind;
 use disk_model::Stream;
 use dp_real::{RealFiles, RealInlet, RealWorld, Refusal};
@@ -70,7 +70,7 @@ pub(crate) fn explain_words(
     words: &[String],
     world: &mut RealWorld,
 ) -> Result<(), AllocError> {
-    if let Err(error) = command_line(alloc)?.try_get_matches_from(words) {
+    if let Err(error) = help_command_line(alloc)?.try_get_matches_from(words) {
         let (to, text) = match error.kind() {
             ErrorKind::DisplayHelp => (Stream::Out, help(alloc)?),
             ErrorKind::DisplayVersion => (Stream::Out, format!(in alloc; "{error}")?),

@@ -8,7 +8,7 @@ use std::alloc::{AllocError, Global};
 const VERSION: &str = "0.1, proved by Rattle, logic dac8208d650f15bf";
 
 /// The whole command line. It fails only if an allocation does.
-pub(crate) fn command_line<'a>(alloc: Global) -> Result<Command<'a>, AllocError> {
+pub(crate) fn help_command_line<'a>(alloc: Global) -> Result<Command<'a>, AllocError> {
     Command::new(alloc, "dpcli")
         .bin_name("dpcli")?
         .version(VERSION)
@@ -25,7 +25,7 @@ pub(crate) fn command_line<'a>(alloc: Global) -> Result<Command<'a>, AllocError>
 
 /// What each command does, and what it takes: the help of all of them. It fails only if an allocation does.
 pub(crate) fn help(alloc: Global) -> Result<String, AllocError> {
-    let mut text = command_line(alloc)?.render_help()?;
+    let mut text = help_command_line(alloc)?.render_help()?;
     text.push_str("\n")?;
     text.push_str(record(alloc)?.render_help()?.as_str())?;
     text.push_str("\n")?;

@@ -8,7 +8,7 @@ use Rattle.std.proofs.lemmas.List.Elements.{All-tail}
 use Rattle.std.proofs.Math.Seq.{take-append_seam}
 use Rattle.dp_base.specs.declared.limits.TheConstants.{PAGE_NUMBERS}
 use Rattle.elf_image.specs.declared.span.Span.{Span}
-use Rattle.elf_image.specs.Next.{IsLeast, IsNext}
+use Rattle.elf_image.specs.Next.{IsLeast, IsNextPassing}
 use Rattle.elf_image.specs.Segment.{MEMORY_END, has_page, pages_below, stack, start_pages}
 use Rattle.elf_image.proofs.Entries.{EndsInMemory}
 
@@ -40,7 +40,7 @@ first_passes p a (suc n) number left is size =
 unfoldable pub passing_from : (p : ℕ → Bool) (least numbers : ℕ) → List ℕ
 passing_from p least numbers = filter p (range_with_len least (numbers - least))
 
-pub none_left : (p : ℕ → Bool) (least numbers : ℕ) → IsNext p least None → passing_from p least numbers ≡ []
+pub none_left : (p : ℕ → Bool) (least numbers : ℕ) → IsNextPassing p least None → passing_from p least numbers ≡ []
 unfolding passing_from
 none_left p least numbers none = none_passes p least (numbers - least) none
 
@@ -70,7 +70,7 @@ too_many most pages found are =
 
 -- ---- tests that are joined
 
-pub next_alike : (p q : ℕ → Bool) (least : ℕ) (next : Option ℕ) → ((k : ℕ) → p k ≡ q k) → IsNext p least next → IsNext q least next
+pub next_alike : (p q : ℕ → Bool) (least : ℕ) (next : Option ℕ) → ((k : ℕ) → p k ≡ q k) → IsNextPassing p least next → IsNextPassing q least next
 next_alike p q least None same is = λ k from. sym (same k) ∙ is k from
 next_alike p q least (Some number) same is = record {
   from = is.from;

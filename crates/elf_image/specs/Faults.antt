@@ -7,7 +7,7 @@ use Rattle.dp_base.specs.declared.limits.TheConstants.{MAX_GUEST_BYTES, MAX_PAGE
 use Rattle.elf_image.specs.declared.image_fault.ImageFault.{ImageFault}
 use Rattle.elf_image.specs.declared.image_fault.ImageFault.TheVariants as faults
 use Rattle.elf_image.specs.declared.program_header.ProgramHeader.{ProgramHeader}
-use Rattle.elf_image.specs.File.{e_machine, e_phentsize, e_phnum, e_phoff, e_type, e_version, ei_class, ei_data, ei_version, is_interpreter, loaded, magic, program_headers}
+use Rattle.elf_image.specs.File.{e_machine, e_phentsize, e_phnum, e_phoff, e_type, e_version, ei_class, ei_data, ei_version, is_interpreter, loaded, elf_magic, program_headers}
 use Rattle.elf_image.specs.Segment.{MEMORY_END, on_the_stack, overlap, spans_of, start_pages}
 use Rattle.elf_image.specs.Image.{segments_of}
 
@@ -15,7 +15,7 @@ abbrev pub is_too_long : List ℕ → Bool
 is_too_long file = nat_lt MAX_GUEST_BYTES (length file)
 
 abbrev pub is_not_elf : List ℕ → Bool
-is_not_elf file = nat_lt (length file) 52 || not (pointwise nat_eq (take 4 file) magic) || not (ei_version file == 1) || not (e_version file == 1)
+is_not_elf file = nat_lt (length file) 52 || not (pointwise nat_eq (take 4 file) elf_magic) || not (ei_version file == 1) || not (e_version file == 1)
 
 -- ELFCLASS32
 abbrev pub is_not_class_32 : List ℕ → Bool

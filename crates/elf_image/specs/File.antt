@@ -11,8 +11,8 @@ field bytes offset file = little_number bytes (drop offset file)
 -- ---- the ELF header, 52 bytes
 
 -- EI_MAG0 to EI_MAG3
-abbrev pub magic : List ℕ
-magic = 0x7f ∷ 0x45 ∷ 0x4c ∷ 0x46 ∷ []
+abbrev pub elf_magic : List ℕ
+elf_magic = 0x7f ∷ 0x45 ∷ 0x4c ∷ 0x46 ∷ []
 
 abbrev pub ei_class : List ℕ → ℕ
 ei_class file = field 1 4 file

@@ -8,6 +8,6 @@ pub record IsLeast (passes : ℕ → Bool) (least number : ℕ) : Type 0 where
   pub none_before : (k : ℕ) → least ≤ k → k < number → passes k ≡ false
 
 -- the least from one on that passes, if there is one
-abbrev pub IsNext : (passes : ℕ → Bool) (least : ℕ) → Option ℕ → Type 0
-IsNext passes least None = (k : ℕ) → least ≤ k → passes k ≡ false
-IsNext passes least (Some number) = IsLeast passes least number
+abbrev pub IsNextPassing : (passes : ℕ → Bool) (least : ℕ) → Option ℕ → Type 0
+IsNextPassing passes least None = (k : ℕ) → least ≤ k → passes k ≡ false
+IsNextPassing passes least (Some number) = IsLeast passes least number

@@ -1,7 +1,7 @@
 // What is asked of the segments of a file together.
 ghost use Rattle.std.specs.Prelude.{◌≡◌, ◌+◌, ◌≤◌, ◌++◌, ◌||◌, ℕ, Bool, [], ◌∷◌, All, IfOk, take};
 ghost use Rattle.std.specs.List.{list_any};
-ghost use Rattle.elf_image.specs.Next.{IsNext};
+ghost use Rattle.elf_image.specs.Next.{IsNextPassing};
 ghost use Rattle.elf_image.specs.Segment.{MEMORY_END, has_page, heap_start, meet, overlap, stack, start_pages};
 
 use crate::span::{STACK, Span};
@@ -49,7 +49,7 @@ pub(crate) fn first_pages(alloc: Global, spans: &[Span]) -> Result<Vec<u32>, Out
 
 // The least number from one on of a page that has a byte of one of the spans or of the stack.
 fn next_page(spans: &[Span], least: u32) -> Option<u32>
-    ensures { IsNext (λ number. list_any (λ s. has_page s number) (spans.now ++ stack ∷ [])) least result }
+    ensures { IsNextPassing (λ number. list_any (λ s. has_page s number) (spans.now ++ stack ∷ [])) least result }
 {
     let mut next = None;
     for span in spans {
@@ -60,7 +60,7 @@ fn next_page(spans: &[Span], least: u32) -> Option<u32>
 
 // The lesser of two numbers, or the one that there is.
 fn lesser(a: Option<u32>, b: Option<u32>) -> Option<u32>
-    ensures { (p q : ℕ → Bool) (least : ℕ) → IsNext p least a → IsNext q least b → IsNext (λ k. p k || q k) least result }
+    ensures { (p q : ℕ → Bool) (least : ℕ) → IsNextPassing p least a → IsNextPassing q least b → IsNextPassing (λ k. p k || q k) least result }
 {
     match (a, b) {
         (Some(a), Some(b)) => Some(a.min(b)),

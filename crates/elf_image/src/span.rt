@@ -16,7 +16,7 @@ pub(crate) const STACK: Span = Span {
 
 impl Span {
     ghost use Rattle.std.specs.Prelude.{◌≡◌, ◌+◌};
-    ghost use Rattle.elf_image.specs.Next.{IsNext};
+    ghost use Rattle.elf_image.specs.Next.{IsNextPassing};
     ghost use Rattle.elf_image.specs.Segment.{has_page, meet};
 
     /// Returns the first address behind it.
@@ -46,7 +46,7 @@ impl Span {
 
     /// Returns the least number from one on of a page that has a byte of it.
     pub fn next_page(self, least: u32) -> Option<u32>
-        ensures { IsNext (has_page self) least result }
+        ensures { IsNextPassing (has_page self) least result }
     {
         if self.size == 0 {
             return None;

@@ -9,7 +9,7 @@ use Rattle.dp_base.proofs.Fields.{AreBytes-right}
 use Rattle.dp_base.proofs.Records.{header_code}
 use Rattle.dp_base.proofs.Sizes.{length-header}
 use Rattle.journal_text.specs.Reading.{IsMadeOf, IsTail, end, ending, journal_of, reads}
-use Rattle.journal_text.specs.Records.{IsRecord, Next, Record, body_of, ended, fitting_at, next_at, record_bytes}
+use Rattle.journal_text.specs.Records.{IsRecord, NextRecord, Record, body_of, ended, fitting_at, next_at, record_bytes}
 use Rattle.journal_text.proofs.Files.{no_journal, whole}
 use Rattle.journal_text.proofs.Records.{fitting_taken, next_behind_closed, next_none}
 use Rattle.epoch_journal.specs.Images.{Reads}
@@ -68,7 +68,7 @@ reads-up-to guest records_ rest is are none fits =
       joined = append_assoc (header guest) (flat_map record_bytes records_) rest;
       guest = is;
       records = are;
-      tail = subst (λ (next : Next). IsTail next place (length records_ + 1) (end place)) (sym none) refl;
+      tail = subst (λ (next : NextRecord). IsTail next place (length records_ + 1) (end place)) (sym none) refl;
     } in
     (place, whole file (ending guest records_ place) (subst (λ (b : List ℕ). IsMadeOf b (ending guest records_ place)) (sym (take_all MAX_JOURNAL_BYTES file fits)) made))
 

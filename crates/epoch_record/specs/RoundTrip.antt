@@ -8,15 +8,15 @@ use Rattle.epoch_record.specs.declared.epoch.Epoch.{Epoch}
 use Rattle.epoch_record.specs.Epoch.{epoch_of}
 
 -- what `encode` gives
-abbrev pub encoded : Epoch → List ℕ
-encoded e = epoch_body (epoch_of e)
+abbrev pub encoded_epoch : Epoch → List ℕ
+encoded_epoch e = epoch_body (epoch_of e)
 
 -- what `decode` finds
-abbrev pub decoded : List ℕ → Option journals.Epoch
-decoded bytes = whole epoch_body_at bytes
+abbrev pub decoded_epoch : List ℕ → Option journals.Epoch
+decoded_epoch bytes = whole epoch_body_at bytes
 
 abbrev pub EveryEpochComesBack : Type 0
-EveryEpochComesBack = (e : Epoch) → IsEpoch (epoch_of e) → decoded (encoded e) ≡ Some (epoch_of e)
+EveryEpochComesBack = (e : Epoch) → IsEpoch (epoch_of e) → decoded_epoch (encoded_epoch e) ≡ Some (epoch_of e)
 
 abbrev pub EveryBodyComesBack : Type 0
-EveryBodyComesBack = (bytes : List ℕ) (e : Epoch) → AreBytes bytes → decoded bytes ≡ Some (epoch_of e) → (encoded e ≡ bytes) × IsEpoch (epoch_of e)
+EveryBodyComesBack = (bytes : List ℕ) (e : Epoch) → AreBytes bytes → decoded_epoch bytes ≡ Some (epoch_of e) → (encoded_epoch e ≡ bytes) × IsEpoch (epoch_of e)

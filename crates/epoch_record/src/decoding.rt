@@ -2,7 +2,7 @@
 ghost use Rattle.std.specs.Prelude.{◌≡◌, IfOk, option_map, nat_le};
 ghost use Rattle.dp_base.specs.Encoding.{whole};
 ghost use Rattle.dp_base.specs.Journal.{answer_at, epoch_body_at, many_at, slice_at, steps_of};
-ghost use Rattle.dp_base.specs.View.{answer_of};
+ghost use Rattle.dp_base.specs.View.{answer_of_view};
 ghost use Rattle.epoch_record.specs.Epoch.{epoch_of};
 
 use crate::epoch::Epoch;
@@ -101,7 +101,7 @@ fn read_answers(
 
 // The answer, with a copy of the bytes that it lends.
 fn owned(alloc: Global, view: AnswerView<'_>) -> Result<Answer, OutOfMemory>
-    ensures { IfOk result (λ answer. answer ≡ answer_of view.entry) }
+    ensures { IfOk result (λ answer. answer ≡ answer_of_view view.entry) }
 {
     match view {
         AnswerView::Read(bytes) => Ok(Answer::Read(Bytes::from_vec(bytes.to_vec(alloc)?))),

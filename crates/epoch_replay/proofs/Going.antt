@@ -20,23 +20,23 @@ use Rattle.partial_mark.specs.Partial.{Partial}
 use Rattle.dp_report.specs.declared.report.Report.{Report}
 use Rattle.dp_report.specs.Texts.{report_line}
 use Rattle.journal_text.specs.Reading.{Reading, Tail, bad_record, end, first_bytes, reading_of, reads, tail_at}
-use Rattle.journal_text.specs.Records.{Next, Record, ended, bad, epoch, mark, partial, list_from, next_at}
+use Rattle.journal_text.specs.Records.{NextRecord, Record, ended, bad, epoch, mark, partial, list_from, next_at}
 use Rattle.epoch_replay.specs.declared.progress.Progress.{Progress}
 use Rattle.epoch_replay.specs.declared.replay_fault.ReplayFault.{ReplayFault}
 use Rattle.epoch_replay.specs.declared.replay_fault.ReplayFault.TheVariants as faults
-use Rattle.epoch_replay.specs.Play.{Played, Refusal, bad_epoch, bad_journal, bad_mark, behind, is_right, is_right_if, play_from, play_of, played, played_if, plays_to, stopped}
-use Rattle.epoch_replay.specs.Playing.{GoesOn, IsAll, IsBounded, IsStart, SoFar, left_at, past_mark}
-use Rattle.epoch_replay.specs.Replaying.{EachMoment, Ends, HasNotedSome, HasSent, HasSentSome, Refused, Replayed, epochs_of, output_of}
+use Rattle.epoch_replay.specs.Play.{Played, PlayRefusal, bad_epoch, bad_journal, bad_mark, played_after, is_right, is_right_if, play_from, play_of, played, played_if, plays_to, stopped}
+use Rattle.epoch_replay.specs.Playing.{PlayGoesOn, IsAll, IsBounded, IsStart, PlayedSoFar, left_at, past_mark}
+use Rattle.epoch_replay.specs.Replaying.{EachReplayMoment, Ends, HasNotedSome, HasSent, HasSentSome, Refused, Replayed, epochs_of, output_of}
 use Rattle.epoch_replay.proofs.Moments.{each_moment, noted_moments, quiet, sent_moments}
 
 -- ---- the definition, step by step
 
 -- an epoch in front of others, by what its slices come to
 pub epoch_plays : (base s : State) (number : ℕ) (e : Epoch) (others : List Record) (tail : Tail) (r : Result After (Stop × After)) → run e.slices (at s [] e.answers) ≡ r
-    → play_from base s number (epoch e ∷ others) tail ≡ either r (λ stop. stopped (Err (bad_epoch number))) (λ here. behind here.output (play_from base here.state (number + 1) others tail))
+    → play_from base s number (epoch e ∷ others) tail ≡ either r (λ stop. stopped (Err (bad_epoch number))) (λ here. played_after here.output (play_from base here.state (number + 1) others tail))
 unfolding play_from
 epoch_plays base s number e others tail r ran =
-    ap (λ (x : Result After (Stop × After)). either x (λ stop. stopped (Err (bad_epoch number))) (λ here. behind here.output (play_from base here.state (number + 1) others tail))) ran
+    ap (λ (x : Result After (Stop × After)). either x (λ stop. stopped (Err (bad_epoch number))) (λ here. played_after here.output (play_from base here.state (number + 1) others tail))) ran
 
 -- what a play with a mark in front of others comes to, by whether the mark is right
 abbrev pub after_mark : (right : Bool) → (s : State) → (number : ℕ) → List Record → Tail → Played
@@ -77,15 +77,15 @@ none_plays base s number (bad_record k) = refl
 pub no_base : (base other s : State) (number : ℕ) (tail : Tail) → play_from base s number [] tail ≡ play_from other s number [] tail
 no_base base other s number tail = none_plays base s number tail ∙ sym (none_plays other s number tail)
 
--- ---- what a play has behind an output
+-- ---- what a play has played_after an output
 
-abbrev pub made : Result State Refusal → List ℕ → Played
+abbrev pub made : Result State PlayRefusal → List ℕ → Played
 made stop output = record { output = output; stop = stop }
 
-behind_stop : (output : List ℕ) (stop : Result State Refusal) → behind output (stopped stop) ≡ made stop output
+behind_stop : (output : List ℕ) (stop : Result State PlayRefusal) → played_after output (stopped stop) ≡ made stop output
 behind_stop output stop = ap (made stop) (append-nil output)
 
-pub behind_twice : (first second : List ℕ) (p : Played) → behind first (behind second p) ≡ behind (first ++ second) p
+pub behind_twice : (first second : List ℕ) (p : Played) → played_after first (played_after second p) ≡ played_after (first ++ second) p
 behind_twice first second p = ap (made p.stop) (sym (append_assoc first second p.output))
 
 -- ---- what was sent
@@ -101,7 +101,7 @@ sent_more output more first now later so_far known = known-then _ _ _ _ _ _
     })
     so_far known
 
--- a prefix of what is behind it was sent
+-- a prefix of what is played_after it was sent
 pub sent_some : (output more others all : List ℕ) (first now later : Option History) → all ≡ (output ++ more) ++ others → IfKnown (HasSent output []) first now → IfKnown (Sent Out more false) now later
     → IfKnown (HasSentSome all) first later
 sent_some output more others all first now later is so_far known = known-then _ _ _ _ _ _
@@ -152,20 +152,20 @@ noted_some output note first now later so_far known = known-then _ _ _ _ _ _
 pub accepted_plays : (reading : Reading) → IsGuestFile reading.guest → plays_to (Some reading) ≡ played (play_of reading)
 accepted_plays reading accepted = ap (λ (fault : Option ℕ). played_if fault reading) accepted
 
-module _ (reading : Reading) (file : List ℕ) (first now : Option History) (p : Progress) (so_far : SoFar reading file first now p) where
+module _ (reading : Reading) (file : List ℕ) (first now : Option History) (p : Progress) (so_far : PlayedSoFar reading file first now p) where
   -- every moment so far
-  pub so_far_moments : EachMoment (Some reading) first now
+  pub so_far_moments : EachReplayMoment (Some reading) first now
   so_far_moments = each_moment (Some reading) so_far.output (play_from p.base p.state p.number (left_at file p.at) reading.tail).output first now
       (ap output_of (accepted_plays reading so_far.accepted) ∙ ap (λ (q : Played). q.output) so_far.plays) so_far.moments
 
   -- what is left plays to this
-  plays_on : (q : Played) → play_from p.base p.state p.number (left_at file p.at) reading.tail ≡ q → play_of reading ≡ behind so_far.output q
-  plays_on q is = so_far.plays ∙ ap (behind so_far.output) is
+  plays_on : (q : Played) → play_from p.base p.state p.number (left_at file p.at) reading.tail ≡ q → play_of reading ≡ played_after so_far.output q
+  plays_on q is = so_far.plays ∙ ap (played_after so_far.output) is
 
-  stops_here : (stop : Result State Refusal) → play_from p.base p.state p.number (left_at file p.at) reading.tail ≡ stopped stop → play_of reading ≡ made stop so_far.output
+  stops_here : (stop : Result State PlayRefusal) → play_from p.base p.state p.number (left_at file p.at) reading.tail ≡ stopped stop → play_of reading ≡ made stop so_far.output
   stops_here stop is = plays_on (stopped stop) is ∙ behind_stop so_far.output stop
 
-  refused : (why : Refusal) → play_from p.base p.state p.number (left_at file p.at) reading.tail ≡ stopped (Err why) → Refused (Some reading) why first now
+  refused : (why : PlayRefusal) → play_from p.base p.state p.number (left_at file p.at) reading.tail ≡ stopped (Err why) → Refused (Some reading) why first now
   refused why is = (so_far.output, accepted_plays reading so_far.accepted ∙ ap played (stops_here (Err why) is), so_far.history)
 
   pub no_memory : Replayed (Some reading) first now (Err faults.OutOfMemory)
@@ -186,10 +186,10 @@ module _ (reading : Reading) (file : List ℕ) (first now : Option History) (p :
     tail_is : reading.tail ≡ tail_at (next_at (drop p.at file)) so_far.place p.number
     tail_is = so_far.tail ∙ ap (λ (l : List Record × List ℕ). tail_at (next_at l.1) so_far.place (p.number + length l.0)) none ∙ ap (λ (n : ℕ). tail_at (next_at (drop p.at file)) so_far.place n) (omega arith)
 
-    ends_with : (stands : Next) → next_at (drop p.at file) ≡ stands → play_from p.base p.state p.number (left_at file p.at) reading.tail ≡ none_left_plays p.state (tail_at stands so_far.place p.number)
+    ends_with : (stands : NextRecord) → next_at (drop p.at file) ≡ stands → play_from p.base p.state p.number (left_at file p.at) reading.tail ≡ none_left_plays p.state (tail_at stands so_far.place p.number)
     ends_with stands is =
         ap (λ (l : List Record). play_from p.base p.state p.number l reading.tail) none_left ∙ none_plays p.base p.state p.number reading.tail
-        ∙ ap (none_left_plays p.state) (tail_is ∙ ap (λ (n : Next). tail_at n so_far.place p.number) is)
+        ∙ ap (none_left_plays p.state) (tail_is ∙ ap (λ (n : NextRecord). tail_at n so_far.place p.number) is)
 
     pub all : next_at (drop p.at file) ≡ ended → IsAll reading first now p
     all no_more = record {
@@ -227,14 +227,14 @@ module _ (reading : Reading) (file : List ℕ) (first now : Option History) (p :
         refused (bad_epoch p.number) (left_plays next (epoch e) one (stopped (Err (bad_epoch p.number))) (epoch_plays p.base p.state p.number e (left_at file next) reading.tail (Err stop) ran))
 
     module _ (s : State) (output : List ℕ) (rest : List Answer) (ran : run e.slices (at p.state [] e.answers) ≡ Ok (at s output rest)) where
-      plays_behind : play_of reading ≡ behind (so_far.output ++ output) (play_from p.base s (p.number + 1) (left_at file next) reading.tail)
+      plays_behind : play_of reading ≡ played_after (so_far.output ++ output) (play_from p.base s (p.number + 1) (left_at file next) reading.tail)
       plays_behind =
-          plays_on (behind output (play_from p.base s (p.number + 1) (left_at file next) reading.tail))
-          (left_plays next (epoch e) one (behind output (play_from p.base s (p.number + 1) (left_at file next) reading.tail)) (epoch_plays p.base p.state p.number e (left_at file next) reading.tail (Ok (at s output rest)) ran))
+          plays_on (played_after output (play_from p.base s (p.number + 1) (left_at file next) reading.tail))
+          (left_plays next (epoch e) one (played_after output (play_from p.base s (p.number + 1) (left_at file next) reading.tail)) (epoch_plays p.base p.state p.number e (left_at file next) reading.tail (Ok (at s output rest)) ran))
           ∙ behind_twice so_far.output output (play_from p.base s (p.number + 1) (left_at file next) reading.tail)
 
       pub epoch_sent : (later : Option History) (count : ℕ) → count ≡ length output → IfKnown (Sent Out output true) now later
-          → SoFar reading file first later (record { base = p.base; state = s; at = next; number = p.number + 1; epochs = p.epochs + 1; sent = p.sent + count })
+          → PlayedSoFar reading file first later (record { base = p.base; state = s; at = next; number = p.number + 1; epochs = p.epochs + 1; sent = p.sent + count })
       epoch_sent later count counted known = record {
         accepted = so_far.accepted;
         output = so_far.output ++ output;
@@ -248,7 +248,7 @@ module _ (reading : Reading) (file : List ℕ) (first now : Option History) (p :
       }
 
       -- while its output is sent
-      pub epoch_moments : (later : Option History) (ok : Bool) → IfKnown (Sent Out output ok) now later → EachMoment (Some reading) first later
+      pub epoch_moments : (later : Option History) (ok : Bool) → IfKnown (Sent Out output ok) now later → EachReplayMoment (Some reading) first later
       epoch_moments later ok known = each_moment (Some reading) (so_far.output ++ output) (play_from p.base s (p.number + 1) (left_at file next) reading.tail).output first later
           (ap output_of (accepted_plays reading so_far.accepted) ∙ ap (λ (q : Played). q.output) plays_behind)
           (sent_moments so_far.output output ok first now later so_far.history so_far.moments known)
@@ -268,7 +268,7 @@ module _ (reading : Reading) (file : List ℕ) (first now : Option History) (p :
     mark_refused is =
         refused (bad_mark p.number) (left_plays next r one (stopped (Err (bad_mark p.number))) (is.plays p.number (left_at file next) reading.tail))
 
-    pub mark_taken : IsMark p.base p.state r true → SoFar reading file first now (past_mark next p)
+    pub mark_taken : IsMark p.base p.state r true → PlayedSoFar reading file first now (past_mark next p)
     mark_taken is = record {
       accepted = so_far.accepted;
       output = so_far.output;
@@ -314,14 +314,14 @@ module _ (reading : Reading) (first now : Option History) (p : Progress) (is : I
   played_whole : output_of (plays_to (Some reading)) ≡ is.output ++ []
   played_whole = ap output_of (accepted_plays reading is.accepted) ∙ ap (λ (q : Played). q.output) is.plays ∙ sym (append-nil is.output)
 
-  pub all_moments : EachMoment (Some reading) first now
+  pub all_moments : EachReplayMoment (Some reading) first now
   all_moments = each_moment (Some reading) is.output [] first now played_whole is.moments
 
-  pub line_moments : (text : List ℕ) (ok : Bool) (later : Option History) → IfKnown (Sent Note text ok) now later → EachMoment (Some reading) first later
+  pub line_moments : (text : List ℕ) (ok : Bool) (later : Option History) → IfKnown (Sent Note text ok) now later → EachReplayMoment (Some reading) first later
   line_moments text ok later known = each_moment (Some reading) is.output [] first later played_whole (noted_moments is.output text ok first now later is.moments known)
 
 -- whether its list goes on or not
-pub play_moments : (reading : Reading) (file : List ℕ) (first now : Option History) (p : Progress) (more : Bool) → GoesOn reading file first now p more → EachMoment (Some reading) first now
+pub play_moments : (reading : Reading) (file : List ℕ) (first now : Option History) (p : Progress) (more : Bool) → PlayGoesOn reading file first now p more → EachReplayMoment (Some reading) first now
 play_moments reading file first now p true so_far = so_far_moments reading file first now p so_far
 play_moments reading file first now p false is = all_moments reading first now p is
 
@@ -341,7 +341,7 @@ epoch_bounded file p s sent next e read is further within few counts reads write
   within = within;
 }
 
--- behind a mark
+-- played_after a mark
 pub mark_bounded : (file : List ℕ) (p : Progress) (next : ℕ) → IsBounded file p → p.at < next → next ≤ length file → IsBounded file (past_mark next p)
 mark_bounded file p next is further within = record {
   base = is.encodable;
@@ -359,8 +359,8 @@ mark_bounded file p next is further within = record {
 pub at_reading : (o : Option Reading) (reading : Reading) (before after : Option History) (answer : Result Report ReplayFault) → o ≡ Some reading → Replayed (Some reading) before after answer → Replayed o before after answer
 at_reading o reading before after answer is replayed = subst (λ (q : Option Reading). Replayed q before after answer) (sym is) replayed
 
-pub moments_at : (o : Option Reading) (reading : Reading) (before after : Option History) → o ≡ Some reading → EachMoment (Some reading) before after → EachMoment o before after
-moments_at o reading before after is each = subst (λ (q : Option Reading). EachMoment q before after) (sym is) each
+pub moments_at : (o : Option Reading) (reading : Reading) (before after : Option History) → o ≡ Some reading → EachReplayMoment (Some reading) before after → EachReplayMoment o before after
+moments_at o reading before after is each = subst (λ (q : Option Reading). EachReplayMoment q before after) (sym is) each
 
 -- ---- the start
 
@@ -372,7 +372,7 @@ at_start first start = record { base = start; state = start; at = first; number 
 
 -- a play of this file, whose list goes on or was played
 abbrev pub IsPlay : (file : List ℕ) → (first now : Option History) → Progress → (more : Bool) → Type 0
-IsPlay file first now p more = (reading : Reading) × (reads file ≡ Some reading) × GoesOn reading file first now p more
+IsPlay file first now p more = (reading : Reading) × (reads file ≡ Some reading) × PlayGoesOn reading file first now p more
 
 module _ (file : List ℕ) (first : ℕ) (start : State) (is : IsStart file first start) where
   pub begun : Header → (h : Option History) → IsPlay file h h (at_start first start) true

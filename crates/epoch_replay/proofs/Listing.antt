@@ -7,11 +7,11 @@ use Rattle.disk_model.specs.History.{History}
 use Rattle.disk_model.specs.Known.{IfKnown}
 use Rattle.disk_model.proofs.Knowing.{known-same}
 use Rattle.journal_text.specs.Reading.{Reading, Tail, bad_record, end, reading_of, reads, tail_at}
-use Rattle.journal_text.specs.Records.{Next, Record, bad, ended, epoch, list_from, next_at}
+use Rattle.journal_text.specs.Records.{NextRecord, Record, bad, ended, epoch, list_from, next_at}
 use Rattle.epoch_replay.specs.declared.inspect_fault.InspectFault.{InspectFault}
 use Rattle.epoch_replay.specs.declared.inspect_fault.InspectFault.TheVariants as faults
 use Rattle.epoch_replay.specs.declared.inspecting.Listing.{Listing}
-use Rattle.epoch_replay.specs.Inspecting.{GoesOn, Inspected, ListedOn, ListedSoFar, SendsInOrder, Shown, ShownInPart}
+use Rattle.epoch_replay.specs.Inspecting.{ListingGoesOn, Inspected, ListedOn, ListedSoFar, SendsInOrder, Shown, ShownInPart}
 use Rattle.epoch_replay.specs.Inspection.{end_line, epoch_line, guest_line, mark_line, inspection, record_line, record_lines, tail_line}
 use Rattle.epoch_replay.specs.Playing.{left_at}
 use Rattle.epoch_replay.specs.Replaying.{HasSent, OnDisk}
@@ -98,12 +98,12 @@ module _ (reading : Reading) (file : List ℕ) (first now : Option History) (her
 
     pub malformed : next_at (drop here.at file) ≡ bad → Inspected (Some reading) first now (Err (faults.BadJournal here.number))
     malformed is =
-        let tail : reading.tail ≡ bad_record here.number = tail_is ∙ ap (λ (n : Next). tail_at n (length file - length (drop here.at file)) here.number) is in
+        let tail : reading.tail ≡ bad_record here.number = tail_is ∙ ap (λ (n : NextRecord). tail_at n (length file - length (drop here.at file)) here.number) is in
         (reading, refl, tail, subst (λ (l : List ℕ). Shown l first now) (sym (last_line (bad_record here.number) tail ∙ append-nil so_far.text)) so_far.shown)
 
     module _ (is : next_at (drop here.at file) ≡ ended) (within : here.at ≤ length file) (later : Option History) where
       at_end : reading.tail ≡ end here.at
-      at_end = tail_is ∙ ap (λ (n : Next). tail_at n (length file - length (drop here.at file)) here.number) is
+      at_end = tail_is ∙ ap (λ (n : NextRecord). tail_at n (length file - length (drop here.at file)) here.number) is
           ∙ ap end (omega (arith, length-drop here.at file, within))
 
       end_next : inspection reading ≡ so_far.text ++ (end_line here.at ++ [])
@@ -126,7 +126,7 @@ module _ (reading : Reading) (file : List ℕ) (first now : Option History) (her
 
 -- an inspection of this file, whose list goes on or was sent whole
 abbrev pub IsInspection : (file : List ℕ) → (first now : Option History) → Listing → (more : Bool) → Type 0
-IsInspection file first now here more = (reading : Reading) × (reads file ≡ Some reading) × GoesOn reading file first now here more
+IsInspection file first now here more = (reading : Reading) × (reads file ≡ Some reading) × ListingGoesOn reading file first now here more
 
 module _ (file guest : List ℕ) (n : ℕ) (size : n ≡ length guest) (first later : Option History) where
   module _ (reads_is : reads file ≡ Some (reading_of guest (length file) (list_from (drop (9 + n) file)))) where

@@ -11,7 +11,7 @@ use Rattle.disk_model.proofs.Knowing.{known-both, known-map, known-same, known-t
 use Rattle.disk_model.proofs.Moments.{always-start, always-then, always-weaker, got-nothing}
 use Rattle.journal_text.specs.Reading.{Reading}
 use Rattle.epoch_replay.specs.Play.{plays_to}
-use Rattle.epoch_replay.specs.Replaying.{EachMoment, HasSent, IsReplaying, output_of}
+use Rattle.epoch_replay.specs.Replaying.{EachReplayMoment, HasSent, IsReplaying, output_of}
 
 -- each moment so far, with so much of an output
 abbrev pub Moments : List ℕ → Option History → Option History → Type 0
@@ -51,5 +51,5 @@ pub noted_moments : (output note : List ℕ) (ok : Bool) (first now later : Opti
 noted_moments output note ok first now later moments known = known-then _ _ _ _ _ _ (λ s t u a b. noted-too (IsReplaying output s) note s t u a b.1.moments) moments known
 
 -- of a file whose output begins so
-pub each_moment : (o : Option Reading) (output rest : List ℕ) (first now : Option History) → output_of (plays_to o) ≡ output ++ rest → Moments output first now → EachMoment o first now
+pub each_moment : (o : Option Reading) (output rest : List ℕ) (first now : Option History) → output_of (plays_to o) ≡ output ++ rest → Moments output first now → EachReplayMoment o first now
 each_moment o output rest first now is known = subst (λ (l : List ℕ). Moments l first now) (sym is) (further_moments output rest first now known)

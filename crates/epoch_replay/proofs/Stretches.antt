@@ -4,7 +4,7 @@ use Rattle.std.specs.Prelude.{IfSome}
 use Rattle.std.proofs.lemmas.List.{length-append}
 use Rattle.std.proofs.lemmas.List.Elements.{All-from_recursion, All-push, recursion_from_All}
 use Rattle.dp_base.specs.declared.out_of_memory.OutOfMemory.{OutOfMemory}
-use Rattle.epoch_replay.specs.declared.stretch.Job.{Job}
+use Rattle.epoch_replay.specs.declared.stretch.PartJob.{PartJob}
 use Rattle.epoch_replay.specs.declared.stretch.Stretch.{Stretch}
 use Rattle.dp_base.specs.declared.answer.Answer.{Answer}
 use Rattle.dp_base.specs.declared.limits.TheConstants.{MAX_CALL_BYTES, MAX_EPOCH_STEPS}
@@ -23,10 +23,10 @@ use Rattle.journal_text.specs.Reading.{Reading, tail_at}
 use Rattle.journal_text.specs.Records.{Record, epoch, mark, mark_kind, partial, list_from, next_at}
 use Rattle.epoch_replay.specs.declared.progress.Progress.{Progress}
 use Rattle.epoch_replay.specs.declared.replay_fault.ReplayFault.TheVariants as faults
-use Rattle.epoch_replay.specs.Play.{Played, behind, is_right, is_right_if, play_from, play_of}
-use Rattle.epoch_replay.specs.Playing.{SoFar, left_at}
-use Rattle.epoch_replay.specs.Replaying.{EachMoment, Replayed, epochs_of, output_of}
-use Rattle.epoch_replay.specs.Stretches.{AreJobs, AreResults, HasBegun, IsRun, IsStretch}
+use Rattle.epoch_replay.specs.Play.{Played, played_after, is_right, is_right_if, play_from, play_of}
+use Rattle.epoch_replay.specs.Playing.{PlayedSoFar, left_at}
+use Rattle.epoch_replay.specs.Replaying.{EachReplayMoment, Replayed, epochs_of, output_of}
+use Rattle.epoch_replay.specs.Stretches.{ArePartJobs, ArePartResults, IsAtMark, IsRun, IsStretch}
 use Rattle.epoch_replay.proofs.Moments.{each_moment, sent_moments}
 use Rattle.epoch_replay.proofs.Going.{IsMark, accepted_plays, behind_twice, epoch_plays, full_is, partial_is, sent_more, sent_some}
 
@@ -69,7 +69,7 @@ at_mark file first next base start r one is further within =
 
 -- a mark that was opened, if it has a state
 pub opened : (file : List ℕ) (first next : ℕ) (base : State) (r : Record) (o : Option State) → list_from (drop first file) ≡ (r ∷ (list_from (drop next file)).0, (list_from (drop next file)).1)
-    → IfSome o (λ s. IsMark base s r true) → IfSome o IsEncodable → first < next → next ≤ length file → IfSome o (λ s. HasBegun file first base next s)
+    → IfSome o (λ s. IsMark base s r true) → IfSome o IsEncodable → first < next → next ≤ length file → IfSome o (λ s. IsAtMark file first base next s)
 opened file first next base r (Some s) one is encodable further within = (at_mark file first next base s r one is further within, encodable)
 opened file first next base r None one is encodable further within = tt
 
@@ -96,9 +96,9 @@ grown file first base start place state output records epochs is next e one furt
     record {
       plays = λ number tail.
           is.plays number tail
-          ∙ ap (behind output) (ap (λ (l : List Record). play_from start state (number + records) l tail) one_left ∙ epoch_plays start state (number + records) e (left_at file next) tail (Ok (at s out left)) ran)
+          ∙ ap (played_after output) (ap (λ (l : List Record). play_from start state (number + records) l tail) one_left ∙ epoch_plays start state (number + records) e (left_at file next) tail (Ok (at s out left)) ran)
           ∙ behind_twice output out (play_from start s ((number + records) + 1) (left_at file next) tail)
-          ∙ ap (λ (n : ℕ). behind (output ++ out) (play_from start s n (left_at file next) tail)) (omega arith);
+          ∙ ap (λ (n : ℕ). played_after (output ++ out) (play_from start s n (left_at file next) tail)) (omega arith);
       rest = is.rest ∙ ap (λ (l : List Record × List ℕ). l.1) one;
       count = omega (arith, is.count, ap (λ (l : List Record). length l) one_left);
       epochs_left = omega (arith, is.epochs_left, ap (λ (l : List Record). length (epochs_of l)) one_left);
@@ -113,18 +113,18 @@ grown file first base start place state output records epochs is next e one furt
 
 -- ---- a stretch is taken: it begins where the play is, in the state that it is in
 
-module _ (reading : Reading) (file : List ℕ) (before now : Option History) (p : Progress) (so_far : SoFar reading file before now p)
+module _ (reading : Reading) (file : List ℕ) (before now : Option History) (p : Progress) (so_far : PlayedSoFar reading file before now p)
     (first : ℕ) (base start : State) (place : ℕ) (state : State) (output : List ℕ) (records epochs : ℕ) (is : IsRun file first base start place state output records epochs)
     (same_place : first ≡ p.at) (same_state : start ≡ p.state) (same_base : base ≡ p.base) where
-  from_here : play_from p.base p.state p.number (left_at file p.at) reading.tail ≡ behind output (play_from start state (p.number + records) (left_at file place) reading.tail)
+  from_here : play_from p.base p.state p.number (left_at file p.at) reading.tail ≡ played_after output (play_from start state (p.number + records) (left_at file place) reading.tail)
   from_here =
       ap (λ (n : ℕ). play_from p.base p.state p.number (left_at file n) reading.tail) (sym same_place)
       ∙ ap (λ (s : State). play_from p.base s p.number (left_at file first) reading.tail) (sym same_state)
       ∙ ap (λ (b : State). play_from b start p.number (left_at file first) reading.tail) (sym same_base)
       ∙ is.plays p.number reading.tail
 
-  plays_behind : play_of reading ≡ behind (so_far.output ++ output) (play_from start state (p.number + records) (left_at file place) reading.tail)
-  plays_behind = so_far.plays ∙ ap (behind so_far.output) from_here ∙ behind_twice so_far.output output (play_from start state (p.number + records) (left_at file place) reading.tail)
+  plays_behind : play_of reading ≡ played_after (so_far.output ++ output) (play_from start state (p.number + records) (left_at file place) reading.tail)
+  plays_behind = so_far.plays ∙ ap (played_after so_far.output) from_here ∙ behind_twice so_far.output output (play_from start state (p.number + records) (left_at file place) reading.tail)
 
   here : (n : ℕ) → n ≡ first → left_at file n ≡ left_at file first
   here n at_ = ap (λ (m : ℕ). left_at file m) at_
@@ -137,7 +137,7 @@ module _ (reading : Reading) (file : List ℕ) (before now : Option History) (p 
       ∙ ap (λ (n : ℕ). tail_at (next_at (list_from (drop place file)).1) so_far.place n) (omega (arith, is.count))
 
   pub taken : (later : Option History) (count : ℕ) → count ≡ length output → IfKnown (Sent Out output true) now later
-      → SoFar reading file before later (record { base = start; state = state; at = place; number = p.number + records; epochs = p.epochs + epochs; sent = p.sent + count })
+      → PlayedSoFar reading file before later (record { base = start; state = state; at = place; number = p.number + records; epochs = p.epochs + epochs; sent = p.sent + count })
   taken later count counted known = record {
     accepted = so_far.accepted;
     output = so_far.output ++ output;
@@ -151,7 +151,7 @@ module _ (reading : Reading) (file : List ℕ) (before now : Option History) (p 
   }
 
   -- while its output is sent
-  pub taken_moments : (later : Option History) (ok : Bool) → IfKnown (Sent Out output ok) now later → EachMoment (Some reading) before later
+  pub taken_moments : (later : Option History) (ok : Bool) → IfKnown (Sent Out output ok) now later → EachReplayMoment (Some reading) before later
   taken_moments later ok known = each_moment (Some reading) (so_far.output ++ output) (play_from start state (p.number + records) (left_at file place) reading.tail).output before later
       (ap output_of (accepted_plays reading so_far.accepted) ∙ ap (λ (q : Played). q.output) plays_behind)
       (sent_moments so_far.output output ok before now later so_far.history so_far.moments known)
@@ -166,13 +166,13 @@ module _ (reading : Reading) (file : List ℕ) (before now : Option History) (p 
 
 -- ---- results of jobs
 
-pub other_results : (file : List ℕ) (results rest : List (Result (Option Stretch) OutOfMemory)) → AreResults file results → rest ≡ drop 1 results → AreResults file rest
-other_results file [] rest are is = subst (AreResults file) (sym is) tt
-other_results file (r ∷ rs) rest are is = subst (AreResults file) (sym is) are.1
+pub other_results : (file : List ℕ) (results rest : List (Result (Option Stretch) OutOfMemory)) → ArePartResults file results → rest ≡ drop 1 results → ArePartResults file rest
+other_results file [] rest are is = subst (ArePartResults file) (sym is) tt
+other_results file (r ∷ rs) rest are is = subst (ArePartResults file) (sym is) are.1
 
 -- ---- jobs
 
-pub one_job_more : (file : List ℕ) (jobs all : List Job) (job : Job) → all ≡ jobs ++ job ∷ [] → AreJobs file jobs → IsStretch file job.stretch → AreJobs file all
+pub one_job_more : (file : List ℕ) (jobs all : List PartJob) (job : PartJob) → all ≡ jobs ++ job ∷ [] → ArePartJobs file jobs → IsStretch file job.stretch → ArePartJobs file all
 one_job_more file jobs all job is are this =
-    let Has : Job → Type 0 = λ j. IsStretch file j.stretch in
-    subst (AreJobs file) (sym is) (recursion_from_All Has (jobs ++ job ∷ []) (All-push Has jobs job (All-from_recursion Has jobs are) this))
+    let Has : PartJob → Type 0 = λ j. IsStretch file j.stretch in
+    subst (ArePartJobs file) (sym is) (recursion_from_All Has (jobs ++ job ∷ []) (All-push Has jobs job (All-from_recursion Has jobs are) this))

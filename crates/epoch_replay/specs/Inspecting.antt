@@ -66,11 +66,11 @@ pub record ListedSoFar (reading : Reading) (file : List ℕ) (first now : Option
   pub shown : Shown text first now
 
 -- the list goes on, or all was sent
-abbrev pub GoesOn : Reading → (file : List ℕ) → (first now : Option History) → Listing → (more : Bool) → Type 0
-GoesOn reading file first now here true = ListedSoFar reading file first now here
-GoesOn reading file first now here false = Inspected (Some reading) first now (Ok tt)
+abbrev pub ListingGoesOn : Reading → (file : List ℕ) → (first now : Option History) → Listing → (more : Bool) → Type 0
+ListingGoesOn reading file first now here true = ListedSoFar reading file first now here
+ListingGoesOn reading file first now here false = Inspected (Some reading) first now (Ok tt)
 
 -- one record later
 abbrev pub ListedOn : Reading → (file : List ℕ) → (first now : Option History) → Listing → Result Bool InspectFault → Type 0
-ListedOn reading file first now here (Ok more) = GoesOn reading file first now here more
+ListedOn reading file first now here (Ok more) = ListingGoesOn reading file first now here more
 ListedOn reading file first now here (Err fault) = Inspected (Some reading) first now (Err fault)

@@ -12,7 +12,7 @@ ghost use Rattle.guest_kernel.specs.declared.state.State.{State};
 ghost use Rattle.guest_state.specs.Checkpoint.{Checkpoint, IsCheckpoint};
 ghost use Rattle.checkpoint.specs.State.{IsEncodable, checkpoint_of};
 ghost use Rattle.epoch_replay.specs.Play.{is_right, play_from, play_of};
-ghost use Rattle.epoch_replay.specs.Parts.{HasRoom, first_part, marked_parts, play_parts, stretch};
+ghost use Rattle.epoch_replay.specs.Parts.{IsWithinMarks, first_part, marked_parts, play_parts, stretch};
 ghost use Rattle.epoch_replay.specs.Replaying.{IsReplaying};
 
 /// A mark is right exactly where it is all that the guest is there.
@@ -33,7 +33,7 @@ pub fn a_crash_in_a_replay_leaves_the_disk()
 /// any epoch.
 pub fn a_play_is_that_of_its_stretches()
     ensures records { (base s : State) (number : ℕ) (records : List Record) (tail : Tail) → IsEncodable base →
-        AllByRecursion IsRecord records → HasRoom (length records) s → play_from base s number records tail
+        AllByRecursion IsRecord records → IsWithinMarks (length records) s → play_from base s number records tail
         ≡ play_parts (stretch s (first_part records)) number (length (first_part records))
         (marked_parts (Some (checkpoint_of base)) records) tail }
     ensures journal { (bytes : List ℕ) (r : Reading) → AreBytes bytes → reads bytes ≡ Some r → IsGuestFile r.guest → play_of r

@@ -6,9 +6,9 @@ ghost use Rattle.disk_model.specs.History.{History};
 ghost use Rattle.disk_model.specs.Known.{known_disk};
 ghost use Rattle.journal_text.specs.Reading.{Reading, reads};
 ghost use Rattle.epoch_replay.specs.declared.replay_fault.ReplayFault.TheVariants as faults;
-ghost use Rattle.epoch_replay.specs.Playing.{IsBounded, IsStart, PlayedOn, SoFar, past_mark};
+ghost use Rattle.epoch_replay.specs.Playing.{IsBounded, IsStart, PlayedOn, PlayedSoFar, past_mark};
 ghost use Rattle.epoch_replay.specs.Faults.{MetNoOther};
-ghost use Rattle.epoch_replay.specs.Replaying.{EachMoment, IsKnownToEnd, IsNoFault, OnDisk, Replayed};
+ghost use Rattle.epoch_replay.specs.Replaying.{EachReplayMoment, IsKnownToEnd, IsNoReplayFault, OnDisk, Replayed};
 
 use crate::epoch::play_epoch;
 use crate::mark::{is_right_mark, is_right_partial};
@@ -47,7 +47,7 @@ pub fn replay<R: Threads + Sync, W: World>(
     ensures replayed { OnDisk (known_disk (W.history world))
         (λ bytes. Replayed (reads bytes) (W.history world) (W.history result.0) result.1) }
     ensures moments { OnDisk (known_disk (W.history world))
-        (λ bytes. EachMoment (reads bytes) (W.history world) (W.history result.0)) }
+        (λ bytes. EachReplayMoment (reads bytes) (W.history world) (W.history result.0)) }
     ensures others { MetNoOther result.1 (W.disk_faults world) (W.disk_faults result.0) (W.sink_faults world) (W.sink_faults result.0) }
     ensures disk_cause { result.1 ≡ Err faults.DiskFault → Rose (W.disk_faults world) (W.disk_faults result.0) }
     ensures sink_cause { result.1 ≡ Err faults.OutputFault → Rose (W.sink_faults world) (W.sink_faults result.0) }
@@ -56,7 +56,7 @@ pub fn replay<R: Threads + Sync, W: World>(
     // A journal that plays to its end is replayed, if nothing fails.
     ensures complete { IsKnownToEnd (known_disk (W.history world)) →
         (Rose (W.disk_faults world) (W.disk_faults result.0) → ⊥) →
-        (Rose (W.sink_faults world) (W.sink_faults result.0) → ⊥) → IsNoFault result.1 }
+        (Rose (W.sink_faults world) (W.sink_faults result.0) → ⊥) → IsNoReplayFault result.1 }
 {
     replay_through(rt, alloc, world, workers, &OpenGate)
 }
@@ -77,7 +77,7 @@ pub fn replay_through<R: Threads + Sync, W: World, G: Gate + Sync>(
     ensures replayed { OnDisk (known_disk (W.history world))
         (λ bytes. Replayed (reads bytes) (W.history world) (W.history result.0) result.1) }
     ensures moments { OnDisk (known_disk (W.history world))
-        (λ bytes. EachMoment (reads bytes) (W.history world) (W.history result.0)) }
+        (λ bytes. EachReplayMoment (reads bytes) (W.history world) (W.history result.0)) }
     ensures others { MetNoOther result.1 (W.disk_faults world) (W.disk_faults result.0) (W.sink_faults world) (W.sink_faults result.0) }
     ensures disk_cause { result.1 ≡ Err faults.DiskFault → Rose (W.disk_faults world) (W.disk_faults result.0) }
     ensures sink_cause { result.1 ≡ Err faults.OutputFault → Rose (W.sink_faults world) (W.sink_faults result.0) }
@@ -86,7 +86,7 @@ pub fn replay_through<R: Threads + Sync, W: World, G: Gate + Sync>(
     // A journal that plays to its end is replayed, if nothing fails.
     ensures complete { IsKnownToEnd (known_disk (W.history world)) →
         (Rose (W.disk_faults world) (W.disk_faults result.0) → ⊥) →
-        (Rose (W.sink_faults world) (W.sink_faults result.0) → ⊥) → IsNoFault result.1 }
+        (Rose (W.sink_faults world) (W.sink_faults result.0) → ⊥) → IsNoReplayFault result.1 }
 {
     let answer = replay_disk(rt, alloc, &mut world, workers, gate);
     (world, answer)
@@ -102,7 +102,7 @@ fn replay_disk<R: Threads + Sync, W: World, G: Gate + Sync>(
     ensures replayed { OnDisk (known_disk (W.history world.old))
         (λ bytes. Replayed (reads bytes) (W.history world.old) (W.history world.new) result) }
     ensures moments { OnDisk (known_disk (W.history world.old))
-        (λ bytes. EachMoment (reads bytes) (W.history world.old) (W.history world.new)) }
+        (λ bytes. EachReplayMoment (reads bytes) (W.history world.old) (W.history world.new)) }
     ensures others { MetNoOther result (W.disk_faults world.old) (W.disk_faults world.new)
         (W.sink_faults world.old) (W.sink_faults world.new) }
     ensures disk_cause { IsErrOf result ReplayFault.DiskFault →
@@ -127,7 +127,7 @@ fn replay_file<R: Threads + Sync, W: World, G: Gate + Sync>(
 ) -> Result<Report, ReplayFault>
     requires few { length file.now ≤ MAX_JOURNAL_BYTES }
     ensures replayed { Replayed (reads file.now) (W.history world.old) (W.history world.new) result }
-    ensures moments { EachMoment (reads file.now) (W.history world.old) (W.history world.new) }
+    ensures moments { EachReplayMoment (reads file.now) (W.history world.old) (W.history world.new) }
     ensures others { MetNoOther result (W.disk_faults world.old) (W.disk_faults world.new)
         (W.sink_faults world.old) (W.sink_faults world.new) }
     ensures no_disk_fault { IsErrOf result ReplayFault.DiskFault → ⊥ }
@@ -165,7 +165,7 @@ fn play<R: Threads + Sync, W: World, G: Gate + Sync>(
     requires few { length file.now ≤ MAX_JOURNAL_BYTES }
     requires starts { IsStart file.now first start }
     ensures replayed { Replayed (reads file.now) (W.history world.old) (W.history world.new) result }
-    ensures moments { EachMoment (reads file.now) (W.history world.old) (W.history world.new) }
+    ensures moments { EachReplayMoment (reads file.now) (W.history world.old) (W.history world.new) }
     ensures others { MetNoOther result (W.disk_faults world.old) (W.disk_faults world.new)
         (W.sink_faults world.old) (W.sink_faults world.new) }
     ensures no_disk_fault { IsErrOf result ReplayFault.DiskFault → ⊥ }
@@ -216,11 +216,11 @@ fn play_on<R: Threads + Sync, W: World, G: Gate + Sync>(
     requires few { length file.now ≤ MAX_JOURNAL_BYTES }
     requires bounded { IsBounded file.now progress.old }
     ensures played { (reading : Reading) (first : Option History) →
-        SoFar reading file.now first (W.history world.old) progress.old →
+        PlayedSoFar reading file.now first (W.history world.old) progress.old →
         PlayedOn reading file.now first (W.history world.new) progress.new result }
     ensures moments { (reading : Reading) (first : Option History) →
-        SoFar reading file.now first (W.history world.old) progress.old →
-        EachMoment (Some reading) first (W.history world.new) }
+        PlayedSoFar reading file.now first (W.history world.old) progress.old →
+        EachReplayMoment (Some reading) first (W.history world.new) }
     ensures others { MetNoOther result (W.disk_faults world.old) (W.disk_faults world.new)
         (W.sink_faults world.old) (W.sink_faults world.new) }
     ensures bounded { IfOk result (λ more. IsBounded file.now progress.new) }
@@ -248,11 +248,11 @@ fn play_record<W: World>(
     requires few { length file.now ≤ MAX_JOURNAL_BYTES }
     requires bounded { IsBounded file.now progress.old }
     ensures played { (reading : Reading) (first : Option History) →
-        SoFar reading file.now first (W.history world.old) progress.old →
+        PlayedSoFar reading file.now first (W.history world.old) progress.old →
         PlayedOn reading file.now first (W.history world.new) progress.new result }
     ensures moments { (reading : Reading) (first : Option History) →
-        SoFar reading file.now first (W.history world.old) progress.old →
-        EachMoment (Some reading) first (W.history world.new) }
+        PlayedSoFar reading file.now first (W.history world.old) progress.old →
+        EachReplayMoment (Some reading) first (W.history world.new) }
     ensures others { MetNoOther result (W.disk_faults world.old) (W.disk_faults world.new)
         (W.sink_faults world.old) (W.sink_faults world.new) }
     ensures bounded { IfOk result (λ more. IsBounded file.now progress.new) }

@@ -2,7 +2,7 @@
 ghost use Rattle.std.specs.Prelude.{◌≡◌, ◌≤◌, ◌<◌, ℕ, List, IfOk, IfSome, IsTrue, length};
 ghost use Rattle.dp_base.specs.declared.limits.TheConstants.{MAX_JOURNAL_BYTES};
 ghost use Rattle.checkpoint.specs.State.{IsEncodable};
-ghost use Rattle.epoch_replay.specs.Stretches.{HasBegun, IsBegun, IsResult, IsStretch};
+ghost use Rattle.epoch_replay.specs.Stretches.{IsAtMark, IsBegun, IsPartResult, IsStretch};
 
 use crate::epoch::play_epoch;
 use crate::mark::{open_mark, open_partial};
@@ -20,7 +20,7 @@ const TOO_MANY: u64 = 1 << 63;
 
 /// What a worker runs: a stretch that has begun.
 #[derive(Drop)]
-pub(crate) struct Job {
+pub(crate) struct PartJob {
     /// Its number among those that run side by side, from 1.
     pub index: u32,
     pub stretch: Stretch,
@@ -52,12 +52,12 @@ pub(crate) struct Stretch {
 pub(crate) fn run_job<G: Gate>(
     alloc: Global,
     file: &[u8],
-    job: Job,
+    job: PartJob,
     gate: &G,
 ) -> Result<Option<Stretch>, OutOfMemory>
     requires few { length file.now ≤ MAX_JOURNAL_BYTES }
     requires is { IsStretch file.now job.stretch }
-    ensures { IsResult file.now result }
+    ensures { IsPartResult file.now result }
 {
     gate.pass(job.index, job.index);
     let mut stretch = job.stretch;
@@ -127,7 +127,7 @@ fn begin_after(
     base: &State,
     next: u64,
 ) -> Result<Option<Stretch>, OutOfMemory>
-    ensures { (file : List ℕ) → IfSome state (λ s. HasBegun file at base.now next s) → IfOk result (IsBegun file) }
+    ensures { (file : List ℕ) → IfSome state (λ s. IsAtMark file at base.now next s) → IfOk result (IsBegun file) }
 {
     let Some(state) = state else {
         return Ok(None);

@@ -5,14 +5,14 @@ ghost use Rattle.disk_model.specs.Counts.{Rose};
 ghost use Rattle.disk_model.specs.History.{History};
 ghost use Rattle.journal_text.specs.Reading.{Reading};
 ghost use Rattle.epoch_replay.specs.declared.replay_fault.ReplayFault.TheVariants as faults;
-ghost use Rattle.epoch_replay.specs.Playing.{IsBounded, SoFar};
+ghost use Rattle.epoch_replay.specs.Playing.{IsBounded, PlayedSoFar};
 ghost use Rattle.epoch_replay.specs.Faults.{MetNoOther};
-ghost use Rattle.epoch_replay.specs.Replaying.{EachMoment};
-ghost use Rattle.epoch_replay.specs.Stretches.{AreJobs, AreResults, IsBegun, IsResult, IsStretch, WasTaken};
+ghost use Rattle.epoch_replay.specs.Replaying.{EachReplayMoment};
+ghost use Rattle.epoch_replay.specs.Stretches.{ArePartJobs, ArePartResults, IsBegun, IsPartResult, IsStretch, WasPartTaken};
 
 use crate::progress::Progress;
 use crate::replay_fault::ReplayFault;
-use crate::stretch::{Job, Stretch, begin_at, begin_at_mark, run_job};
+use crate::stretch::{PartJob, Stretch, begin_at, begin_at_mark, run_job};
 use device::send_all;
 use disk_model::{Gate, Stream, World};
 use dp_base::OutOfMemory;
@@ -45,11 +45,11 @@ pub(crate) fn play_window<R: Threads + Sync, W: World, G: Gate + Sync>(
     requires few { length file.now ≤ MAX_JOURNAL_BYTES }
     requires bounded { IsBounded file.now progress.old }
     ensures taken { (reading : Reading) (first : Option History) →
-        SoFar reading file.now first (W.history world.old) progress.old →
-        WasTaken reading file.now first (W.history world.new) progress.new result }
+        PlayedSoFar reading file.now first (W.history world.old) progress.old →
+        WasPartTaken reading file.now first (W.history world.new) progress.new result }
     ensures moments { (reading : Reading) (first : Option History) →
-        SoFar reading file.now first (W.history world.old) progress.old →
-        EachMoment (Some reading) first (W.history world.new) }
+        PlayedSoFar reading file.now first (W.history world.old) progress.old →
+        EachReplayMoment (Some reading) first (W.history world.new) }
     ensures others { MetNoOther result (W.disk_faults world.old) (W.disk_faults world.new)
         (W.sink_faults world.old) (W.sink_faults world.new) }
     ensures bounded { IfOk result (λ _. IsBounded file.now progress.new) }
@@ -88,10 +88,10 @@ fn jobs_from(
     file: &[u8],
     ahead: u32,
     progress: &Progress,
-) -> Result<Vec<Job>, OutOfMemory>
+) -> Result<Vec<PartJob>, OutOfMemory>
     requires few { length file.now ≤ MAX_JOURNAL_BYTES }
     requires bounded { IsBounded file.now progress.now }
-    ensures { IfOk result (λ jobs. AreJobs file.now jobs.items) }
+    ensures { IfOk result (λ jobs. ArePartJobs file.now jobs.items) }
 {
     let mut jobs = Vec::new(alloc);
     let (marks, last) = last_mark(file, progress.at, ahead);
@@ -102,7 +102,7 @@ fn jobs_from(
         return Ok(jobs);
     };
     let mut base = first.start.share(alloc)?;
-    jobs.push(Job {
+    jobs.push(PartJob {
         index: 1,
         stretch: first,
     })?;
@@ -115,7 +115,7 @@ fn jobs_from(
             return Ok(jobs);
         };
         base = stretch.start.share(alloc)?;
-        jobs.push(Job {
+        jobs.push(PartJob {
             index: number.saturating_add(2),
             stretch,
         })?;
@@ -218,13 +218,13 @@ fn run_jobs<R: Threads + Sync, G: Gate + Sync>(
     rt: &R,
     alloc: Global,
     file: &[u8],
-    jobs: Vec<Job>,
+    jobs: Vec<PartJob>,
     gate: &G,
 ) -> Result<Vec<Result<Option<Stretch>, OutOfMemory>>, AllocError>
     requires few { length file.now ≤ MAX_JOURNAL_BYTES }
-    requires jobs { AreJobs file.now jobs.items }
+    requires jobs { ArePartJobs file.now jobs.items }
     ensures len { IfOk result (λ all. length all.items ≡ length jobs.items) }
-    ensures each { IfOk result (λ all. (i : ℕ) (d : _) → i < length jobs.items → IsResult file.now (slice_index_or all.items i d)) }
+    ensures each { IfOk result (λ all. (i : ℕ) (d : _) → i < length jobs.items → IsPartResult file.now (slice_index_or all.items i d)) }
 {
     thread::map_vec(rt, jobs, &|job| run_job(alloc, file, job, gate))
 }
@@ -238,13 +238,13 @@ fn take_all<W: World>(
 ) -> Result<(), ReplayFault>
     requires few { length file.now ≤ MAX_JOURNAL_BYTES }
     requires bounded { IsBounded file.now progress.old }
-    requires results { AreResults file.now results.items }
+    requires results { ArePartResults file.now results.items }
     ensures taken { (reading : Reading) (first : Option History) →
-        SoFar reading file.now first (W.history world.old) progress.old →
-        WasTaken reading file.now first (W.history world.new) progress.new result }
+        PlayedSoFar reading file.now first (W.history world.old) progress.old →
+        WasPartTaken reading file.now first (W.history world.new) progress.new result }
     ensures moments { (reading : Reading) (first : Option History) →
-        SoFar reading file.now first (W.history world.old) progress.old →
-        EachMoment (Some reading) first (W.history world.new) }
+        PlayedSoFar reading file.now first (W.history world.old) progress.old →
+        EachReplayMoment (Some reading) first (W.history world.new) }
     ensures others { MetNoOther result (W.disk_faults world.old) (W.disk_faults world.new)
         (W.sink_faults world.old) (W.sink_faults world.new) }
     ensures bounded { IfOk result (λ _. IsBounded file.now progress.new) }
@@ -276,11 +276,11 @@ fn take<W: World>(
     requires bounded { IsBounded file.now progress.old }
     requires is { IsStretch file.now stretch }
     ensures taken { (reading : Reading) (first : Option History) →
-        SoFar reading file.now first (W.history world.old) progress.old →
-        WasTaken reading file.now first (W.history world.new) progress.new result }
+        PlayedSoFar reading file.now first (W.history world.old) progress.old →
+        WasPartTaken reading file.now first (W.history world.new) progress.new result }
     ensures moments { (reading : Reading) (first : Option History) →
-        SoFar reading file.now first (W.history world.old) progress.old →
-        EachMoment (Some reading) first (W.history world.new) }
+        PlayedSoFar reading file.now first (W.history world.old) progress.old →
+        EachReplayMoment (Some reading) first (W.history world.new) }
     ensures others { MetNoOther result (W.disk_faults world.old) (W.disk_faults world.new)
         (W.sink_faults world.old) (W.sink_faults world.new) }
     ensures bounded { IfOk result (λ _. IsBounded file.now progress.new) }

@@ -8,13 +8,13 @@ use Rattle.dp_base.specs.Field.{◌>>=◌}
 use Rattle.dp_base.specs.Journal.{Epoch, steps_of}
 use Rattle.guest_kernel.specs.declared.state.State.{State}
 use Rattle.guest_kernel.specs.Answers.{bytes_read}
-use Rattle.guest_kernel.specs.Call.{After, Refusal}
+use Rattle.guest_kernel.specs.Call.{After, TurnRefusal}
 use Rattle.guest_kernel.specs.Slices.{at, joined, run, slices, turns}
 use Rattle.guest_kernel.specs.State.{has_ended, without_reservation}
 use Rattle.guest_kernel.specs.Turn.{turn, yields}
 use Rattle.epoch_runner.specs.declared.bounds.Bounds.{Bounds}
 use Rattle.epoch_runner.specs.Answering.{answers_for, can_step, ready_at}
-use Rattle.epoch_runner.specs.Schedule.{Course, IsScheduled, IsUsedUp, Next, closed, closed_by, course, ends, followed, given, next, progress, starting, step, turn_of, turned}
+use Rattle.epoch_runner.specs.Schedule.{Course, IsScheduled, IsUsedUp, NextStep, closed, closed_by, course, ends, followed, given, next, progress, starting, step, turn_of, turned}
 use Rattle.epoch_runner.proofs.AnswerLists.{read_length}
 use Rattle.epoch_runner.specs.KernelLaws.{ReservationLaw, RunLaws, TurnLaws}
 use Rattle.epoch_runner.proofs.Nexts.{ends_next, no_hints_next, rules, turn_next}
@@ -102,7 +102,7 @@ module _ (turn_laws : TurnLaws) (run_laws : RunLaws) (reserved : ReservationLaw)
       ∙ ap (λ r. Ok (at (without_reservation c.state tid) c.output r)) so_far.rest
 
   -- a turn within a slice
-  goes_more : (start : State) (w : Supplied) (bounds : Bounds) (n : ℕ) (c d : Course) (tid : Tid) (hints : Option Following) (r : Result After Refusal) → steps_of c.done + c.in_slice ≡ n → PartOfSlice start c tid → n < bounds.steps
+  goes_more : (start : State) (w : Supplied) (bounds : Bounds) (n : ℕ) (c d : Course) (tid : Tid) (hints : Option Following) (r : Result After TurnRefusal) → steps_of c.done + c.in_slice ≡ n → PartOfSlice start c tid → n < bounds.steps
       → length c.output < EPOCH_END_BYTES → length (bytes_read c.answers) < EPOCH_END_BYTES → has_ended c.state.end ≡ false → ready_at c.state w tid ≡ true
       → turn c.state tid (answers_for c.state w tid) ≡ r → turned c tid hints (answers_for c.state w tid) r ≡ Some d → Holds start bounds (suc n) d
   goes_more start w bounds n c d tid hints (Err refusal) turns_are part few little little_read alive ready is went = absurd cc
@@ -152,7 +152,7 @@ module _ (turn_laws : TurnLaws) (run_laws : RunLaws) (reserved : ReservationLaw)
     rest = refl;
   }
 
-  by_next : (start : State) (w : Supplied) (bounds : Bounds) (n : ℕ) (c d : Course) (x : Next) → Holds start bounds n c → next c.state w bounds (progress c) ≡ x → followed w c x ≡ Some d → Holds start bounds (suc n) d
+  by_next : (start : State) (w : Supplied) (bounds : Bounds) (n : ℕ) (c d : Course) (x : NextStep) → Holds start bounds n c → next c.state w bounds (progress c) ≡ x → followed w c x ≡ Some d → Holds start bounds (suc n) d
   by_next start w bounds n c d ends so_far is went = absurd cc
   by_next start w bounds n c d (turn_of tid false hints) so_far is went =
       let there = turn_next c.state w bounds (progress c) tid false hints is in
@@ -216,14 +216,14 @@ module _ (turn_laws : TurnLaws) (run_laws : RunLaws) (reserved : ReservationLaw)
       ]
 
   -- without hints none are left, and none are used up
-  none_left : (w : Supplied) (bounds : Bounds) (c d : Course) (x : Next) → c.hints ≡ None → next c.state w bounds (progress c) ≡ x → followed w c x ≡ Some d → d.hints ≡ None
+  none_left : (w : Supplied) (bounds : Bounds) (c d : Course) (x : NextStep) → c.hints ≡ None → next c.state w bounds (progress c) ≡ x → followed w c x ≡ Some d → d.hints ≡ None
   none_left w bounds c d ends none is went = absurd cc
   none_left w bounds c d (turn_of tid begins hints) none is went = by_turn begins went
     where
       gives_none : hints ≡ None
       gives_none = no_hints_next c.state w bounds (progress c) tid begins hints none is
 
-      by_result : (z : Course) (r : Result After Refusal) → turned z tid hints (answers_for z.state w tid) r ≡ Some d → d.hints ≡ None
+      by_result : (z : Course) (r : Result After TurnRefusal) → turned z tid hints (answers_for z.state w tid) r ≡ Some d → d.hints ≡ None
       by_result z (Err refusal) e = absurd cc
       by_result z (Ok after) e =
           let x : Course = record z { state = after.state; output = z.output ++ after.output; answers = z.answers ++ answers_for z.state w tid; last = Some tid; in_slice = z.in_slice + 1; yielded = yields z.state tid; hints = hints } in

@@ -12,7 +12,7 @@ use Rattle.dp_base.specs.Journal.{Epoch, IsBody, IsEpoch, IsSlice, answer, epoch
 use Rattle.guest_state.specs.declared.thread.Thread.{Thread}
 use Rattle.guest_kernel.specs.declared.state.State.{State}
 use Rattle.guest_kernel.specs.Answers.{bytes_read}
-use Rattle.guest_kernel.specs.Call.{After, Refusal}
+use Rattle.guest_kernel.specs.Call.{After, TurnRefusal}
 use Rattle.guest_kernel.specs.State.{has_ended, without_reservation}
 use Rattle.guest_kernel.specs.Threads.{runs_at, runs_by, thread_at}
 use Rattle.guest_kernel.specs.Turn.{turn}
@@ -121,7 +121,7 @@ pub record Opens (w : Supplied) (left : ℕ) (s : State) (t : Traced) (tid : Tid
   pub some : 0 < left
 
 -- one turn overwrites what the last slice has left
-pub overwritten : (c : Course) (tid : Tid) (left : Option Following) (yielded : Bool) (hints : Option Following) (log : List Answer) (r : Result After Refusal)
+pub overwritten : (c : Course) (tid : Tid) (left : Option Following) (yielded : Bool) (hints : Option Following) (log : List Answer) (r : Result After TurnRefusal)
     → turned c tid left log r ≡ turned (inside_by c.state (record { output = c.output; answers = c.answers }) c.done tid c.in_slice yielded hints) tid left log r
 overwritten c tid left yielded hints log (Ok after) = refl
 overwritten c tid left yielded hints log (Err refusal) = refl

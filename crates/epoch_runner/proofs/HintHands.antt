@@ -15,7 +15,7 @@ use Rattle.epoch_runner.specs.Answering.{can_step}
 use Rattle.epoch_runner.specs.declared.bounds.Bounds.{Bounds}
 use Rattle.epoch_runner.specs.declared.hint_stage.HintTurn.{HintTurn}
 use Rattle.epoch_runner.specs.Hinted.{Following, any_left, at_entry, is_thread, lefts}
-use Rattle.epoch_runner.specs.HintRun.{HasFollowed, HintedSoFar, IsHand, IsInHand, IsStopped, begins_by, hand_steps, hand_thread, with_hand, without_hand}
+use Rattle.epoch_runner.specs.HintRun.{HasFollowed, HintedSoFar, IsHand, IsInHand, AreHintsOver, begins_by, hand_steps, hand_thread, with_hand, without_hand}
 use Rattle.epoch_runner.specs.Schedule.{Course, closed, closed_by, starting}
 use Rattle.epoch_runner.specs.SliceRun.{Traced}
 use Rattle.epoch_runner.proofs.Epochs.{all-push, none_went, untraced}
@@ -69,7 +69,7 @@ followed_so_far true start hints w bounds s slices t before left hand f is = is.
 followed_so_far false start hints w bounds s slices t before left hand f is = is.0
 
 pub followed_stops : (more : Bool) (start : State) (hints : Hints) (w : Supplied) (bounds : Bounds) (s : State) (slices : List Slice) (t : Traced) (before left : ℕ) (hand : Option Slice) (f : Following)
-    → HasFollowed more start hints w bounds s slices t before left hand f → more ≡ false → IsStopped w s t left f
+    → HasFollowed more start hints w bounds s slices t before left hand f → more ≡ false → AreHintsOver w s t left f
 followed_stops true start hints w bounds s slices t before left hand f is never = absurd cc
 followed_stops false start hints w bounds s slices t before left hand f is none = is.1.0
 

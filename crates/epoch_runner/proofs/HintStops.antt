@@ -13,7 +13,7 @@ use Rattle.guest_kernel.specs.State.{has_ended}
 use Rattle.epoch_runner.specs.Answering.{can_step, is_ready}
 use Rattle.epoch_runner.specs.declared.bounds.Bounds.{Bounds}
 use Rattle.epoch_runner.specs.Hinted.{Following, any_left, hinted}
-use Rattle.epoch_runner.specs.HintRun.{HintedSoFar, IsStopped, hand_thread, with_hand, without_hand}
+use Rattle.epoch_runner.specs.HintRun.{HintedSoFar, AreHintsOver, hand_thread, with_hand, without_hand}
 use Rattle.epoch_runner.specs.Schedule.{Course, after_last, begins_from, begins_with, ends, ends_epoch, next, progress}
 use Rattle.epoch_runner.specs.SliceRun.{EpochSoFar, Traced, next_slice}
 use Rattle.guest_kernel.proofs.Dropping.{without_reservation-steps}
@@ -44,7 +44,7 @@ pub hinted_stop : (start : State) (hints : Hints) (w : Supplied) (bounds : Bound
     → (so_far : HintedSoFar start hints w bounds s slices t left hand f)
     → (any_left f.left ≡ false → following ≡ None)
     → (any_left f.left ≡ true → begins_with following ≡ next_slice s w (length t.output) (length (bytes_read t.answers)) left (after_last bounds (hand_thread hand)))
-    → IsStopped w s t left f
+    → AreHintsOver w s t left f
     → EpochSoFar start hints w bounds (with_hand slices hand) left (without_hand s hand) t following
 hinted_stop start hints w bounds s slices t left hand f following so_far used_up dropped stops =
     let here = so_far.here in
@@ -89,7 +89,7 @@ hinted_stop start hints w bounds s slices t left hand f following so_far used_up
         ∙ ap (λ a. next_slice s w (length t.output) (length (bytes_read a)) left (after_last bounds c.last)) (sym so_far.answers_are)
         ∙ ap (λ o. next_slice s w (length t.output) (length (bytes_read t.answers)) left (after_last bounds o)) (sym (hand_last hand c so_far.hand_is))
 
-    why : any_left f.left ≡ true → IsStopped w s t left f → (ends_epoch so_far.here.state w bounds (progress so_far.here) ≡ true) ⊎ (hinted so_far.here.state w f ≡ None)
+    why : any_left f.left ≡ true → AreHintsOver w s t left f → (ends_epoch so_far.here.state w bounds (progress so_far.here) ≡ true) ⊎ (hinted so_far.here.state w f ≡ None)
     why any (inl over) = inl (ends_by w bounds so_far.here s t left so_far.state_is so_far.output_is so_far.answers_are sum over)
     why any (inr (inl none)) = absurd (both_ways (any_left f.left) none any)
     why any (inr (inr none)) = inr (ap (λ (z : State). hinted z w f) (sym so_far.state_is) ∙ none)

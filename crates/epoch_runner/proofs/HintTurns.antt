@@ -4,8 +4,8 @@ use Rattle.std.proofs.lemmas.Bool.{and_from, and_parts, cond-true, not-true, not
 use Rattle.dp_base.specs.declared.tid.Tid.{Tid}
 use Rattle.guest_kernel.specs.declared.state.State.{State}
 use Rattle.epoch_runner.specs.declared.hint_stage.HintTurn.{HintTurn}
-use Rattle.epoch_runner.specs.declared.hint_stage.Stage.{Stage}
-use Rattle.epoch_runner.specs.declared.hint_stage.Stage.TheVariants.{Others, Own, Last}
+use Rattle.epoch_runner.specs.declared.hint_stage.HintStage.{HintStage}
+use Rattle.epoch_runner.specs.declared.hint_stage.HintStage.TheVariants.{Others, Own, Last}
 use Rattle.epoch_runner.specs.Hinted.{Following, HintedTurn, by_last_rule, by_others, by_own, by_stage, entry_turn, goes_plain, hinted, is_thread, last_rule, plain_turn, rule_1, rule_4}
 use Rattle.epoch_runner.specs.HintRun.{IsAt, IsNextTurn}
 use Rattle.epoch_runner.proofs.LowestThreads.{lowest_itself, lowest_passes}
@@ -18,7 +18,7 @@ pub others_none : (s : State) (w : Supplied) (f : Following) (entry : SyncHint) 
 others_none s w f entry from stage none = ap (by_stage s w f) stage ∙ ap (by_others s w f entry) none
 
 -- a plain turn, and the stage at which it is taken
-plain_found : (next : Option HintedTurn) (s : State) (f : Following) (tid : Tid) (stage : Stage) (turn : HintTurn) → turn ≡ record { tid = tid; fresh = false; is_plain = true } → next ≡ plain_turn f tid stage
+plain_found : (next : Option HintedTurn) (s : State) (f : Following) (tid : Tid) (stage : HintStage) (turn : HintTurn) → turn ≡ record { tid = tid; fresh = false; is_plain = true } → next ≡ plain_turn f tid stage
     → IsAt stage tid → goes_plain s f.left tid ≡ true → IsNextTurn next s f (record f { stage = stage }) turn
 plain_found next s f tid stage turn turn_is is at goes =
     subst (λ t. IsNextTurn next s f (record f { stage = stage }) t) (sym turn_is) (record { is = is; same = refl; plain = λ plain. (at, goes) })
@@ -40,7 +40,7 @@ last_found s w f from tid turn stage found turn_is =
 pub goes_on_plain : (s : State) (w : Supplied) (f : Following) (tid : Tid) → IsAt f.stage tid → goes_plain s f.left tid ≡ true → 0 < tid.0 → tid.0 ≤ length s.threads → hinted s w f ≡ plain_turn f tid f.stage
 goes_on_plain s w f tid at goes numbered within = by f.stage refl at
   where
-    by : (stage : Stage) → f.stage ≡ stage → IsAt stage tid → by_stage s w f stage ≡ plain_turn f tid stage
+    by : (stage : HintStage) → f.stage ≡ stage → IsAt stage tid → by_stage s w f stage ≡ plain_turn f tid stage
     by (Others entry from) is at =
         ap (λ n. by_others s w f entry (rule_1 s f.left entry n)) at.0
         ∙ ap (by_others s w f entry) (lowest_itself (λ x. not (is_thread (Some entry.tid) x) && goes_plain s f.left x) s.threads tid numbered within (and_from (not (is_thread (Some entry.tid) tid)) (goes_plain s f.left tid) (not_from_false (is_thread (Some entry.tid) tid) at.1) goes))

@@ -22,7 +22,7 @@ use Rattle.epoch_runner.specs.Answering.{answers_for, ready_at, ready_by}
 use Rattle.epoch_runner.specs.declared.bounds.Bounds.{Bounds}
 use Rattle.epoch_runner.specs.declared.hint_stage.HintTurn.{HintTurn}
 use Rattle.epoch_runner.specs.Hinted.{Following, HintedTurn, any_left, goes_plain, hinted, is_plain, is_thread, left_of, less, plain_turn}
-use Rattle.epoch_runner.specs.HintRun.{HasGonePlain, HasTaken, HasTurned, HintedSoFar, IsAt, IsHand, IsInHand, IsNextTurn, begins_by, hand_steps, with_steps, without_hand}
+use Rattle.epoch_runner.specs.HintRun.{HasGonePlain, HasTakenHinted, HasTurned, HintedSoFar, IsAt, IsHand, IsInHand, IsNextTurn, begins_by, hand_steps, with_steps, without_hand}
 use Rattle.epoch_runner.specs.Schedule.{Course, course, followed, next, progress, starting, step, takes_turn, turn_of, turned}
 use Rattle.epoch_runner.specs.SliceRun.{EpochSoFar, Traced}
 use Rattle.dp_base.proofs.Lists.{all_append}
@@ -230,7 +230,7 @@ module _ (laws : TurnLaws) (reserved : ReservationLaw) where
       → HintedSoFar start hints w bounds s slices t left hand f → Goes w s t left f
       → (turn : HintTurn) → IsNextTurn (hinted s w f) s f f1 turn → turn.tid.0 < 2 ^ 16
       → (after : State) (over : List Slice) (held : Option Slice) → IsInHand (begins_by hand turn) turn.tid s slices hand after over held
-      → (steps : ℕ) (last : State) (behind : Traced) → HasTaken w turn.tid turn.is_plain after t steps last behind → steps ≤ left → steps ≤ left_of f1.left turn.tid
+      → (steps : ℕ) (last : State) (behind : Traced) → HasTakenHinted w turn.tid turn.is_plain after t steps last behind → steps ≤ left → steps ≤ left_of f1.left turn.tid
       → HintedSoFar start hints w bounds last over behind (left - steps) (with_steps steps held) (record f1 { left = less f1.left turn.tid steps })
   hinted_more start hints w bounds s slices t left hand f f1 so_far goes turn next_is numbered after over held is_in_hand steps last behind has within own =
       let here = so_far.here in
@@ -291,11 +291,11 @@ module _ (laws : TurnLaws) (reserved : ReservationLaw) where
 
 -- one turn as it is answered
 pub taken_one : {E : Type 0} (r : Result ℕ E) (w : Supplied) (tid : Tid) (plain : Bool) (s : State) (t : Traced) (after : State) (behind : Traced) → IfOk r (λ n. n ≡ 1) → IfOk r (λ n. (yielded : Bool) × HasTurned w tid s t yielded after behind)
-    → IfOk r (λ n. HasTaken w tid plain s t n after behind)
+    → IfOk r (λ n. HasTakenHinted w tid plain s t n after behind)
 taken_one (Ok n) w tid plain s t after behind one turned = inr (one, turned)
 taken_one (Err e) w tid plain s t after behind one turned = tt
 
-pub taken_some : (w : Supplied) (tid : Tid) (plain : Bool) (s : State) (t : Traced) (steps : ℕ) (after : State) (behind : Traced) → HasTaken w tid plain s t steps after behind → 0 < steps
+pub taken_some : (w : Supplied) (tid : Tid) (plain : Bool) (s : State) (t : Traced) (steps : ℕ) (after : State) (behind : Traced) → HasTakenHinted w tid plain s t steps after behind → 0 < steps
 taken_some w tid plain s t steps after behind (inl (is_plain, gone)) = gone.some
 taken_some w tid plain s t steps after behind (inr (one, turned)) = omega (arith, one)
 

@@ -13,12 +13,12 @@ use Rattle.guest_kernel.specs.Peek.{peeked}
 use Rattle.guest_kernel.specs.State.{has_ended}
 use Rattle.guest_kernel.specs.Threads.{thread_at}
 use Rattle.epoch_runner.specs.declared.bounds.Bounds.{Bounds}
-use Rattle.epoch_runner.specs.declared.hint_stage.Stage.{Stage}
-use Rattle.epoch_runner.specs.declared.hint_stage.Stage.TheVariants.{Others, Own, Last}
+use Rattle.epoch_runner.specs.declared.hint_stage.HintStage.{HintStage}
+use Rattle.epoch_runner.specs.declared.hint_stage.HintStage.TheVariants.{Others, Own, Last}
 use Rattle.epoch_runner.specs.Answering.{can_step, is_ready, is_unanswered, ready_at, ready_by}
 use Rattle.epoch_runner.specs.Hinted.{Following, HintedTurn, any_left, by_last_rule, by_others, by_stage, entry_turn, goes_plain, hinted, is_plain, is_thread, last_rule, left_of, plain_turn, rule_1, rule_2, rule_3, rule_4}
 use Rattle.epoch_runner.specs.Lowest.{lowest_from}
-use Rattle.epoch_runner.specs.Schedule.{IsUsedUp, Next, Progress, after_last, begins_from, begins_with, by_hinted, by_hints, by_last, ends, ends_epoch, next, slice_goes_on, turn_of}
+use Rattle.epoch_runner.specs.Schedule.{IsUsedUp, NextStep, EpochProgress, after_last, begins_from, begins_with, by_hinted, by_hints, by_last, ends, ends_epoch, next, slice_goes_on, turn_of}
 use Rattle.epoch_runner.proofs.LowestThreads.{lowest_of-none, lowest_passes}
 use Rattle.supply.specs.Supplied.{Supplied}
 use Rattle.sync_hints.specs.declared.hints.SyncHint.{SyncHint}
@@ -98,18 +98,18 @@ begins_some s w least some e =
     some_lowest s w some (neither from lowest (begins_with_none (option_or from lowest) e))
 
 -- one of two, by a test
-by_test : (b : Bool) (x y z : Next) → cond b x y ≡ z → ((b ≡ true) × (x ≡ z)) ⊎ ((b ≡ false) × (y ≡ z))
+by_test : (b : Bool) (x y z : NextStep) → cond b x y ≡ z → ((b ≡ true) × (x ≡ z)) ⊎ ((b ≡ false) × (y ≡ z))
 by_test true x y z e = inl (refl, e)
 by_test false x y z e = inr (refl, e)
 
-pub record GoesOn (s : State) (w : Supplied) (bounds : Bounds) (p : Progress) : Type 0 where
+pub record GoesOn (s : State) (w : Supplied) (bounds : Bounds) (p : EpochProgress) : Type 0 where
   pub alive : has_ended s.end ≡ false
   pub some : list_any (is_ready s w) s.threads ≡ true
   pub few : p.turns < bounds.steps
   pub little : p.output < EPOCH_END_BYTES
   pub little_read : p.read < EPOCH_END_BYTES
 
-pub goes_on_by : (s : State) (w : Supplied) (bounds : Bounds) (p : Progress) → ends_epoch s w bounds p ≡ false → GoesOn s w bounds p
+pub goes_on_by : (s : State) (w : Supplied) (bounds : Bounds) (p : EpochProgress) → ends_epoch s w bounds p ≡ false → GoesOn s w bounds p
 goes_on_by s w bounds p e =
     let four = or_parts (not (can_step s w) || nat_le bounds.steps p.turns || nat_le EPOCH_END_BYTES p.output) (nat_le EPOCH_END_BYTES p.read) e in
     let three = or_parts (not (can_step s w) || nat_le bounds.steps p.turns) (nat_le EPOCH_END_BYTES p.output) four.0 in
@@ -127,7 +127,7 @@ goes_on_by s w bounds p e =
     not_false {b = true} e = refl
     not_false {b = false} e = absurd cc
 
-pub by_goes_on : (s : State) (w : Supplied) (bounds : Bounds) (p : Progress) → GoesOn s w bounds p → ends_epoch s w bounds p ≡ false
+pub by_goes_on : (s : State) (w : Supplied) (bounds : Bounds) (p : EpochProgress) → GoesOn s w bounds p → ends_epoch s w bounds p ≡ false
 by_goes_on s w bounds p is =
     or_from _ _ (or_from _ _ (or_from _ _ (not_true (and_from _ _ (not_from_false _ is.alive) is.some)) (lt-leb _ _ is.few)) (lt-leb _ _ is.little)) (lt-leb _ _ is.little_read)
   where
@@ -137,7 +137,7 @@ by_goes_on s w bounds p is =
 
 -- ---- by round robin
 
-last_next : (s : State) (w : Supplied) (bounds : Bounds) (p : Progress) (last : Option Tid) (tid : Tid) (begins : Bool) (hints : Option Following) → by_last s w bounds p last ≡ turn_of tid begins hints
+last_next : (s : State) (w : Supplied) (bounds : Bounds) (p : EpochProgress) (last : Option Tid) (tid : Tid) (begins : Bool) (hints : Option Following) → by_last s w bounds p last ≡ turn_of tid begins hints
     → (ready_at s w tid ≡ true) × ((begins ≡ true) ⊎ (last ≡ Some tid))
 last_next s w bounds p None tid begins hints e = let told = begins_ready s w bounds.first tid begins hints e in (told.0, inl told.1)
 last_next s w bounds p (Some t) tid begins hints e =
@@ -205,7 +205,7 @@ hinted_can s w f t is = by (f.stage) is
     last from None rule e = absurd cc
     last from (Some tid) rule e = told tid false _ e (goes_plain_can s w f.left tid (lowest_passes (goes_plain s f.left) from s.threads tid rule))
 
-    by : (stage : Stage) → by_stage s w f stage ≡ Some t → CanBeTaken s w f.left t.tid
+    by : (stage : HintStage) → by_stage s w f stage ≡ Some t → CanBeTaken s w f.left t.tid
     by (Others x from) e = others x from (rule_1 s f.left x from) refl e
     by (Own x) e = own x (rule_2 s f.left x) refl e
     by (Last from) e = last from (last_rule s f.left from) refl e
@@ -223,7 +223,7 @@ goes_on_with last tid fresh false is = inr (this_thread last tid (of_not (is_thr
     of_not true e = refl
     of_not false e = absurd cc
 
-by_hinted_next : (s : State) (w : Supplied) (bounds : Bounds) (p : Progress) (f : Following) (o : Option HintedTurn) → hinted s w f ≡ o → (tid : Tid) (begins : Bool) (hints : Option Following)
+by_hinted_next : (s : State) (w : Supplied) (bounds : Bounds) (p : EpochProgress) (f : Following) (o : Option HintedTurn) → hinted s w f ≡ o → (tid : Tid) (begins : Bool) (hints : Option Following)
     → by_hinted s w bounds p o ≡ turn_of tid begins hints → (ready_at s w tid ≡ true) × ((begins ≡ true) ⊎ (p.last ≡ Some tid))
 by_hinted_next s w bounds p f None none tid begins hints e = let told = begins_ready s w (after_last bounds p.last) tid begins hints e in (told.0, inl told.1)
 by_hinted_next s w bounds p f (Some t) is tid begins hints e =
@@ -231,7 +231,7 @@ by_hinted_next s w bounds p f (Some t) is tid begins hints e =
     let begins_is : (t.fresh || not (is_thread p.last t.tid)) ≡ begins = cc in
     (subst (λ x. ready_at s w x ≡ true) same (hinted_can s w f t is).0, goes_on_with p.last tid t.fresh begins (ap (λ x. t.fresh || not (is_thread p.last x)) (sym same) ∙ begins_is))
 
-hints_next : (s : State) (w : Supplied) (bounds : Bounds) (p : Progress) (o : Option Following) (tid : Tid) (begins : Bool) (hints : Option Following) → by_hints s w bounds p o ≡ turn_of tid begins hints
+hints_next : (s : State) (w : Supplied) (bounds : Bounds) (p : EpochProgress) (o : Option Following) (tid : Tid) (begins : Bool) (hints : Option Following) → by_hints s w bounds p o ≡ turn_of tid begins hints
     → (ready_at s w tid ≡ true) × ((begins ≡ true) ⊎ (p.last ≡ Some tid))
 hints_next s w bounds p None tid begins hints e = last_next s w bounds p p.last tid begins hints e
 hints_next s w bounds p (Some f) tid begins hints e =
@@ -241,7 +241,7 @@ hints_next s w bounds p (Some f) tid begins hints e =
     ]
 
 -- where a turn is next the epoch goes on, its thread can step, and it goes on with its slice or begins one
-pub turn_next : (s : State) (w : Supplied) (bounds : Bounds) (p : Progress) (tid : Tid) (begins : Bool) (hints : Option Following) → next s w bounds p ≡ turn_of tid begins hints
+pub turn_next : (s : State) (w : Supplied) (bounds : Bounds) (p : EpochProgress) (tid : Tid) (begins : Bool) (hints : Option Following) → next s w bounds p ≡ turn_of tid begins hints
     → GoesOn s w bounds p × ((ready_at s w tid ≡ true) × ((begins ≡ true) ⊎ (p.last ≡ Some tid)))
 unfolding next
 turn_next s w bounds p tid begins hints e =
@@ -255,7 +255,7 @@ begins_no_hints : (o : Option Tid) (tid : Tid) (begins : Bool) (hints : Option F
 begins_no_hints None tid begins hints e = absurd cc
 begins_no_hints (Some t) tid begins hints e = cc
 
-last_no_hints : (s : State) (w : Supplied) (bounds : Bounds) (p : Progress) (last : Option Tid) (tid : Tid) (begins : Bool) (hints : Option Following) → by_last s w bounds p last ≡ turn_of tid begins hints → hints ≡ None
+last_no_hints : (s : State) (w : Supplied) (bounds : Bounds) (p : EpochProgress) (last : Option Tid) (tid : Tid) (begins : Bool) (hints : Option Following) → by_last s w bounds p last ≡ turn_of tid begins hints → hints ≡ None
 last_no_hints s w bounds p None tid begins hints e = begins_no_hints (option_or (lowest_from (ready_at s w) bounds.first s.threads) (lowest_from (ready_at s w) 1 s.threads)) tid begins hints e
 last_no_hints s w bounds p (Some t) tid begins hints e =
     elim (by_test (slice_goes_on s w bounds p t) (turn_of t false None) (begins_from s w (t.0 + 1)) (turn_of tid begins hints) e) [
@@ -263,7 +263,7 @@ last_no_hints s w bounds p (Some t) tid begins hints e =
       | inr (tested, is) ↦ begins_no_hints (option_or (lowest_from (ready_at s w) (t.0 + 1) s.threads) (lowest_from (ready_at s w) 1 s.threads)) tid begins hints is
     ]
 
-pub no_hints_next : (s : State) (w : Supplied) (bounds : Bounds) (p : Progress) (tid : Tid) (begins : Bool) (hints : Option Following) → p.hints ≡ None → next s w bounds p ≡ turn_of tid begins hints → hints ≡ None
+pub no_hints_next : (s : State) (w : Supplied) (bounds : Bounds) (p : EpochProgress) (tid : Tid) (begins : Bool) (hints : Option Following) → p.hints ≡ None → next s w bounds p ≡ turn_of tid begins hints → hints ≡ None
 unfolding next
 no_hints_next s w bounds p tid begins hints none e =
     elim (by_test (ends_epoch s w bounds p) ends (by_hints s w bounds p p.hints) (turn_of tid begins hints) e) [
@@ -272,12 +272,12 @@ no_hints_next s w bounds p tid begins hints none e =
     ]
 
 -- without hints the thread that ran last tells what is next
-pub next_by_last : (s : State) (w : Supplied) (bounds : Bounds) (p : Progress) → p.hints ≡ None → next s w bounds p ≡ cond (ends_epoch s w bounds p) ends (by_last s w bounds p p.last)
+pub next_by_last : (s : State) (w : Supplied) (bounds : Bounds) (p : EpochProgress) → p.hints ≡ None → next s w bounds p ≡ cond (ends_epoch s w bounds p) ends (by_last s w bounds p p.last)
 unfolding next
 next_by_last s w bounds p none = ap (λ o. cond (ends_epoch s w bounds p) ends (by_hints s w bounds p o)) none
 
 -- where a slice goes on by round robin
-pub same_next : (s : State) (w : Supplied) (bounds : Bounds) (p : Progress) (tid : Tid) → GoesOn s w bounds p → p.hints ≡ None → p.last ≡ Some tid → ready_at s w tid ≡ true → p.yielded ≡ false → p.in_slice < bounds.slice
+pub same_next : (s : State) (w : Supplied) (bounds : Bounds) (p : EpochProgress) (tid : Tid) → GoesOn s w bounds p → p.hints ≡ None → p.last ≡ Some tid → ready_at s w tid ≡ true → p.yielded ≡ false → p.in_slice < bounds.slice
     → next s w bounds p ≡ turn_of tid false None
 unfolding next
 same_next s w bounds p tid is none last runs no_yield within =
@@ -287,19 +287,19 @@ same_next s w bounds p tid is none last runs no_yield within =
     (and_from _ _ (and_from _ _ runs (not_from_false _ no_yield)) (lt-ltb _ _ within))
 
 -- where a slice is over
-pub over_next : (s : State) (w : Supplied) (bounds : Bounds) (p : Progress) (tid : Tid) → p.hints ≡ None → p.last ≡ Some tid → slice_goes_on s w bounds p tid ≡ false
+pub over_next : (s : State) (w : Supplied) (bounds : Bounds) (p : EpochProgress) (tid : Tid) → p.hints ≡ None → p.last ≡ Some tid → slice_goes_on s w bounds p tid ≡ false
     → next s w bounds p ≡ cond (ends_epoch s w bounds p) ends (begins_from s w (tid.0 + 1))
 unfolding next
 over_next s w bounds p tid none last over =
     ap (λ n. cond (ends_epoch s w bounds p) ends n)
     (ap (by_hints s w bounds p) none ∙ ap (by_last s w bounds p) last ∙ cond-false (slice_goes_on s w bounds p tid) (turn_of tid false None) (begins_from s w (tid.0 + 1)) over)
 
-pub at_start_next : (s : State) (w : Supplied) (bounds : Bounds) (p : Progress) → p.hints ≡ None → p.last ≡ None → next s w bounds p ≡ cond (ends_epoch s w bounds p) ends (begins_from s w bounds.first)
+pub at_start_next : (s : State) (w : Supplied) (bounds : Bounds) (p : EpochProgress) → p.hints ≡ None → p.last ≡ None → next s w bounds p ≡ cond (ends_epoch s w bounds p) ends (begins_from s w bounds.first)
 unfolding next
 at_start_next s w bounds p none last = ap (λ n. cond (ends_epoch s w bounds p) ends n) (ap (by_hints s w bounds p) none ∙ ap (by_last s w bounds p) last)
 
 -- where the next turn is by hints
-pub hinted_goes : (s : State) (w : Supplied) (bounds : Bounds) (p : Progress) (f : Following) (t : HintedTurn) → GoesOn s w bounds p → p.hints ≡ Some f → any_left f.left ≡ true → hinted s w f ≡ Some t
+pub hinted_goes : (s : State) (w : Supplied) (bounds : Bounds) (p : EpochProgress) (f : Following) (t : HintedTurn) → GoesOn s w bounds p → p.hints ≡ Some f → any_left f.left ≡ true → hinted s w f ≡ Some t
     → next s w bounds p ≡ turn_of t.tid (t.fresh || not (is_thread p.last t.tid)) (Some t.behind)
 unfolding next
 hinted_goes s w bounds p f t is hints some turn =
@@ -307,7 +307,7 @@ hinted_goes s w bounds p f t is hints some turn =
     ∙ ap (by_hints s w bounds p) hints ∙ cond-true (any_left f.left) (by_hinted s w bounds p (hinted s w f)) ends some ∙ ap (by_hinted s w bounds p) turn
 
 -- where hints are dropped a slice of the round robin begins
-pub dropped_next : (s : State) (w : Supplied) (bounds : Bounds) (p : Progress) (f : Following) → p.hints ≡ Some f → any_left f.left ≡ true → (ends_epoch s w bounds p ≡ true) ⊎ (hinted s w f ≡ None)
+pub dropped_next : (s : State) (w : Supplied) (bounds : Bounds) (p : EpochProgress) (f : Following) → p.hints ≡ Some f → any_left f.left ≡ true → (ends_epoch s w bounds p ≡ true) ⊎ (hinted s w f ≡ None)
     → next s w bounds p ≡ cond (ends_epoch s w bounds p) ends (begins_from s w (after_last bounds p.last))
 unfolding next
 dropped_next s w bounds p f hints some (inl ended) =
@@ -317,7 +317,7 @@ dropped_next s w bounds p f hints some (inr none) =
     (ap (by_hints s w bounds p) hints ∙ cond-true (any_left f.left) (by_hinted s w bounds p (hinted s w f)) ends some ∙ ap (by_hinted s w bounds p) none)
 
 -- an epoch ends where its hints are used up
-pub used_up_next : (s : State) (w : Supplied) (bounds : Bounds) (p : Progress) (f : Following) → p.hints ≡ Some f → any_left f.left ≡ false → next s w bounds p ≡ ends
+pub used_up_next : (s : State) (w : Supplied) (bounds : Bounds) (p : EpochProgress) (f : Following) → p.hints ≡ Some f → any_left f.left ≡ false → next s w bounds p ≡ ends
 unfolding next
 used_up_next s w bounds p f hints none =
     ap (λ n. cond (ends_epoch s w bounds p) ends n) (ap (by_hints s w bounds p) hints ∙ cond-false (any_left f.left) (by_hinted s w bounds p (hinted s w f)) ends none)
@@ -329,11 +329,11 @@ used_up_next s w bounds p f hints none =
 
 -- ---- the rules
 
-pub ends_now : (s : State) (w : Supplied) (bounds : Bounds) (p : Progress) → ends_epoch s w bounds p ≡ true → next s w bounds p ≡ ends
+pub ends_now : (s : State) (w : Supplied) (bounds : Bounds) (p : EpochProgress) → ends_epoch s w bounds p ≡ true → next s w bounds p ≡ ends
 unfolding next
 ends_now s w bounds p ended = cond-true (ends_epoch s w bounds p) ends (by_hints s w bounds p p.hints) ended
 
-last_some : (s : State) (w : Supplied) (bounds : Bounds) (p : Progress) (last : Option Tid) → list_any (is_ready s w) s.threads ≡ true → by_last s w bounds p last ≡ ends → ⊥
+last_some : (s : State) (w : Supplied) (bounds : Bounds) (p : EpochProgress) (last : Option Tid) → list_any (is_ready s w) s.threads ≡ true → by_last s w bounds p last ≡ ends → ⊥
 last_some s w bounds p None some e = begins_some s w bounds.first some e
 last_some s w bounds p (Some t) some e =
     elim (by_test (slice_goes_on s w bounds p t) (turn_of t false None) (begins_from s w (t.0 + 1)) ends e) [
@@ -341,11 +341,11 @@ last_some s w bounds p (Some t) some e =
       | inr (tested, is) ↦ begins_some s w (t.0 + 1) some is
     ]
 
-by_hinted_some : (s : State) (w : Supplied) (bounds : Bounds) (p : Progress) (o : Option HintedTurn) → list_any (is_ready s w) s.threads ≡ true → by_hinted s w bounds p o ≡ ends → ⊥
+by_hinted_some : (s : State) (w : Supplied) (bounds : Bounds) (p : EpochProgress) (o : Option HintedTurn) → list_any (is_ready s w) s.threads ≡ true → by_hinted s w bounds p o ≡ ends → ⊥
 by_hinted_some s w bounds p None some e = begins_some s w (after_last bounds p.last) some e
 by_hinted_some s w bounds p (Some t) some e = absurd cc
 
-hints_some : (s : State) (w : Supplied) (bounds : Bounds) (p : Progress) (o : Option Following) → list_any (is_ready s w) s.threads ≡ true → by_hints s w bounds p o ≡ ends → IsUsedUp o
+hints_some : (s : State) (w : Supplied) (bounds : Bounds) (p : EpochProgress) (o : Option Following) → list_any (is_ready s w) s.threads ≡ true → by_hints s w bounds p o ≡ ends → IsUsedUp o
 hints_some s w bounds p None some e = absurd (last_some s w bounds p p.last some e)
 hints_some s w bounds p (Some f) some e =
     elim (by_test (any_left f.left) (by_hinted s w bounds p (hinted s w f)) ends ends e) [
@@ -354,7 +354,7 @@ hints_some s w bounds p (Some f) some e =
     ]
 
 -- where an epoch ends, it is by a rule, or its hints are used up
-pub ends_next : (s : State) (w : Supplied) (bounds : Bounds) (p : Progress) → next s w bounds p ≡ ends → (ends_epoch s w bounds p ≡ true) ⊎ IsUsedUp p.hints
+pub ends_next : (s : State) (w : Supplied) (bounds : Bounds) (p : EpochProgress) → next s w bounds p ≡ ends → (ends_epoch s w bounds p ≡ true) ⊎ IsUsedUp p.hints
 unfolding next
 ends_next s w bounds p e =
     elim (by_test (ends_epoch s w bounds p) ends (by_hints s w bounds p p.hints) ends e) [
@@ -362,7 +362,7 @@ ends_next s w bounds p e =
       | inr (tested, is) ↦ inr (hints_some s w bounds p p.hints (goes_on_by s w bounds p tested).some is)
     ]
 
-pub rules : (s : State) (w : Supplied) (bounds : Bounds) (p : Progress) → ends_epoch s w bounds p ≡ true
+pub rules : (s : State) (w : Supplied) (bounds : Bounds) (p : EpochProgress) → ends_epoch s w bounds p ≡ true
     → (can_step s w ≡ false) ⊎ ((bounds.steps ≤ p.turns) ⊎ ((EPOCH_END_BYTES ≤ p.output) ⊎ (EPOCH_END_BYTES ≤ p.read)))
 rules s w bounds p e =
     elim (or_cases (not (can_step s w) || nat_le bounds.steps p.turns || nat_le EPOCH_END_BYTES p.output) (nat_le EPOCH_END_BYTES p.read) e) [

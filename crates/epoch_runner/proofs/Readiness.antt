@@ -18,7 +18,7 @@ use Rattle.guest_kernel.specs.Turn.{turn}
 use Rattle.epoch_runner.specs.Answering.{answer_to, answers_for, is_ready, is_unanswered, read_of, ready_at, ready_by}
 use Rattle.epoch_runner.specs.SliceRun.{IsEarlyRead, can_take}
 use Rattle.epoch_runner.specs.KernelLaws.{ReadLaw, TurnLaws}
-use Rattle.supply.specs.Supplied.{IsSupply, Supplied, answer_at, end_of}
+use Rattle.supply.specs.Supplied.{IsSupply, Supplied, window_answer, end_of}
 use Rattle.turn_peek.specs.declared.peek.Peek.{Peek}
 use Rattle.turn_peek.specs.declared.peek.Peek.TheVariants as peeks
 use Rattle.turn_peek.specs.Peek.{hart_peeked, thread_peeked}
@@ -31,7 +31,7 @@ few_by max rest bytes true b is = let same : take max rest ≡ bytes = cc in sub
 few_by max rest bytes false true is = let same : [] ≡ bytes = cc in subst (λ (xs : List ℕ). length xs ≤ max) same (omega arith)
 few_by max rest bytes false false is = absurd cc
 
-pub answer_few : (w : Supplied) (place max : ℕ) (bytes : List ℕ) → answer_at place max w ≡ Some bytes → length bytes ≤ max
+pub answer_few : (w : Supplied) (place max : ℕ) (bytes : List ℕ) → window_answer place max w ≡ Some bytes → length bytes ≤ max
 answer_few w place max bytes is =
     few_by max (drop (place - w.place) w.window) bytes (nat_le w.place place && nat_lt place (end_of w)) (w.ended && (place == end_of w)) is
 
@@ -42,7 +42,7 @@ answered_within w place some true b inside last bytes is = omega (arith, ltb-tru
 answered_within w place some false true inside last bytes is = omega (arith, eqb-true place (end_of w) (and_parts w.ended (place == end_of w) last).1)
 answered_within w place some false false inside last bytes is = absurd cc
 
-pub answer_within : (w : Supplied) (place max : ℕ) (bytes : List ℕ) → IsSupply w → answer_at place max w ≡ Some bytes → place < 2 ^ 64 - MAX_CALL_BYTES
+pub answer_within : (w : Supplied) (place max : ℕ) (bytes : List ℕ) → IsSupply w → window_answer place max w ≡ Some bytes → place < 2 ^ 64 - MAX_CALL_BYTES
 answer_within w place max bytes window is =
     omega (
       arith,
@@ -94,9 +94,9 @@ rest_answered w peeks.NotRunnable none answered = absurd (none refl)
 rest_answered w peeks.Plain none answered = refl
 rest_answered w peeks.Sync none answered = refl
 rest_answered w peeks.Sc none answered = refl
-rest_answered w (peeks.Read place max) none answered = by_answer (answer_at place max w) refl answered
+rest_answered w (peeks.Read place max) none answered = by_answer (window_answer place max w) refl answered
   where
-    by_answer : (o : Option (List ℕ)) → answer_at place max w ≡ o → not (is_some o) ≡ false → rest_by (peeks.Read place max) (read_of o) ≡ Ok []
+    by_answer : (o : Option (List ℕ)) → window_answer place max w ≡ o → not (is_some o) ≡ false → rest_by (peeks.Read place max) (read_of o) ≡ Ok []
     by_answer None is known = absurd cc
     by_answer (Some bytes) is known = cond-true (nat_le (length bytes) max) (Ok []) (Err _) (le-leb (length bytes) max (answer_few w place max bytes is))
 rest_answered w peeks.Clock none answered = refl

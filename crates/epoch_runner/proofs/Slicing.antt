@@ -12,7 +12,7 @@ use Rattle.guest_kernel.specs.Answers.{bytes_read}
 use Rattle.guest_kernel.specs.State.{has_ended}
 use Rattle.epoch_runner.specs.Answering.{can_step, is_ready, ready_at}
 use Rattle.epoch_runner.specs.declared.bounds.Bounds.{Bounds}
-use Rattle.epoch_runner.specs.Schedule.{Progress, begins_from, course, ends, ends_epoch, next, progress}
+use Rattle.epoch_runner.specs.Schedule.{EpochProgress, begins_from, course, ends, ends_epoch, next, progress}
 use Rattle.epoch_runner.specs.SliceRun.{IsMoved, IsSliceRun, Traced, can_take, inside, next_slice}
 use Rattle.epoch_runner.proofs.Courses.{course-from}
 use Rattle.epoch_runner.specs.KernelLaws.{TurnLaws}
@@ -30,7 +30,7 @@ none_left most turns left sum = elim (cases_lt 0 left) [
   | inr none ↦ le-leb most turns (omega (arith, none, sum)) ∙ sym (eq-eqb left 0 (omega (arith, none)))
 ]
 
-pub ends_by_left : (s : State) (w : Supplied) (bounds : Bounds) (p : Progress) (left : ℕ) → p.turns + left ≡ bounds.steps
+pub ends_by_left : (s : State) (w : Supplied) (bounds : Bounds) (p : EpochProgress) (left : ℕ) → p.turns + left ≡ bounds.steps
     → ends_epoch s w bounds p ≡ (not (can_step s w) || (left == 0) || nat_le EPOCH_END_BYTES p.output || nat_le EPOCH_END_BYTES p.read)
 ends_by_left s w bounds p left sum = ap (λ b. not (can_step s w) || b || nat_le EPOCH_END_BYTES p.output || nat_le EPOCH_END_BYTES p.read) (none_left bounds.steps p.turns left sum)
 
@@ -92,7 +92,7 @@ by_open s w tid t is =
 
 -- ---- where it is over
 
-full : (bounds : Bounds) (p : Progress) (s : State) (w : Supplied) (tid : Tid) → bounds.slice ≤ p.in_slice → (ready_at s w tid && not p.yielded && nat_lt p.in_slice bounds.slice) ≡ false
+full : (bounds : Bounds) (p : EpochProgress) (s : State) (w : Supplied) (tid : Tid) → bounds.slice ≤ p.in_slice → (ready_at s w tid && not p.yielded && nat_lt p.in_slice bounds.slice) ≡ false
 full bounds p s w tid all = and_right (ready_at s w tid && not p.yielded) (nat_lt p.in_slice bounds.slice) (le-ltb p.in_slice bounds.slice all)
 
 -- the epoch ends by one of its four rules
@@ -103,7 +103,7 @@ by_rule a b c d (inr (inr (inl is))) = or_left (a || b || c) d (or_right (a || b
 by_rule a b c d (inr (inr (inr is))) = or_right (a || b || c) d is
 
 -- the slice is over, or the epoch is
-over_or_ends : (w : Supplied) (bounds : Bounds) (tid : Tid) (left most steps : ℕ) (yielded : Bool) (after : State) (behind : Traced) (p : Progress) → p.in_slice ≡ steps → p.yielded ≡ yielded → p.output ≡ length behind.output
+over_or_ends : (w : Supplied) (bounds : Bounds) (tid : Tid) (left most steps : ℕ) (yielded : Bool) (after : State) (behind : Traced) (p : EpochProgress) → p.in_slice ≡ steps → p.yielded ≡ yielded → p.output ≡ length behind.output
     → p.read ≡ length (bytes_read behind.answers) → p.turns + (left - steps) ≡ bounds.steps
     → (most ≡ left) ⊎ (most ≡ bounds.slice)
     → (most ≤ steps) ⊎ ((yielded ≡ true) ⊎ (goes_on after w tid behind ≡ false))
@@ -149,7 +149,7 @@ slice_over w bounds tid left most s before steps yielded after behind some withi
       (over_or_ends w bounds tid left most steps yielded after behind p refl refl refl refl turns_are most_is why);
 }
   where
-    by_cases : (p : Progress) → p.hints ≡ None → p.last ≡ Some tid → ends_epoch after w bounds p ≡ (not (can_step after w) || (left - steps == 0) || nat_le EPOCH_END_BYTES p.output || nat_le EPOCH_END_BYTES p.read)
+    by_cases : (p : EpochProgress) → p.hints ≡ None → p.last ≡ Some tid → ends_epoch after w bounds p ≡ (not (can_step after w) || (left - steps == 0) || nat_le EPOCH_END_BYTES p.output || nat_le EPOCH_END_BYTES p.read)
         → ((ready_at after w tid && not p.yielded && nat_lt p.in_slice bounds.slice) ≡ false) ⊎ (ends_epoch after w bounds p ≡ true)
         → next after w bounds p ≡ next_slice after w p.output p.read (left - steps) (tid.0 + 1)
     by_cases p none last tested (inl over) =

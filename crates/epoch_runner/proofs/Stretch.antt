@@ -11,7 +11,7 @@ use Rattle.guest_kernel.specs.declared.turn.Turn.{Turn}
 use Rattle.guest_kernel.specs.declared.turn.Turn.TheVariants as answers
 use Rattle.guest_kernel.specs.declared.state.State.{State}
 use Rattle.guest_kernel.specs.Answers.{bytes_read}
-use Rattle.guest_kernel.specs.Call.{After, Refusal}
+use Rattle.guest_kernel.specs.Call.{After, TurnRefusal}
 use Rattle.guest_kernel.specs.Slices.{at, either, joined, turns}
 use Rattle.guest_kernel.specs.State.{has_ended}
 use Rattle.guest_kernel.specs.Turn.{output_after, state_after, turn, turn_answer, yields}
@@ -31,7 +31,7 @@ use Rattle.supply.specs.Supplied.{Supplied}
 
 turn_first : (taken n : ℕ) (tid : Tid) (here after : After) → turn here.state tid here.rest ≡ Ok after → turns taken (suc n) tid here ≡ turns (taken + 1) n tid (joined here after)
 unfolding turns
-turn_first taken n tid here after is = ap (λ (r : Result After Refusal). either r (λ refusal. Err (taken, here)) (λ b. turns (taken + 1) n tid (joined here b))) is
+turn_first taken n tid here after is = ap (λ (r : Result After TurnRefusal). either r (λ refusal. Err (taken, here)) (λ b. turns (taken + 1) n tid (joined here b))) is
 
 no_turns : (taken : ℕ) (tid : Tid) (here there : After) → turns taken zero tid here ≡ Ok there → here ≡ there
 unfolding turns

@@ -9,7 +9,7 @@ use Rattle.dp_base.specs.Field.{◌>>=◌}
 use Rattle.dp_base.specs.Journal.{Epoch}
 use Rattle.guest_kernel.specs.declared.state.State.{State}
 use Rattle.guest_kernel.specs.Answers.{bytes_read}
-use Rattle.guest_kernel.specs.Call.{After, Refusal}
+use Rattle.guest_kernel.specs.Call.{After, TurnRefusal}
 use Rattle.guest_kernel.specs.Peek.{peeked}
 use Rattle.guest_kernel.specs.Slices.{at, either, joined, one_slice, turns}
 use Rattle.guest_kernel.specs.State.{has_ended, without_reservation}
@@ -18,13 +18,13 @@ use Rattle.guest_kernel.specs.Turn.{turn, yields}
 use Rattle.epoch_runner.specs.declared.bounds.Bounds.{Bounds}
 use Rattle.epoch_runner.specs.Answering.{answer_to, answers_for, is_unanswered, read_of, ready_at}
 use Rattle.epoch_runner.specs.KernelLaws.{ReadLaw, ReservationLaw, RunLaws, TurnLaws}
-use Rattle.epoch_runner.specs.Schedule.{Course, IsScheduled, Next, closed, closed_by, course, ends, followed, next, progress, starting, step, turn_of, turned}
-use Rattle.epoch_runner.specs.Supplying.{Claim, EachSlice, EachTurn, IsSuppliedRun, IsSuppliedTurn}
+use Rattle.epoch_runner.specs.Schedule.{Course, IsScheduled, NextStep, closed, closed_by, course, ends, followed, next, progress, starting, step, turn_of, turned}
+use Rattle.epoch_runner.specs.Supplying.{StateClaim, EachSlice, EachTurn, IsSuppliedRun, IsSuppliedTurn}
 use Rattle.epoch_runner.proofs.Nexts.{turn_next}
 use Rattle.epoch_runner.proofs.Readiness.{peeked_alive, ready_answered, ready_rest}
 use Rattle.epoch_runner.proofs.Reservations.{closed_answers, closed_end, closed_input, closed_ready}
 use Rattle.epoch_runner.proofs.Supplies.{known, thread_read}
-use Rattle.supply.specs.Supplied.{Supplied, answer_at}
+use Rattle.supply.specs.Supplied.{Supplied, window_answer}
 use Rattle.sync_hints.specs.declared.hints.Hints.{Hints}
 use Rattle.epoch_runner.specs.Hinted.{Following}
 use Rattle.turn_peek.specs.declared.peek.Peek.{Peek}
@@ -32,21 +32,21 @@ use Rattle.turn_peek.specs.declared.peek.Peek.TheVariants as peeks
 
 -- ---- turns and slices, cut in two
 
-abbrev Follows : Claim → Claim → Type 0
+abbrev Follows : StateClaim → StateClaim → Type 0
 Follows P Q = (s : State) (log : List Answer) → P s log → Q s log
 
-if_ok : (r : Result After Refusal) (P Q : After → Type 0) → ((there : After) → P there → Q there) → IfOk r P → IfOk r Q
+if_ok : (r : Result After TurnRefusal) (P Q : After → Type 0) → ((there : After) → P there → Q there) → IfOk r P → IfOk r Q
 if_ok (Ok there) P Q f is = f there is
 if_ok (Err refusal) P Q f is = tt
 
 module _ (w : Supplied) where
-  turns_then : (count : ℕ) (tid : Tid) (P Q : Claim) → Follows P Q → Follows (EachTurn w count tid P) (EachTurn w count tid Q)
+  turns_then : (count : ℕ) (tid : Tid) (P Q : StateClaim) → Follows P Q → Follows (EachTurn w count tid P) (EachTurn w count tid Q)
   turns_then zero tid P Q f s log is = f s log is
   turns_then (suc count) tid P Q f s log is =
       (is.0, if_ok (turn s tid log) (λ there. EachTurn w count tid P there.state there.rest) (λ there. EachTurn w count tid Q there.state there.rest) (λ there. turns_then count tid P Q f there.state there.rest) is.1)
 
   -- one turn more
-  turn_more : (count : ℕ) (tid : Tid) (P : Claim) → Follows (EachTurn w count tid (EachTurn w 1 tid P)) (EachTurn w (count + 1) tid P)
+  turn_more : (count : ℕ) (tid : Tid) (P : StateClaim) → Follows (EachTurn w count tid (EachTurn w 1 tid P)) (EachTurn w (count + 1) tid P)
   turn_more zero tid P s log is = is
   turn_more (suc count) tid P s log is =
       let one : suc (count + 1) ≡ suc count + 1 = omega arith in
@@ -56,14 +56,14 @@ module _ (w : Supplied) where
             (λ there. turn_more count tid P there.state there.rest) is.1,
       )
 
-  slices_then : (xs : List Slice) (P Q : Claim) → Follows P Q → Follows (EachSlice w xs P) (EachSlice w xs Q)
+  slices_then : (xs : List Slice) (P Q : StateClaim) → Follows P Q → Follows (EachSlice w xs P) (EachSlice w xs Q)
   slices_then [] P Q f s log is = f s log is
   slices_then (x ∷ xs) P Q f s log is =
       turns_then x.steps x.tid (λ t rest. EachSlice w xs P (without_reservation t x.tid) rest) (λ t rest. EachSlice w xs Q (without_reservation t x.tid) rest)
       (λ t rest. slices_then xs P Q f (without_reservation t x.tid) rest) s log is
 
   -- one slice more
-  slice_more : (xs : List Slice) (tid : Tid) (steps : ℕ) (P : Claim) → Follows (EachSlice w xs (EachTurn w steps tid (λ t rest. P (without_reservation t tid) rest))) (EachSlice w (xs ++ one_slice tid steps) P)
+  slice_more : (xs : List Slice) (tid : Tid) (steps : ℕ) (P : StateClaim) → Follows (EachSlice w xs (EachTurn w steps tid (λ t rest. P (without_reservation t tid) rest))) (EachSlice w (xs ++ one_slice tid steps) P)
   slice_more [] tid steps P s log is = is
   slice_more (x ∷ xs) tid steps P s log is =
       turns_then x.steps x.tid (λ t rest. EachSlice w xs (EachTurn w steps tid (λ u left. P (without_reservation u tid) left)) (without_reservation t x.tid) rest)
@@ -73,10 +73,10 @@ module _ (w : Supplied) where
 -- ---- one turn
 
 -- the first of some turns isn't defined
-abbrev undefined_at : After → Refusal → Result After (ℕ × After)
+abbrev undefined_at : After → TurnRefusal → Result After (ℕ × After)
 undefined_at here refusal = Err (0, here)
 
-abbrev one_turn_from : After → Result After Refusal → Result After (ℕ × After)
+abbrev one_turn_from : After → Result After TurnRefusal → Result After (ℕ × After)
 one_turn_from here r = either r (undefined_at here) (λ after. Ok (joined here after))
 
 -- a turn with answers left over
@@ -85,12 +85,12 @@ unfolding turns
 turn_longer laws s tid log more there is =
     by_one (turn s tid (log ++ more)) (laws.longer tid 0 1 s [] log more there (ap (one_turn_from (at s [] log)) is))
   where
-    by_one : (r : Result After Refusal) → one_turn_from (at s [] (log ++ more)) r ≡ Ok (record there { rest = there.rest ++ more }) → r ≡ Ok (record there { rest = there.rest ++ more })
+    by_one : (r : Result After TurnRefusal) → one_turn_from (at s [] (log ++ more)) r ≡ Ok (record there { rest = there.rest ++ more }) → r ≡ Ok (record there { rest = there.rest ++ more })
     by_one (Ok after) e = cc
     by_one (Err refusal) e = absurd cc
 
 module _ (w : Supplied) where
-  read_supplied : (place max : ℕ) (more : List Answer) (o : Option (List ℕ)) → answer_at place max w ≡ o → w.place ≤ place → 0 < max → not (is_some o) ≡ false → IsSuppliedTurn w (peeks.Read place max) (read_of o ++ more)
+  read_supplied : (place max : ℕ) (more : List Answer) (o : Option (List ℕ)) → window_answer place max w ≡ o → w.place ≤ place → 0 < max → not (is_some o) ≡ false → IsSuppliedTurn w (peeks.Read place max) (read_of o ++ more)
   read_supplied place max more None is from some answered = absurd cc
   read_supplied place max more (Some bytes) is from some answered = let k = known w place max bytes from some is in record { taken = k.taken; none = k.none }
 
@@ -99,7 +99,7 @@ module _ (w : Supplied) where
   answer_supplied peeks.Plain more reads answered = tt
   answer_supplied peeks.Sync more reads answered = tt
   answer_supplied peeks.Sc more reads answered = tt
-  answer_supplied (peeks.Read place max) more reads answered = let read = reads place max refl in read_supplied place max more (answer_at place max w) refl read.0 read.1 answered
+  answer_supplied (peeks.Read place max) more reads answered = let read = reads place max refl in read_supplied place max more (window_answer place max w) refl read.0 read.1 answered
   answer_supplied peeks.Clock more reads answered = refl
 
 -- ---- courses
@@ -107,11 +107,11 @@ module _ (w : Supplied) where
 module _ (turn_laws : TurnLaws) (run_laws : RunLaws) (reserved : ReservationLaw) (read_law : ReadLaw) (start : State) (hints : Hints) (w : Supplied) where
   -- Whatever holds of the state with the answers to come, each turn so far is supplied, and then that holds.
   abbrev Slices : List Slice → State → List Answer → Type 1
-  Slices done s answers = (more : List Answer) (P : Claim) → P s more → EachSlice w done P start (answers ++ more)
+  Slices done s answers = (more : List Answer) (P : StateClaim) → P s more → EachSlice w done P start (answers ++ more)
 
   abbrev Turns : Course → Option Tid → Type 1
   Turns c None = Slices c.done c.state c.answers
-  Turns c (Some tid) = (more : List Answer) (P : Claim) → P c.state more → EachSlice w c.done (EachTurn w c.in_slice tid P) start (c.answers ++ more)
+  Turns c (Some tid) = (more : List Answer) (P : StateClaim) → P c.state more → EachSlice w c.done (EachTurn w c.in_slice tid P) start (c.answers ++ more)
 
   -- its slice is over
   closed_turns : (c : Course) (last : Option Tid) → Turns c last → Slices (closed_by c last).done (closed_by c last).state (closed_by c last).answers
@@ -120,7 +120,7 @@ module _ (turn_laws : TurnLaws) (run_laws : RunLaws) (reserved : ReservationLaw)
       slice_more w c.done tid c.in_slice P start (c.answers ++ more) (so_far more (λ t rest. P (without_reservation t tid) rest) holds)
 
   -- a turn of a thread that can step
-  one_turn : (c : Course) (tid : Tid) (there : After) (more : List Answer) (P : Claim) → w.place ≤ c.state.input → has_ended c.state.end ≡ false → ready_at c.state w tid ≡ true
+  one_turn : (c : Course) (tid : Tid) (there : After) (more : List Answer) (P : StateClaim) → w.place ≤ c.state.input → has_ended c.state.end ≡ false → ready_at c.state w tid ≡ true
       → turn c.state tid (answers_for c.state w tid) ≡ Ok there → P there.state more → EachTurn w 1 tid P c.state (answers_for c.state w tid ++ more)
   one_turn c tid there more P placed alive ready is holds =
       let s = c.state in
@@ -129,7 +129,7 @@ module _ (turn_laws : TurnLaws) (run_laws : RunLaws) (reserved : ReservationLaw)
       let rest = ready_rest turn_laws s w tid there alive ready is in (
         answer_supplied w (peeked s tid) more
             (λ place max e. let read = thread_read turn_laws reserved read_law s.pages s.input place max (thread_at s.threads tid) (sym peek_is ∙ e) in (omega (arith, placed, read.0), read.1)) answered,
-        subst (λ (r : Result After Refusal). IfOk r (λ after. P after.state after.rest)) (sym (turn_longer run_laws s tid (answers_for s w tid) more there is))
+        subst (λ (r : Result After TurnRefusal). IfOk r (λ after. P after.state after.rest)) (sym (turn_longer run_laws s tid (answers_for s w tid) more there is))
             (subst (λ (l : List Answer). P there.state (l ++ more)) (sym rest) holds),
       )
 
@@ -138,7 +138,7 @@ module _ (turn_laws : TurnLaws) (run_laws : RunLaws) (reserved : ReservationLaw)
     unstarted : c.last ≡ None → c.in_slice ≡ 0
     turns_so_far : Turns c c.last
 
-  turn_holds : (c d : Course) (tid : Tid) (left : Option Following) (r : Result After Refusal) → w.place ≤ c.state.input → Turns c (Some tid) → has_ended c.state.end ≡ false → ready_at c.state w tid ≡ true
+  turn_holds : (c d : Course) (tid : Tid) (left : Option Following) (r : Result After TurnRefusal) → w.place ≤ c.state.input → Turns c (Some tid) → has_ended c.state.end ≡ false → ready_at c.state w tid ≡ true
       → turn c.state tid (answers_for c.state w tid) ≡ r → turned c tid left (answers_for c.state w tid) r ≡ Some d → Holds d
   turn_holds c d tid left (Err refusal) placed so_far alive ready is went = absurd cc
   turn_holds c d tid left (Ok there) placed so_far alive ready is went =
@@ -165,7 +165,7 @@ module _ (turn_laws : TurnLaws) (run_laws : RunLaws) (reserved : ReservationLaw)
   closed_empty c None unstarted = unstarted refl
   closed_empty c (Some tid) unstarted = refl
 
-  next_holds : (bounds : Bounds) (c d : Course) (x : Next) → Holds c → next c.state w bounds (progress c) ≡ x → followed w c x ≡ Some d → Holds d
+  next_holds : (bounds : Bounds) (c d : Course) (x : NextStep) → Holds c → next c.state w bounds (progress c) ≡ x → followed w c x ≡ Some d → Holds d
   next_holds bounds c d ends so_far is went = absurd cc
   next_holds bounds c d (turn_of tid false left) so_far is went =
       let there = turn_next c.state w bounds (progress c) tid false left is in

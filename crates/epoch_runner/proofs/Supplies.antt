@@ -15,14 +15,14 @@ use Rattle.guest_state.specs.declared.thread.Thread.{Thread}
 use Rattle.guest_state.specs.declared.thread.Thread.TheVariants.{Runs, Waits, Gone}
 use Rattle.guest_kernel.specs.declared.state.State.{State}
 use Rattle.guest_kernel.specs.Answers.{bytes_read, clock_readings}
-use Rattle.guest_kernel.specs.Call.{After, Refusal}
+use Rattle.guest_kernel.specs.Call.{After, TurnRefusal}
 use Rattle.guest_kernel.specs.Peek.{peeked}
 use Rattle.guest_kernel.specs.State.{has_ended}
 use Rattle.guest_kernel.specs.Threads.{thread_at}
 use Rattle.guest_kernel.specs.Turn.{turn, yields}
 use Rattle.epoch_runner.specs.declared.bounds.Bounds.{Bounds}
 use Rattle.epoch_runner.specs.Answering.{answer_to, answers_for, is_unanswered, read_of, ready_at}
-use Rattle.epoch_runner.specs.Schedule.{Course, IsScheduled, Next, closed, course, ends, followed, next, progress, starting, step, turn_of, turned}
+use Rattle.epoch_runner.specs.Schedule.{Course, IsScheduled, NextStep, closed, course, ends, followed, next, progress, starting, step, turn_of, turned}
 use Rattle.epoch_runner.specs.Supplying.{IsSuppliedBy}
 use Rattle.dp_base.proofs.Lists.{all_append}
 use Rattle.epoch_runner.proofs.AnswerLists.{clocks_append, read_append}
@@ -30,7 +30,7 @@ use Rattle.epoch_runner.specs.KernelLaws.{ReadLaw, ReservationLaw, TurnLaws}
 use Rattle.epoch_runner.proofs.Nexts.{turn_next}
 use Rattle.epoch_runner.proofs.Readiness.{peeked_alive, ready_answered, ready_rest}
 use Rattle.epoch_runner.proofs.Reservations.{closed_answers, closed_end, closed_input, closed_ready}
-use Rattle.supply.specs.Supplied.{Supplied, answer_at, end_of}
+use Rattle.supply.specs.Supplied.{Supplied, window_answer, end_of}
 use Rattle.sync_hints.specs.declared.hints.Hints.{Hints}
 use Rattle.epoch_runner.specs.Hinted.{Following}
 use Rattle.turn_peek.specs.declared.peek.Peek.{Peek}
@@ -150,7 +150,7 @@ known_by w mid max bytes false true from some inside at_end is =
     record { taken = sym same ∙ sym (take_none max (drop (mid - w.place) w.window) past); none = λ empty. end }
 known_by w mid max bytes false false from some inside at_end is = absurd cc
 
-pub known : (w : Supplied) (mid max : ℕ) (bytes : List ℕ) → w.place ≤ mid → 0 < max → answer_at mid max w ≡ Some bytes → IsKnown w mid max bytes
+pub known : (w : Supplied) (mid max : ℕ) (bytes : List ℕ) → w.place ≤ mid → 0 < max → window_answer mid max w ≡ Some bytes → IsKnown w mid max bytes
 known w mid max bytes from some is =
     known_by w mid max bytes (nat_le w.place mid && nat_lt mid (end_of w)) (w.ended && (mid == end_of w)) from some
     (λ inside. ltb-true mid (end_of w) (and_parts (nat_le w.place mid) (nat_lt mid (end_of w)) inside).1)
@@ -165,9 +165,9 @@ answer_more w place mid behind log peeks.Sync from so_far reads answered moved =
 answer_more w place mid behind log peeks.Sc from so_far reads answered moved = nothing_more w place mid behind log so_far (omega (arith, moved))
 answer_more w place mid behind log (peeks.Read at max) from so_far reads answered moved =
     let read = reads at max refl in
-    by_answer (answer_at at max w) (ap (λ n. answer_at n max w) (sym read.0)) read.1 answered moved
+    by_answer (window_answer at max w) (ap (λ n. window_answer n max w) (sym read.0)) read.1 answered moved
   where
-    by_answer : (o : Option (List ℕ)) → answer_at mid max w ≡ o → 0 < max → not (is_some o) ≡ false → behind ≡ mid + length (bytes_read (read_of o)) → IsSuppliedBy w place behind (log ++ read_of o)
+    by_answer : (o : Option (List ℕ)) → window_answer mid max w ≡ o → 0 < max → not (is_some o) ≡ false → behind ≡ mid + length (bytes_read (read_of o)) → IsSuppliedBy w place behind (log ++ read_of o)
     by_answer None is some never sum = absurd cc
     by_answer (Some bytes) is some never sum =
         let k = known w mid max bytes (omega (arith, from, so_far.moves)) some is in
@@ -183,7 +183,7 @@ module _ (turn_laws : TurnLaws) (reserved : ReservationLaw) (read_law : ReadLaw)
   thread_read m input at max (Some (Waits addr hart clear)) is = absurd cc
   thread_read m input at max (Some (Gone code)) is = absurd cc
 
-  turn_more : (w : Supplied) (place : ℕ) (c d : Course) (tid : Tid) (hints : Option Following) (r : Result After Refusal) → w.place ≤ place → IsSuppliedBy w place c.state.input c.answers → has_ended c.state.end ≡ false → ready_at c.state w tid ≡ true
+  turn_more : (w : Supplied) (place : ℕ) (c d : Course) (tid : Tid) (hints : Option Following) (r : Result After TurnRefusal) → w.place ≤ place → IsSuppliedBy w place c.state.input c.answers → has_ended c.state.end ≡ false → ready_at c.state w tid ≡ true
       → turn c.state tid (answers_for c.state w tid) ≡ r → turned c tid hints (answers_for c.state w tid) r ≡ Some d → IsSuppliedBy w place d.state.input d.answers
   turn_more w place c d tid hints (Err refusal) from so_far alive ready is went = absurd cc
   turn_more w place c d tid hints (Ok after) from so_far alive ready is went =
@@ -198,7 +198,7 @@ module _ (turn_laws : TurnLaws) (reserved : ReservationLaw) (read_law : ReadLaw)
       subst (λ (y : Course). IsSuppliedBy w place y.state.input y.answers) same
       (answer_more w place s.input after.state.input c.answers (peeked s tid) from so_far (λ at max e. thread_read s.pages s.input at max (thread_at s.threads tid) (sym peek_is ∙ e)) answered moved)
 
-  supplied_next : (w : Supplied) (bounds : Bounds) (place : ℕ) (c d : Course) (x : Next) → w.place ≤ place → IsSuppliedBy w place c.state.input c.answers → next c.state w bounds (progress c) ≡ x → followed w c x ≡ Some d
+  supplied_next : (w : Supplied) (bounds : Bounds) (place : ℕ) (c d : Course) (x : NextStep) → w.place ≤ place → IsSuppliedBy w place c.state.input c.answers → next c.state w bounds (progress c) ≡ x → followed w c x ≡ Some d
       → IsSuppliedBy w place d.state.input d.answers
   supplied_next w bounds place c d ends from so_far is went = absurd cc
   supplied_next w bounds place c d (turn_of tid false hints) from so_far is went =

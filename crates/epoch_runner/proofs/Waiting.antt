@@ -10,7 +10,7 @@ use Rattle.guest_kernel.specs.State.{has_ended}
 use Rattle.guest_kernel.specs.Threads.{is_running}
 use Rattle.epoch_runner.specs.Answering.{can_step, input_due, is_ready, is_unanswered, waits_for_input}
 use Rattle.epoch_runner.specs.KernelLaws.{ReadLaw}
-use Rattle.supply.specs.Supplied.{Supplied, answer_at, end_of, refilled}
+use Rattle.supply.specs.Supplied.{Supplied, window_answer, end_of, refilled}
 use Rattle.turn_peek.specs.declared.peek.Peek.{Peek}
 use Rattle.turn_peek.specs.declared.peek.Peek.TheVariants as peeks
 use Rattle.turn_peek.specs.Peek.{hart_peeked, thread_peeked}
@@ -46,12 +46,12 @@ any_found f (x ∷ xs) is = elim (or_cases (f x) (list_any f xs) is) [
 -- ---- a thread that waits
 
 -- a read whose answer isn't known
-unanswered_read : (w : Supplied) (p : Peek) → is_unanswered w p ≡ true → (place : ℕ) × ((max : ℕ) × ((p ≡ peeks.Read place max) × (is_some (answer_at place max w) ≡ false)))
+unanswered_read : (w : Supplied) (p : Peek) → is_unanswered w p ≡ true → (place : ℕ) × ((max : ℕ) × ((p ≡ peeks.Read place max) × (is_some (window_answer place max w) ≡ false)))
 unanswered_read w peeks.NotRunnable is = absurd cc
 unanswered_read w peeks.Plain is = absurd cc
 unanswered_read w peeks.Sync is = absurd cc
 unanswered_read w peeks.Sc is = absurd cc
-unanswered_read w (peeks.Read place max) is = (place, (max, (refl, not-true (is_some (answer_at place max w)) is)))
+unanswered_read w (peeks.Read place max) is = (place, (max, (refl, not-true (is_some (window_answer place max w)) is)))
 unanswered_read w peeks.Clock is = absurd cc
 
 not_answered : (max : ℕ) (rest : List ℕ) (a b : Bool) → is_some (cond a (Some (take max rest)) (cond b (Some []) None)) ≡ false → (a ≡ false) × (b ≡ false)
@@ -64,7 +64,7 @@ pub record IsUsedUp (w : Supplied) (place : ℕ) : Type 0 where
   pub end : place ≡ end_of w
   pub going : w.ended ≡ false
 
-used_up_by : (w : Supplied) (place max : ℕ) → w.place ≤ place → place ≤ end_of w → is_some (answer_at place max w) ≡ false → IsUsedUp w place
+used_up_by : (w : Supplied) (place max : ℕ) → w.place ≤ place → place ≤ end_of w → is_some (window_answer place max w) ≡ false → IsUsedUp w place
 used_up_by w place max from within unknown =
     let parts = not_answered max (drop (place - w.place) w.window) (nat_le w.place place && nat_lt place (end_of w)) (w.ended && (place == end_of w)) unknown in
     let end : place ≡ end_of w = behind (and_cases (nat_le w.place place) (nat_lt place (end_of w)) parts.0) in
@@ -79,7 +79,7 @@ used_up_by w place max from within unknown =
     going end (inr other) = absurd (both_ways (place == end_of w) other (eq-eqb place (end_of w) end))
 
 -- at its end an answer is known once the window is refilled
-answered_by : (w : Supplied) (place max : ℕ) (bytes : List ℕ) (stamp : ℕ) → place ≡ end_of w → is_some (answer_at place max (record (refilled bytes w) { stamp = stamp })) ≡ true
+answered_by : (w : Supplied) (place max : ℕ) (bytes : List ℕ) (stamp : ℕ) → place ≡ end_of w → is_some (window_answer place max (record (refilled bytes w) { stamp = stamp })) ≡ true
 answered_by w place max bytes stamp end = by_size (cases_lt 0 (length bytes))
   where
     v : Supplied
@@ -91,7 +91,7 @@ answered_by w place max bytes stamp end = by_size (cases_lt 0 (length bytes))
     known false false rest (inl is) = absurd cc
     known false false rest (inr is) = absurd cc
 
-    by_size : (0 < length bytes) ⊎ (length bytes ≤ 0) → is_some (answer_at place max v) ≡ true
+    by_size : (0 < length bytes) ⊎ (length bytes ≤ 0) → is_some (window_answer place max v) ≡ true
     by_size (inl some) =
         known (nat_le v.place place && nat_lt place (end_of v)) (v.ended && (place == end_of v)) (drop (place - v.place) v.window)
         (inl (and_from _ _ (le-leb v.place place (omega (arith, end))) (lt-ltb place (end_of v) (omega (arith, end, some)))))
@@ -102,14 +102,14 @@ answered_by w place max bytes stamp end = by_size (cases_lt 0 (length bytes))
 module _ (read_law : ReadLaw) where
   -- a thread that waits is at a read from the place of the input on
   waiting : (s : State) (w : Supplied) (t : Thread) → waits_for_input s w t ≡ true
-      → (max : ℕ) × ((thread_peeked s.pages s.input (Some t) ≡ peeks.Read s.input max) × (is_some (answer_at s.input max w) ≡ false))
+      → (max : ℕ) × ((thread_peeked s.pages s.input (Some t) ≡ peeks.Read s.input max) × (is_some (window_answer s.input max w) ≡ false))
   waiting s w (Runs hart clear) is =
       let p = hart_peeked hart s.pages s.input in
       let read = unanswered_read w p (and_parts true (is_unanswered w p) is).1 in
       let place = read.0 in
       let max = read.1.0 in
       let same : place ≡ s.input = (read_law hart s.pages s.input place max read.1.1.0).0 in
-      (max, (read.1.1.0 ∙ ap (λ n. peeks.Read n max) same, ap (λ n. is_some (answer_at n max w)) (sym same) ∙ read.1.1.1))
+      (max, (read.1.1.0 ∙ ap (λ n. peeks.Read n max) same, ap (λ n. is_some (window_answer n max w)) (sym same) ∙ read.1.1.1))
   waiting s w (Waits addr hart clear) is = absurd cc
   waiting s w (Gone code) is = absurd cc
 

@@ -12,7 +12,7 @@ use Rattle.epoch_runner.specs.declared.bounds.Bounds.{Bounds}
 use Rattle.epoch_runner.specs.Answering.{ready_at}
 use Rattle.epoch_runner.specs.Hinted.{lefts}
 use Rattle.epoch_runner.specs.KernelLaws.{ReservationLaw}
-use Rattle.epoch_runner.specs.Schedule.{Course, Next, begins_from, by_last, ends, ends_epoch, next, progress, starting, turn_of}
+use Rattle.epoch_runner.specs.Schedule.{Course, NextStep, begins_from, by_last, ends, ends_epoch, next, progress, starting, turn_of}
 use Rattle.epoch_runner.specs.SliceRun.{Traced}
 use Rattle.epoch_runner.specs.Walking.{opened}
 use Rattle.epoch_runner.proofs.Epochs.{untraced}
@@ -30,7 +30,7 @@ unfolding lefts
 fresh_starts s t done nothing none = ap (λ x. fresh s x done) nothing ∙ ap (fresh s untraced) none
 
 -- what is next where an epoch goes on without hints, by the thread that ran last
-pub goes_by : (w : Supplied) (bounds : Bounds) (known c : Course) (last : Option Tid) (x : Next) → known ≡ c → known.hints ≡ None → known.last ≡ last → ends_epoch c.state w bounds (progress c) ≡ false
+pub goes_by : (w : Supplied) (bounds : Bounds) (known c : Course) (last : Option Tid) (x : NextStep) → known ≡ c → known.hints ≡ None → known.last ≡ last → ends_epoch c.state w bounds (progress c) ≡ false
     → x ≡ by_last c.state w bounds (progress c) last → x ≡ next c.state w bounds (progress c)
 goes_by w bounds known c last x same none last_is goes is =
     is ∙ ap (by_last c.state w bounds (progress c)) (sym last_is ∙ ap (λ (y : Course). y.last) same)
@@ -38,7 +38,7 @@ goes_by w bounds known c last x same none last_is goes is =
     ∙ sym (next_by_last c.state w bounds (progress c) (ap (λ (y : Course). y.hints) (sym same) ∙ none))
 
 -- before the first turn a slice begins
-pub goes_first : (w : Supplied) (bounds : Bounds) (known c : Course) (x : Next) → known ≡ c → known.hints ≡ None → known.last ≡ None → ends_epoch c.state w bounds (progress c) ≡ false → x ≡ begins_from known.state w bounds.first
+pub goes_first : (w : Supplied) (bounds : Bounds) (known c : Course) (x : NextStep) → known ≡ c → known.hints ≡ None → known.last ≡ None → ends_epoch c.state w bounds (progress c) ≡ false → x ≡ begins_from known.state w bounds.first
     → x ≡ next c.state w bounds (progress c)
 goes_first w bounds known c x same none last_is goes is = goes_by w bounds known c None x same none last_is goes (is ∙ ap (λ (y : Course). begins_from y.state w bounds.first) same)
 

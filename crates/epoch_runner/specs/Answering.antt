@@ -9,7 +9,7 @@ use Rattle.guest_kernel.specs.declared.state.State.{State}
 use Rattle.guest_kernel.specs.Peek.{peeked}
 use Rattle.guest_kernel.specs.State.{has_ended}
 use Rattle.guest_kernel.specs.Threads.{is_running, thread_at}
-use Rattle.supply.specs.Supplied.{Supplied, answer_at}
+use Rattle.supply.specs.Supplied.{Supplied, window_answer}
 use Rattle.turn_peek.specs.Peek.{thread_peeked}
 use Rattle.turn_peek.specs.declared.peek.Peek.{Peek}
 use Rattle.turn_peek.specs.declared.peek.Peek.TheVariants as peeks
@@ -28,7 +28,7 @@ answer_to w peeks.NotRunnable = []
 answer_to w peeks.Plain = []
 answer_to w peeks.Sync = []
 answer_to w peeks.Sc = []
-answer_to w (peeks.Read place max) = read_of (answer_at place max w)
+answer_to w (peeks.Read place max) = read_of (window_answer place max w)
 answer_to w peeks.Clock = Clock w.stamp ∷ []
 
 -- to a thread's next turn
@@ -43,7 +43,7 @@ is_unanswered w peeks.NotRunnable = false
 is_unanswered w peeks.Plain = false
 is_unanswered w peeks.Sync = false
 is_unanswered w peeks.Sc = false
-is_unanswered w (peeks.Read place max) = not (is_some (answer_at place max w))
+is_unanswered w (peeks.Read place max) = not (is_some (window_answer place max w))
 is_unanswered w peeks.Clock = false
 
 -- a thread waits for input: it runs, and is at such a read

@@ -19,8 +19,8 @@ use Rattle.epoch_runner.specs.SliceRun.{Traced}
 use Rattle.epoch_runner.specs.declared.bounds.Bounds.{Bounds}
 use Rattle.epoch_runner.specs.declared.following.Following as code
 use Rattle.epoch_runner.specs.declared.hint_stage.HintTurn.{HintTurn}
-use Rattle.epoch_runner.specs.declared.hint_stage.Stage.{Stage}
-use Rattle.epoch_runner.specs.declared.hint_stage.Stage.TheVariants.{Others, Own, Last}
+use Rattle.epoch_runner.specs.declared.hint_stage.HintStage.{HintStage}
+use Rattle.epoch_runner.specs.declared.hint_stage.HintStage.TheVariants.{Others, Own, Last}
 use Rattle.supply.specs.Supplied.{Supplied}
 use Rattle.sync_hints.specs.declared.hints.Hints.{Hints}
 use Rattle.sync_hints.specs.declared.hints.SyncHint.{SyncHint}
@@ -31,7 +31,7 @@ abbrev pub following_of : code.Following → List SyncHint → Following
 following_of f order = record { left = f.left.items; stage = f.stage; order = drop f.taken order }
 
 -- a thread's plain turns are taken at this stage
-abbrev pub IsAt : Stage → Tid → Type 0
+abbrev pub IsAt : HintStage → Tid → Type 0
 IsAt (Others entry from) tid = (from ≡ tid.0) × ((entry.tid.0 == tid.0) ≡ false)
 IsAt (Own entry) tid = entry.tid ≡ tid
 IsAt (Last from) tid = from ≡ tid.0
@@ -99,8 +99,8 @@ pub record HasGonePlain (tid : Tid) (s : State) (before : Traced) (steps : ℕ) 
   pub same : behind ≡ before
 
 -- Plain turns of a thread, if these are wanted, or one turn.
-abbrev pub HasTaken : Supplied → Tid → (plain : Bool) → State → Traced → (steps : ℕ) → State → Traced → Type 0
-HasTaken w tid plain s before steps after behind =
+abbrev pub HasTakenHinted : Supplied → Tid → (plain : Bool) → State → Traced → (steps : ℕ) → State → Traced → Type 0
+HasTakenHinted w tid plain s before steps after behind =
     ((plain ≡ true) × HasGonePlain tid s before steps after behind) ⊎ ((steps ≡ 1) × ((yielded : Bool) × HasTurned w tid s before yielded after behind))
 
 -- ---- an epoch that follows hints
@@ -130,11 +130,11 @@ pub record HintedSoFar (start : State) (hints : Hints) (w : Supplied) (bounds : 
   pub could_step : can_step start w ≡ true
 
 -- Why no more turns are taken by hints: the epoch is over, they are used up, or they can't be followed.
-abbrev pub IsStopped : Supplied → State → Traced → (left : ℕ) → Following → Type 0
-IsStopped w s t left f = ((has_ended s.end ≡ true) ⊎ ((left ≡ 0) ⊎ ((EPOCH_END_BYTES ≤ length t.output) ⊎ (EPOCH_END_BYTES ≤ length (bytes_read t.answers)))))
+abbrev pub AreHintsOver : Supplied → State → Traced → (left : ℕ) → Following → Type 0
+AreHintsOver w s t left f = ((has_ended s.end ≡ true) ⊎ ((left ≡ 0) ⊎ ((EPOCH_END_BYTES ≤ length t.output) ⊎ (EPOCH_END_BYTES ≤ length (bytes_read t.answers)))))
     ⊎ ((any_left f.left ≡ false) ⊎ (hinted s w f ≡ None))
 
 -- by whether more turns were taken
 abbrev pub HasFollowed : (more : Bool) → (start : State) (hints : Hints) (w : Supplied) (bounds : Bounds) (s : State) (slices : List Slice) (t : Traced) (before left : ℕ) (hand : Option Slice) (f : Following) → Type 0
 HasFollowed true start hints w bounds s slices t before left hand f = HintedSoFar start hints w bounds s slices t left hand f × (left < before)
-HasFollowed false start hints w bounds s slices t before left hand f = HintedSoFar start hints w bounds s slices t left hand f × (IsStopped w s t left f × (left ≡ before))
+HasFollowed false start hints w bounds s slices t before left hand f = HintedSoFar start hints w bounds s slices t left hand f × (AreHintsOver w s t left f × (left ≡ before))

@@ -6,8 +6,8 @@ use Rattle.guest_kernel.specs.declared.state.State.{State}
 use Rattle.guest_kernel.specs.Peek.{peeked}
 use Rattle.epoch_runner.specs.Answering.{ready_at}
 use Rattle.epoch_runner.specs.Lowest.{lowest_from}
-use Rattle.epoch_runner.specs.declared.hint_stage.Stage.{Stage}
-use Rattle.epoch_runner.specs.declared.hint_stage.Stage.TheVariants.{Others, Own, Last}
+use Rattle.epoch_runner.specs.declared.hint_stage.HintStage.{HintStage}
+use Rattle.epoch_runner.specs.declared.hint_stage.HintStage.TheVariants.{Others, Own, Last}
 use Rattle.supply.specs.Supplied.{Supplied}
 use Rattle.sync_hints.specs.declared.hints.Sc.{Sc}
 use Rattle.sync_hints.specs.declared.hints.Sc.TheVariants.{NotSc, Won, Lost}
@@ -50,7 +50,7 @@ less left tid steps = slice_set left tid.0 (left_of left tid - steps)
 pub record Following : Type 0 where
   pub left : List ℕ
   -- the entry in hand and its rule, or that the last entry is done, and the threads that the rule has passed
-  pub stage : Stage
+  pub stage : HintStage
   -- the entries after it
   pub order : List SyncHint
 
@@ -65,7 +65,7 @@ is_lost Won = false
 is_lost Lost = true
 
 -- an entry comes into hand; rule 1 is for those whose SC didn't win
-abbrev pub first_stage : SyncHint → Stage
+abbrev pub first_stage : SyncHint → HintStage
 first_stage entry = if is_won entry.sc then Own entry else Others entry 1
 
 -- the next entry comes into hand, or none is left
@@ -121,7 +121,7 @@ pub record HintedTurn : Type 0 where
   -- the hints after it
   pub behind : Following
 
-abbrev pub plain_turn : Following → Tid → Stage → Option HintedTurn
+abbrev pub plain_turn : Following → Tid → HintStage → Option HintedTurn
 plain_turn f tid stage = Some (record { tid = tid; fresh = false; behind = record f { left = less f.left tid 1; stage = stage } })
 
 abbrev pub entry_turn : Following → SyncHint → Option HintedTurn
@@ -141,7 +141,7 @@ abbrev pub by_last_rule : Following → Option Tid → Option HintedTurn
 by_last_rule f (Some tid) = plain_turn f tid (Last tid.0)
 by_last_rule f None = None
 
-abbrev pub by_stage : State → Supplied → Following → Stage → Option HintedTurn
+abbrev pub by_stage : State → Supplied → Following → HintStage → Option HintedTurn
 by_stage s w f (Others entry from) = by_others s w f entry (rule_1 s f.left entry from)
 by_stage s w f (Own entry) = by_own s w f entry
 by_stage s w f (Last from) = by_last_rule f (last_rule s f.left from)

@@ -9,7 +9,7 @@ use Rattle.dp_base.specs.declared.tid.Tid.{Tid}
 use Rattle.dp_base.specs.Field.{◌>>=◌}
 use Rattle.dp_base.specs.Journal.{Epoch, steps_of}
 use Rattle.guest_kernel.specs.declared.state.State.{State}
-use Rattle.guest_kernel.specs.Call.{After, Refusal}
+use Rattle.guest_kernel.specs.Call.{After, TurnRefusal}
 use Rattle.guest_kernel.specs.Answers.{bytes_read}
 use Rattle.guest_kernel.specs.State.{without_reservation}
 use Rattle.guest_kernel.specs.Turn.{turn, yields}
@@ -23,7 +23,7 @@ use Rattle.sync_hints.specs.declared.hints.Hints.{Hints}
 -- ---- who is next
 
 -- how far an epoch is, beside its state
-pub record Progress : Type 0 where
+pub record EpochProgress : Type 0 where
   -- the thread that ran last; none before the first turn
   pub last : Option Tid
   -- whether its last turn was a yield
@@ -40,24 +40,24 @@ pub record Progress : Type 0 where
 
 -- what comes next: the turn of a thread, with which a slice begins or doesn't, and what is left of the hints after it; or the epoch's
 -- end
-pub data Next : Type 0 where
-  turn_of : (tid : Tid) (begins : Bool) (hints : Option Following) → Next
-  ends : Next
+pub data NextStep : Type 0 where
+  turn_of : (tid : Tid) (begins : Bool) (hints : Option Following) → NextStep
+  ends : NextStep
 
 -- An epoch ends if no thread can step, at its bound of steps, and after the step at which its output is long enough, or what it has
 -- read.
-abbrev pub ends_epoch : State → Supplied → Bounds → Progress → Bool
+abbrev pub ends_epoch : State → Supplied → Bounds → EpochProgress → Bool
 ends_epoch s w bounds p = not (can_step s w) || nat_le bounds.steps p.turns || nat_le EPOCH_END_BYTES p.output || nat_le EPOCH_END_BYTES p.read
 
 -- ---- round robin
 
 -- a slice begins, of this thread if there is one
-abbrev pub begins_with : Option Tid → Next
+abbrev pub begins_with : Option Tid → NextStep
 begins_with (Some tid) = turn_of tid true None
 begins_with None = ends
 
 -- a slice begins: of the lowest thread that can step from a number on, or else of the lowest of all
-abbrev pub begins_from : State → Supplied → ℕ → Next
+abbrev pub begins_from : State → Supplied → ℕ → NextStep
 begins_from s w least = begins_with (option_or (lowest_from (ready_at s w) least s.threads) (lowest_from (ready_at s w) 1 s.threads))
 
 -- the number from which a new slice's thread is sought: one more than that of the thread that ran last
@@ -66,11 +66,11 @@ after_last bounds None = bounds.first
 after_last bounds (Some tid) = tid.0 + 1
 
 -- a thread's slice goes on while it can step, hasn't yielded, and its slice has steps left
-abbrev pub slice_goes_on : State → Supplied → Bounds → Progress → Tid → Bool
+abbrev pub slice_goes_on : State → Supplied → Bounds → EpochProgress → Tid → Bool
 slice_goes_on s w bounds p tid = ready_at s w tid && not p.yielded && nat_lt p.in_slice bounds.slice
 
 -- The slice of the thread that ran last goes on, or a new one begins. Before the first turn nothing goes on.
-abbrev pub by_last : State → Supplied → Bounds → Progress → Option Tid → Next
+abbrev pub by_last : State → Supplied → Bounds → EpochProgress → Option Tid → NextStep
 by_last s w bounds p None = begins_from s w bounds.first
 by_last s w bounds p (Some tid) = if slice_goes_on s w bounds p tid then turn_of tid false None else begins_from s w (tid.0 + 1)
 
@@ -78,7 +78,7 @@ by_last s w bounds p (Some tid) = if slice_goes_on s w bounds p tid then turn_of
 
 -- A thread's turns go on in one slice, however long and whether it yields. Hints that can't be followed are dropped: a slice of the
 -- round robin begins.
-abbrev pub by_hinted : State → Supplied → Bounds → Progress → Option HintedTurn → Next
+abbrev pub by_hinted : State → Supplied → Bounds → EpochProgress → Option HintedTurn → NextStep
 by_hinted s w bounds p (Some t) = turn_of t.tid (t.fresh || not (is_thread p.last t.tid)) (Some t.behind)
 by_hinted s w bounds p None = begins_from s w (after_last bounds p.last)
 
@@ -87,11 +87,11 @@ abbrev pub IsUsedUp : Option Following → Type 0
 IsUsedUp None = ⊥
 IsUsedUp (Some f) = any_left f.left ≡ false
 
-abbrev pub by_hints : State → Supplied → Bounds → Progress → Option Following → Next
+abbrev pub by_hints : State → Supplied → Bounds → EpochProgress → Option Following → NextStep
 by_hints s w bounds p None = by_last s w bounds p p.last
 by_hints s w bounds p (Some f) = if any_left f.left then by_hinted s w bounds p (hinted s w f) else ends
 
-unfoldable pub next : State → Supplied → Bounds → Progress → Next
+unfoldable pub next : State → Supplied → Bounds → EpochProgress → NextStep
 next s w bounds p = if ends_epoch s w bounds p then ends else by_hints s w bounds p p.hints
 
 -- ---- a run by it
@@ -111,7 +111,7 @@ pub record Course : Type 0 where
   -- what is left of the hints
   pub hints : Option Following
 
-abbrev pub progress : Course → Progress
+abbrev pub progress : Course → EpochProgress
 progress c = record {
   last = c.last;
   yielded = c.yielded;
@@ -138,7 +138,7 @@ abbrev pub closed : Course → Course
 closed c = closed_by c c.last
 
 -- after one turn of a thread that took these answers, with what is left of the hints
-abbrev pub turned : Course → Tid → Option Following → List Answer → Result After Refusal → Option Course
+abbrev pub turned : Course → Tid → Option Following → List Answer → Result After TurnRefusal → Option Course
 turned c tid hints answers (Ok after) = Some (record c {
   state = after.state;
   output = c.output ++ after.output;
@@ -154,7 +154,7 @@ turned c tid hints answers (Err refusal) = None
 abbrev pub takes_turn : Supplied → Course → Tid → Option Following → Option Course
 takes_turn w c tid hints = turned c tid hints (answers_for c.state w tid) (turn c.state tid (answers_for c.state w tid))
 
-abbrev pub followed : Supplied → Course → Next → Option Course
+abbrev pub followed : Supplied → Course → NextStep → Option Course
 followed w c (turn_of tid true hints) = takes_turn w (closed c) tid hints
 followed w c (turn_of tid false hints) = takes_turn w c tid hints
 followed w c ends = None

@@ -10,7 +10,7 @@ use Rattle.guest_kernel.specs.Answers.{bytes_read}
 use Rattle.guest_kernel.specs.declared.state.State.{State}
 use Rattle.epoch_runner.specs.declared.bounds.Bounds.{Bounds}
 use Rattle.epoch_runner.specs.Answering.{can_step, is_unanswered}
-use Rattle.epoch_runner.specs.Schedule.{Course, Next, begins_from, begins_with, closed, course, ends, next, progress, starting}
+use Rattle.epoch_runner.specs.Schedule.{Course, NextStep, begins_from, begins_with, closed, course, ends, next, progress, starting}
 use Rattle.supply.specs.Supplied.{Supplied}
 use Rattle.sync_hints.specs.declared.hints.Hints.{Hints}
 use Rattle.turn_peek.specs.declared.peek.Peek.{Peek}
@@ -22,7 +22,7 @@ pub record Traced : Type 0 where
   pub answers : List Answer
 
 -- what comes next where a slice is over, when the epoch has written and read so many bytes and may have so many steps more
-abbrev pub next_slice : State → Supplied → (output read left least : ℕ) → Next
+abbrev pub next_slice : State → Supplied → (output read left least : ℕ) → NextStep
 next_slice s w output read left least =
     if not (can_step s w) || (left == 0) || nat_le EPOCH_END_BYTES output || nat_le EPOCH_END_BYTES read then ends else begins_from s w least
 

@@ -36,17 +36,17 @@ IsSuppliedTurn w peeks.Clock (Read bytes ∷ rest) = ⊥
 IsSuppliedTurn w peeks.Clock (Clock reading ∷ rest) = reading ≡ w.stamp
 
 -- what holds of a state and of the answers that are left
-abbrev pub Claim : Type 1
-Claim = State → List Answer → Type 0
+abbrev pub StateClaim : Type 1
+StateClaim = State → List Answer → Type 0
 
 -- Each of this many turns of a thread is supplied, and this holds after them.
-abbrev pub EachTurn : Supplied → (count : ℕ) → Tid → (After : Claim) → State → List Answer → Type 0
+abbrev pub EachTurn : Supplied → (count : ℕ) → Tid → (After : StateClaim) → State → List Answer → Type 0
 EachTurn w zero tid After s log = After s log
 EachTurn w (suc count) tid After s log =
     IsSuppliedTurn w (peeked s tid) log × IfOk (turn s tid log) (λ there. EachTurn w count tid After there.state there.rest)
 
 -- Each turn of these slices is supplied, and this holds after them.
-abbrev pub EachSlice : Supplied → List Slice → (After : Claim) → State → List Answer → Type 0
+abbrev pub EachSlice : Supplied → List Slice → (After : StateClaim) → State → List Answer → Type 0
 EachSlice w [] After s log = After s log
 EachSlice w (x ∷ xs) After s log = EachTurn w x.steps x.tid (λ t rest. EachSlice w xs After (without_reservation t x.tid) rest) s log
 

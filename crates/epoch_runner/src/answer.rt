@@ -8,7 +8,7 @@ ghost use Rattle.guest_kernel.specs.Turn.{HasRead};
 ghost use Rattle.epoch_runner.specs.Answering.{answer_to, can_step, input_due, is_ready, is_unanswered, read_of, ready_at, waits_for_input};
 ghost use Rattle.dp_base.specs.declared.limits.TheConstants.{MAX_CALL_BYTES};
 ghost use Rattle.epoch_runner.specs.SliceRun.{IsEarlyRead, can_take};
-ghost use Rattle.supply.specs.Supplied.{answer_at};
+ghost use Rattle.supply.specs.Supplied.{window_answer};
 
 use dp_base::{Answer, Bytes, OutOfMemory, Tid};
 use guest_kernel::{Peek, State, Thread, is_running};
@@ -111,20 +111,20 @@ pub(crate) fn answer_to(
         Peek::Plain => Ok(None),
         Peek::Sync => Ok(None),
         Peek::Sc => Ok(None),
-        Peek::Read { place, max } => read_answer(alloc, supply, place, max),
+        Peek::Read { place, max } => answer_to_read(alloc, supply, place, max),
         Peek::Clock => Ok(Some(Answer::Clock(supply.stamp()))),
     }
 }
 
 // The answer to a read, where it is known.
-fn read_answer(
+fn answer_to_read(
     alloc: Global,
     supply: &Supply,
     place: u64,
     max: u32,
 ) -> Result<Option<Answer>, OutOfMemory>
     requires few { max ≤ MAX_CALL_BYTES }
-    ensures is { IfOk result (λ answer. option_to_list answer ≡ read_of (answer_at place max supply.now)) }
+    ensures is { IfOk result (λ answer. option_to_list answer ≡ read_of (window_answer place max supply.now)) }
     ensures is_answer { IfOk result (λ answer. AllByRecursion IsAnswer (option_to_list answer)) }
     ensures place { IfOk result (λ answer. HasRead (option_to_list answer) → place < 2 ^ 64 - MAX_CALL_BYTES) }
 {

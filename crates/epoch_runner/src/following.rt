@@ -3,9 +3,9 @@ ghost use Rattle.std.specs.Prelude.{◌≡◌, ◌≤◌, IfOk, IfNone, IfSome, 
 ghost use Rattle.epoch_runner.specs.Hinted.{any_left, at_entry, by_own, hinted, left_of, lefts, less};
 ghost use Rattle.epoch_runner.specs.HintRun.{IsNextTurn, following_of};
 
-use crate::steps_left::{left_of, lefts};
 use crate::hint_rules::{can_be_done, first_stage, goes_plain, lowest_plain};
-use crate::hint_stage::{HintTurn, Stage};
+use crate::hint_stage::{HintStage, HintTurn};
+use crate::steps_left::{left_of, lefts};
 use dp_base::{OutOfMemory, Tid};
 use guest_kernel::State;
 use std::alloc::Global;
@@ -17,7 +17,7 @@ use sync_hints::{Hints, Sc, SyncHint};
 pub(crate) struct Following {
     // The steps that threads have left, by number.
     left: Vec<u32>,
-    stage: Stage,
+    stage: HintStage,
     // How many entries have come into hand.
     taken: usize,
 }
@@ -30,7 +30,7 @@ impl Following {
         let left = lefts(alloc, hints.counts.as_slice())?;
         let mut following = Following {
             left,
-            stage: Stage::Last { from: 1 },
+            stage: HintStage::Last { from: 1 },
             taken: 0,
         };
         following.to_next_entry(hints.order.as_slice());
@@ -77,17 +77,17 @@ impl Following {
         ensures left { self.new.left.items ≡ self.old.left.items }
     {
         match self.stage {
-            Stage::Others { entry, from } => {
+            HintStage::Others { entry, from } => {
                 let Some(tid) = lowest_plain(&self.left, state, from, Some(entry.tid)) else {
                     return self.own_turn(entry, order, state, supply);
                 };
-                self.stage = Stage::Others { entry, from: tid.0 };
+                self.stage = HintStage::Others { entry, from: tid.0 };
                 Some(plain_turn(tid))
             }
-            Stage::Own { entry } => self.own_turn(entry, order, state, supply),
-            Stage::Last { from } => {
+            HintStage::Own { entry } => self.own_turn(entry, order, state, supply),
+            HintStage::Last { from } => {
                 let tid = lowest_plain(&self.left, state, from, None)?;
-                self.stage = Stage::Last { from: tid.0 };
+                self.stage = HintStage::Last { from: tid.0 };
                 Some(plain_turn(tid))
             }
         }
@@ -107,7 +107,7 @@ impl Following {
         ensures left { self.new.left.items ≡ self.old.left.items }
     {
         if goes_plain(&self.left, state, entry.tid) {
-            self.stage = Stage::Own { entry };
+            self.stage = HintStage::Own { entry };
             return Some(plain_turn(entry.tid));
         }
         if !can_be_done(&self.left, entry, state, supply) {
@@ -126,7 +126,7 @@ impl Following {
         ensures { following_of self.new order.now ≡ at_entry self.old.left.items (drop self.old.taken order.now) }
     {
         let Some(entry) = order.get(self.taken) else {
-            self.stage = Stage::Last { from: 1 };
+            self.stage = HintStage::Last { from: 1 };
             return;
         };
         self.stage = first_stage(*entry);

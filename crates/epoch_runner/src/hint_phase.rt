@@ -9,11 +9,11 @@ ghost use Rattle.epoch_runner.specs.SliceRun.{EpochSoFar, next_slice};
 ghost use Rattle.epoch_runner.specs.Trace.{traced};
 
 use crate::bounds::Bounds;
-use crate::schedule::next_thread;
 use crate::course::Course;
-use crate::hint_turns::follow;
 use crate::following::Following;
+use crate::hint_turns::follow;
 use crate::kernel_laws::{run_laws, turn_laws};
+use crate::schedule::next_thread;
 use dp_base::{OutOfMemory, Tid};
 use guest_kernel::State;
 use std::alloc::Global;

@@ -4,21 +4,21 @@ ghost use Rattle.epoch_runner.specs.Hinted.{first_stage, goes_plain, is_plain, i
 ghost use Rattle.epoch_runner.specs.Lowest.{lowest_from};
 
 use crate::answer::ready_at;
+use crate::hint_stage::HintStage;
 use crate::steps_left::left_of;
-use crate::hint_stage::Stage;
 use dp_base::Tid;
 use guest_kernel::{Peek, State};
 use supply::Supply;
 use sync_hints::{Sc, SyncHint};
 
 // The stage at which an entry comes into hand: other threads are not passed if its SC won.
-pub(crate) fn first_stage(entry: SyncHint) -> Stage
+pub(crate) fn first_stage(entry: SyncHint) -> HintStage
     ensures { result ≡ first_stage entry }
 {
     match entry.sc {
-        Sc::Won => Stage::Own { entry },
-        Sc::NotSc => Stage::Others { entry, from: 1 },
-        Sc::Lost => Stage::Others { entry, from: 1 },
+        Sc::Won => HintStage::Own { entry },
+        Sc::NotSc => HintStage::Others { entry, from: 1 },
+        Sc::Lost => HintStage::Others { entry, from: 1 },
     }
 }
 

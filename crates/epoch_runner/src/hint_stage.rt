@@ -4,7 +4,7 @@ use sync_hints::SyncHint;
 
 /// The rule by which the turns of an epoch are named by hints.
 #[derive(Clone, Copy)]
-pub enum Stage {
+pub enum HintStage {
     /// Threads other than an entry's take their plain turns. Those below a number have been passed.
     Others { entry: SyncHint, from: u16 },
     /// An entry's thread takes its plain turns, and then the entry's.

@@ -6,16 +6,16 @@ ghost use Rattle.guest_kernel.specs.declared.state.State.{State as States};
 ghost use Rattle.guest_kernel.specs.State.{has_ended};
 ghost use Rattle.epoch_runner.specs.Answering.{ready_at};
 ghost use Rattle.epoch_runner.specs.declared.bounds.Bounds.{Bounds};
-ghost use Rattle.epoch_runner.specs.HintRun.{HasFollowed, HasTaken, HasTurned, HintedSoFar, following_of, hand_steps};
+ghost use Rattle.epoch_runner.specs.HintRun.{HasFollowed, HasTakenHinted, HasTurned, HintedSoFar, following_of, hand_steps};
 ghost use Rattle.epoch_runner.specs.Trace.{traced};
 ghost use Rattle.sync_hints.specs.declared.hints.Hints.{Hints};
 
-use crate::schedule::is_long;
 use crate::course::Course;
 use crate::following::Following;
-use crate::kernel_laws::{run_laws, turn_laws};
-use crate::slice::one_turn;
 use crate::hint_stage::HintTurn;
+use crate::kernel_laws::{run_laws, turn_laws};
+use crate::schedule::is_long;
+use crate::slice::one_turn;
 use crate::trace::Trace;
 use dp_base::{OutOfMemory, Tid};
 use guest_kernel::State;
@@ -87,7 +87,7 @@ fn take(
     requires some { 0 < limit }
     requires countable { state.old.steps + limit < 2 ^ 64 }
     ensures within { IfOk result (λ steps. steps ≤ limit) }
-    ensures taken { IfOk result (λ steps. HasTaken supply.now turn.tid turn.is_plain state.old (traced trace.old) steps state.new (traced trace.new)) }
+    ensures taken { IfOk result (λ steps. HasTakenHinted supply.now turn.tid turn.is_plain state.old (traced trace.old) steps state.new (traced trace.new)) }
 {
     if !turn.is_plain {
         return take_one(alloc, state, supply, turn.tid, trace);

@@ -44,6 +44,6 @@ mod walk;
 pub use answer::{can_step, input_due};
 pub use bounds::Bounds;
 pub use epoch_run::{EpochRun, Ran};
-pub use hint_stage::Stage;
+pub use hint_stage::HintStage;
 pub use run::run_epoch;
 pub use walk::{NextTurn, Walk};

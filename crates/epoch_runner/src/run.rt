@@ -4,13 +4,13 @@ ghost use Rattle.epoch_runner.specs.Answering.{can_step};
 ghost use Rattle.epoch_runner.specs.Running.{HasRun, HasRunEpoch};
 
 use crate::answer::can_step;
-use crate::hint_phase::{Begun, begin};
 use crate::bounds::Bounds;
-use crate::schedule::next_thread;
 use crate::course::Course;
 use crate::epoch_run::{EpochRun, Ran};
+use crate::hint_phase::{Begun, begin};
 use crate::kernel_laws::{run_laws, turn_laws};
-use crate::slice::run_slice;
+use crate::schedule::next_thread;
+use crate::slice::take_slice;
 use dp_base::{Bytes, OutOfMemory, Slice};
 use epoch_record::Epoch;
 use guest_kernel::State;
@@ -64,7 +64,7 @@ fn run_from(
         ..
     } = course;
     'slices: while let Some(tid) = next {
-        let steps = run_slice(alloc, &mut state, supply, tid, bounds, left, &mut trace)?;
+        let steps = take_slice(alloc, &mut state, supply, tid, bounds, left, &mut trace)?;
         left -= steps;
         next = next_thread(
             &state,

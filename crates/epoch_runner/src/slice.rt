@@ -14,8 +14,8 @@ ghost use Rattle.epoch_runner.specs.Trace.{traced};
 
 use crate::answer::{answer_to, can_take};
 use crate::bounds::Bounds;
-use crate::schedule::is_long;
 use crate::kernel_laws::turn_laws;
+use crate::schedule::is_long;
 use crate::trace::Trace;
 use dp_base::{OutOfMemory, Tid};
 use guest_kernel::{Peek, State, Turn};
@@ -30,7 +30,7 @@ struct Moved {
 }
 
 // Runs a slice of a thread that can step, when the epoch may have so many steps more. Returns how many steps it has.
-pub(crate) fn run_slice(
+pub(crate) fn take_slice(
     alloc: Global,
     state: &mut State,
     supply: &Supply,

@@ -7,13 +7,13 @@ ghost use Rattle.epoch_runner.specs.Answering.{ready_at};
 ghost use Rattle.epoch_runner.specs.Schedule.{begins_from, begins_with, by_last, closed, ends_epoch, followed, next, progress, slice_goes_on, starting, takes_turn, turn_of};
 ghost use Rattle.epoch_runner.specs.Lowest.{lowest_from};
 ghost use Rattle.epoch_runner.specs.Syncing.{sync_of};
-ghost use Rattle.epoch_runner.specs.Walking.{next_of, opened};
+ghost use Rattle.epoch_runner.specs.Walking.{next_step_of, opened};
 ghost use Rattle.sync_hints.specs.NoHints.{no_hints};
 
 use crate::answer::{can_step, ready_at};
 use crate::bounds::Bounds;
-use crate::schedule::{is_long, lowest_from};
 use crate::kernel_laws::turn_laws;
+use crate::schedule::{is_long, lowest_from};
 use crate::slice::one_turn;
 use crate::sync::sync_of;
 use crate::trace::Trace;
@@ -79,7 +79,7 @@ impl Walk {
 
     /// Returns the turn that is next, or `None` if the epoch is over.
     pub fn next(&self, supply: &Supply, bounds: Bounds) -> Option<NextTurn>
-        ensures next { next_of result ≡ next self.now.state supply.now bounds (progress self.now) }
+        ensures next { next_step_of result ≡ next self.now.state supply.now bounds (progress self.now) }
         ensures few { IfSome result (λ turn. (progress self.now).turns < bounds.steps) }
     {
         if self.is_over(supply, bounds) {
@@ -164,7 +164,7 @@ impl Walk {
 
     // The turn that is next in an epoch that isn't over, when this thread ran last.
     fn next_after(&self, tid: Tid, supply: &Supply, bounds: Bounds) -> Option<NextTurn>
-        ensures { next_of result ≡ by_last self.now.state supply.now bounds (progress self.now) (Some tid) }
+        ensures { next_step_of result ≡ by_last self.now.state supply.now bounds (progress self.now) (Some tid) }
     {
         if self.goes_on(tid, supply, bounds) {
             return Some(NextTurn { tid, begins: false });
@@ -213,7 +213,7 @@ impl Walk {
 
 // A slice begins: of the lowest thread that can step from a number on, or else of the lowest of all.
 fn begin_from(state: &State, supply: &Supply, least: usize) -> Option<NextTurn>
-    ensures { next_of result ≡ begins_from state.now supply.now least }
+    ensures { next_step_of result ≡ begins_from state.now supply.now least }
 {
     match lowest_from(state, supply, least) {
         Some(tid) => Some(NextTurn { tid, begins: true }),
@@ -223,7 +223,7 @@ fn begin_from(state: &State, supply: &Supply, least: usize) -> Option<NextTurn>
 
 // A slice of the lowest thread that can step begins.
 fn begin_lowest(state: &State, supply: &Supply) -> Option<NextTurn>
-    ensures { next_of result ≡ begins_with (lowest_from (ready_at state.now supply.now) 1 state.now.threads) }
+    ensures { next_step_of result ≡ begins_with (lowest_from (ready_at state.now supply.now) 1 state.now.threads) }
 {
     let tid = lowest_from(state, supply, 1)?;
     Some(NextTurn { tid, begins: true })

@@ -1,6 +1,6 @@
 // Worked examples of the definitions: what each clause says is computed.
 ghost use Rattle.std.specs.Prelude.{◌≡◌, ◌∷◌, [], true, false, Some, None};
-ghost use Rattle.supply.specs.Supplied.{answer_at, empty, refilled, unfilled};
+ghost use Rattle.supply.specs.Supplied.{window_answer, empty, refilled, unfilled};
 ghost use Rattle.supply.specs.Windows.{bytes_left};
 
 use supply::MAX_ROOM;
@@ -11,20 +11,20 @@ fn limits()
 
 // A window of the bytes 7 and 8 at place 5.
 fn answers()
-    ensures before { answer_at 4 9 (record { window = 7 ∷ 8 ∷ []; place = 5; ended = false; stamp = 0; room = 2 }) ≡ None }
-    ensures first { answer_at 5 9 (record { window = 7 ∷ 8 ∷ []; place = 5; ended = false; stamp = 0; room = 2 }) ≡ Some (7 ∷ 8 ∷ []) }
-    ensures few { answer_at 5 1 (record { window = 7 ∷ 8 ∷ []; place = 5; ended = false; stamp = 0; room = 2 }) ≡ Some (7 ∷ []) }
-    ensures last { answer_at 6 9 (record { window = 7 ∷ 8 ∷ []; place = 5; ended = false; stamp = 0; room = 2 }) ≡ Some (8 ∷ []) }
-    ensures nothing { answer_at 6 0 (record { window = 7 ∷ 8 ∷ []; place = 5; ended = false; stamp = 0; room = 2 }) ≡ Some [] }
-    ensures behind { answer_at 7 9 (record { window = 7 ∷ 8 ∷ []; place = 5; ended = false; stamp = 0; room = 2 }) ≡ None }
+    ensures before { window_answer 4 9 (record { window = 7 ∷ 8 ∷ []; place = 5; ended = false; stamp = 0; room = 2 }) ≡ None }
+    ensures first { window_answer 5 9 (record { window = 7 ∷ 8 ∷ []; place = 5; ended = false; stamp = 0; room = 2 }) ≡ Some (7 ∷ 8 ∷ []) }
+    ensures few { window_answer 5 1 (record { window = 7 ∷ 8 ∷ []; place = 5; ended = false; stamp = 0; room = 2 }) ≡ Some (7 ∷ []) }
+    ensures last { window_answer 6 9 (record { window = 7 ∷ 8 ∷ []; place = 5; ended = false; stamp = 0; room = 2 }) ≡ Some (8 ∷ []) }
+    ensures nothing { window_answer 6 0 (record { window = 7 ∷ 8 ∷ []; place = 5; ended = false; stamp = 0; room = 2 }) ≡ Some [] }
+    ensures behind { window_answer 7 9 (record { window = 7 ∷ 8 ∷ []; place = 5; ended = false; stamp = 0; room = 2 }) ≡ None }
 {}
 
 // The end of the input at place 5.
 fn ends()
-    ensures there { answer_at 5 9 (record { window = []; place = 5; ended = true; stamp = 0; room = 2 }) ≡ Some [] }
-    ensures before { answer_at 4 9 (record { window = []; place = 5; ended = true; stamp = 0; room = 2 }) ≡ None }
-    ensures behind { answer_at 6 9 (record { window = []; place = 5; ended = true; stamp = 0; room = 2 }) ≡ None }
-    ensures not_seen { answer_at 5 9 (record { window = []; place = 5; ended = false; stamp = 0; room = 2 }) ≡ None }
+    ensures there { window_answer 5 9 (record { window = []; place = 5; ended = true; stamp = 0; room = 2 }) ≡ Some [] }
+    ensures before { window_answer 4 9 (record { window = []; place = 5; ended = true; stamp = 0; room = 2 }) ≡ None }
+    ensures behind { window_answer 6 9 (record { window = []; place = 5; ended = true; stamp = 0; room = 2 }) ≡ None }
+    ensures not_seen { window_answer 5 9 (record { window = []; place = 5; ended = false; stamp = 0; room = 2 }) ≡ None }
 {}
 
 // Refills of an empty window, of one behind it, and one that fails.

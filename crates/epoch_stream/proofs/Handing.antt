@@ -8,7 +8,7 @@ use Rattle.racing_runner.specs.declared.offer.More.{More}
 use Rattle.racing_runner.specs.declared.offer.More.TheVariants.{Yes, Enough}
 use Rattle.supply.specs.Supplied.{Supplied}
 use Rattle.epoch_stream.specs.declared.deposit.Deposit.{Deposit}
-use Rattle.epoch_stream.specs.Deposits.{AreFor, AreOf, In, IsFor, StandsFor}
+use Rattle.epoch_stream.specs.Deposits.{AreFor, AreOf, In, IsFor, IsResultIn}
 use Rattle.epoch_stream.specs.Takes.{AreWaiting, IsCount, Longer, Took, WentOn}
 
 module _ {A : Type 0} where
@@ -71,9 +71,9 @@ for_more supply js js' ds ds' i job d are jobs deposits is = subst (λ l. AreFor
 pub of_longer : (supply : Supplied) (xs ys : List (ℕ × Deposit)) (results : List Ran) → AreOf supply xs results → Longer xs ys → AreOf supply ys results
 of_longer supply xs ys results of more k ran at = let o = of k ran at in (o.0, subst (λ l. In (suc k, o.0) l) (sym more.1) (in_more (suc k, o.0) xs more.0 o.1), o.2)
 
-pub of_more : (supply : Supplied) (xs : List (ℕ × Deposit)) (results : List Ran) (n : ℕ) (d : Deposit) (ran : Ran) → AreOf supply xs results → length results ≡ n → In (suc n, d) xs → StandsFor supply d ran → AreOf supply xs (results ++ ran ∷ [])
+pub of_more : (supply : Supplied) (xs : List (ℕ × Deposit)) (results : List Ran) (n : ℕ) (d : Deposit) (ran : Ran) → AreOf supply xs results → length results ≡ n → In (suc n, d) xs → IsResultIn supply d ran → AreOf supply xs (results ++ ran ∷ [])
 of_more supply xs results n d ran of count here stands k r at = ⊎_elim (λ (h : slice_get results k ≡ Some r). of k r h)
-    (λ (h : (k ≡ length results) × (ran ≡ r)). (d, subst (λ m. In (suc m, d) xs) (sym (h.0 ∙ count)) here, subst (λ (y : Ran). StandsFor supply d y) h.1 stands)) (get_end results ran r k at)
+    (λ (h : (k ≡ length results) × (ran ≡ r)). (d, subst (λ m. In (suc m, d) xs) (sym (h.0 ∙ count)) here, subst (λ (y : Ran). IsResultIn supply d y) h.1 stands)) (get_end results ran r k at)
 
 pub waiting_more : (w0 w1 w2 : List (Option Deposit)) (all all' : List (ℕ × Deposit)) (index : ℕ) (d0 : Deposit) → AreWaiting w0 all
     → ((i : ℕ) (d : Deposit) → slice_get w1 i ≡ Some (Some d) → slice_get w0 i ≡ Some (Some d))

@@ -3,7 +3,7 @@ use Rattle.std.proofs.Common.{◌≡◌, ℕ, zero, suc, ◌+◌, ◌-◌, ◌�
 use Rattle.std.specs.Prelude.{slice_get, Result, Ok, Err}
 use Rattle.epoch_pool.specs.declared.job.Job.{Job}
 use Rattle.epoch_stream.specs.Deposits.{In}
-use Rattle.epoch_stream.specs.Offers.{AreFirstOf, AreJobs, HasClosed, HasEnough, bounds_for, first_behind, offers_of, offers_within, opening, whole_of}
+use Rattle.epoch_stream.specs.Offers.{AreFirstOf, AreJobs, HasClosed, HasEnough, bounds_for, first_after_jobs, offers_of, offers_within, opening, whole_of}
 use Rattle.epoch_stream.specs.Racers.{AreMade}
 use Rattle.epoch_stream.proofs.Handing.{not_ok}
 use Rattle.guest_kernel.specs.declared.state.State.{State}
@@ -32,12 +32,12 @@ got_more js js' x s n more start = ap (λ l. offers_of l n) more ∙ offers_more
 pub offered : (js js' : List (ℕ × Job)) (job : Job) (s n next : State) (hints : Hints) → js' ≡ js ++ (length js + 1, job) ∷ [] → job.start ≡ s → job.hints ≡ hints → n ≡ next → offers_of js' n ≡ offers_of js s ++ record { hints = hints; next = next } ∷ []
 offered js js' job s n next hints more start hint after = got_more js js' (length js + 1, job) s n more start ∙ (λ i. offers_of js s ++ record { hints = hint i; next = after i } ∷ [])
 
-behind_one : (js : List (ℕ × Job)) → first_behind 1 js ≡ 1
+behind_one : (js : List (ℕ × Job)) → first_after_jobs 1 js ≡ 1
 behind_one [] = refl
 behind_one (x ∷ xs) = refl
 
 pub jobs_more : (plan : Plan) (limit k first n : ℕ) (js : List (ℕ × Job)) (x : ℕ × Job) → AreJobs plan limit k first js → n ≡ k + length js → x.0 ≡ n → x.1.index ≡ n
-    → x.1.bounds ≡ bounds_for plan limit (first_behind first js) x.1.start → AreJobs plan limit k first (js ++ x ∷ [])
+    → x.1.bounds ≡ bounds_for plan limit (first_after_jobs first js) x.1.start → AreJobs plan limit k first (js ++ x ∷ [])
 jobs_more plan limit k first n [] x all is at index bounds = let e : n ≡ k = omega (arith, is) in (at ∙ e, index ∙ e, bounds, tt)
 jobs_more plan limit k first n (y ∷ ys) x all is at index bounds = (
   all.0,
@@ -47,13 +47,13 @@ jobs_more plan limit k first n (y ∷ ys) x all is at index bounds = (
 )
 
 pub jobs_step : (plan : Plan) (limit first f n : ℕ) (js js' : List (ℕ × Job)) (x : ℕ × Job) → AreJobs plan limit 1 first js → js' ≡ js ++ x ∷ [] → n ≡ length js + 1 → x.0 ≡ length js + 1 → x.1.index ≡ n
-    → f ≡ first_behind first js → x.1.bounds ≡ bounds_for plan limit f x.1.start → AreJobs plan limit 1 first js'
+    → f ≡ first_after_jobs first js → x.1.bounds ≡ bounds_for plan limit f x.1.start → AreJobs plan limit 1 first js'
 jobs_step plan limit first f n js js' x all more is at index f_is bounds =
     subst (λ l. AreJobs plan limit 1 first l) (sym more) (jobs_more plan limit 1 first n js x all (omega (arith, is)) (at ∙ sym is) index (bounds ∙ ap (λ m. bounds_for plan limit m x.1.start) f_is))
 
-pub behind_more : (first : ℕ) (js js' : List (ℕ × Job)) (x : ℕ × Job) → js' ≡ js ++ x ∷ [] → 1 ≡ first_behind first js'
-behind_more first js js' x more = sym (ap (first_behind first) more ∙ some js) where
-  some : (l : List (ℕ × Job)) → first_behind first (l ++ x ∷ []) ≡ 1
+pub behind_more : (first : ℕ) (js js' : List (ℕ × Job)) (x : ℕ × Job) → js' ≡ js ++ x ∷ [] → 1 ≡ first_after_jobs first js'
+behind_more first js js' x more = sym (ap (first_after_jobs first) more ∙ some js) where
+  some : (l : List (ℕ × Job)) → first_after_jobs first (l ++ x ∷ []) ≡ 1
   some [] = refl
   some (y ∷ ys) = refl
 
@@ -170,7 +170,7 @@ part_made (Some list) plan start last js all index stopped answer enough count f
 
 -- and the last one isn't
 whole_made : (told : Option (List Offer)) (plan : Plan) (start last : State) (js all : List (ℕ × Job)) (index first : ℕ)
-    → index ≡ length js + 1 → index ≤ plan.jobs → AreJobs plan (start.steps + plan.left) 1 plan.first js → first ≡ first_behind plan.first js → opening js last ≡ start
+    → index ≡ length js + 1 → index ≤ plan.jobs → AreJobs plan (start.steps + plan.left) 1 plan.first js → first ≡ first_after_jobs plan.first js → opening js last ≡ start
     → IfTold told (λ list. HasOffered [] list (offers_of js last) (HasEnough plan index false) (Ok tt))
     → HasClosed plan (start.steps + plan.left) index first last js all true → AreMade told plan start all false (Ok tt)
 whole_made told plan start last js all index first count few jobs first_is opened got closed = by told got where
@@ -219,7 +219,7 @@ pub closed_whole : (plan : Plan) (limit index first : ℕ) (last : State) (befor
 closed_whole plan limit index first last before all whole job is more at bounds start bare = subst (λ (w : Bool). HasClosed plan limit index first last before all w) (sym is) (job, more, at, bounds, start, bare)
 
 made_in : (told : Option (List Offer)) (plan : Plan) (start last : State) (js all : List (ℕ × Job)) (index first : ℕ) (stopped : Bool) (answer : Result (Unit {0}) OutOfMemory)
-    → index ≡ length js + 1 → index ≤ plan.jobs → AreJobs plan (start.steps + plan.left) 1 plan.first js → first ≡ first_behind plan.first js → opening js last ≡ start
+    → index ≡ length js + 1 → index ≤ plan.jobs → AreJobs plan (start.steps + plan.left) 1 plan.first js → first ≡ first_after_jobs plan.first js → opening js last ≡ start
     → IfTold told (λ list. HasOffered [] list (offers_of js last) (HasEnough plan index stopped) answer)
     → HasClosed plan (start.steps + plan.left) index first last js all (whole_of answer stopped) → AreMade told plan start all stopped answer
 made_in told plan start last js all index first false (Ok tt) count few jobs first_is opened got closed = whole_made told plan start last js all index first count few jobs first_is opened got closed
@@ -231,7 +231,7 @@ made_in told plan start last js all index first stopped (Err error) count few jo
 -- what a race leaves of the desk at which it began
 pub made : (told : Option (List Offer)) (plan now : Plan) (limit limit_now : ℕ) (start opened last : State) (before js all : List (ℕ × Job)) (index first : ℕ) (stopped whole : Bool) (answer : Result (Unit {0}) OutOfMemory)
     → before ≡ [] → opened ≡ start → now ≡ plan → limit ≡ start.steps + plan.left → limit_now ≡ limit
-    → index ≡ length js + 1 → index ≤ now.jobs → AreJobs now limit_now 1 now.first js → first ≡ first_behind now.first js → opening js last ≡ opening before opened
+    → index ≡ length js + 1 → index ≤ now.jobs → AreJobs now limit_now 1 now.first js → first ≡ first_after_jobs now.first js → opening js last ≡ opening before opened
     → IfTold told (λ list. HasOffered (offers_of before opened) list (offers_of js last) (HasEnough now index stopped) answer)
     → whole ≡ whole_of answer stopped → HasClosed now limit_now index first last js all whole → AreMade told plan start all stopped answer
 made told plan now limit limit_now start opened last before js all index first stopped whole answer none begins same limit_is limit_same count few jobs first_is opening_is got whole_is closed =
@@ -239,7 +239,7 @@ made told plan now limit limit_now start opened last before js all index first s
     made_in told plan start last js all index first stopped answer count
     (subst (λ (p : Plan). index ≤ p.jobs) same few)
     (subst (λ (p : Plan). AreJobs p (start.steps + plan.left) 1 p.first js) same (subst (λ (n : ℕ). AreJobs now n 1 now.first js) steps jobs))
-    (first_is ∙ ap (λ (p : Plan). first_behind p.first js) same)
+    (first_is ∙ ap (λ (p : Plan). first_after_jobs p.first js) same)
     (opening_is ∙ ap (λ l. opening l opened) none ∙ begins)
     (subst (λ (p : Plan). IfTold told (λ list. HasOffered [] list (offers_of js last) (HasEnough p index stopped) answer)) same
     (subst (λ l. IfTold told (λ list. HasOffered (offers_of l opened) list (offers_of js last) (HasEnough now index stopped) answer)) none got))

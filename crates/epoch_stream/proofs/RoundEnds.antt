@@ -22,7 +22,7 @@ use Rattle.epoch_stream.specs.declared.deposit.Deposit.{Deposit}
 use Rattle.epoch_stream.specs.declared.race.RaceEnd.{RaceEnd}
 use Rattle.epoch_stream.specs.Results.{IsResultOf}
 use Rattle.epoch_stream.specs.declared.deposit.Deposit.TheVariants as deposits
-use Rattle.epoch_stream.specs.Deposits.{AreFor, AreOf, In, IsFor, StandsFor}
+use Rattle.epoch_stream.specs.Deposits.{AreFor, AreOf, In, IsFor, IsResultIn}
 use Rattle.epoch_stream.specs.Finishing.{HasFinished}
 use Rattle.epoch_stream.specs.Offers.{AreJobs, offers_within}
 use Rattle.epoch_stream.specs.Rounds.{AreDone}
@@ -84,7 +84,7 @@ published_for b supply ws jobs rest d log done s at none (suc m) h =
     (took.0, subst (λ l. In (d.0, took.0) l) (sym s.1) (in_more (d.0, took.0) (items_of s.0) rest logged), took.2)
 
 -- what a deposit for a job stands for is a result of the job
-result_of : (supply : Supplied) (job : Job) (d : Deposit) (ran : Ran) → IsFor supply job d → StandsFor supply d ran → IsResultOf supply job ran
+result_of : (supply : Supplied) (job : Job) (d : Deposit) (ran : Ran) → IsFor supply job d → IsResultIn supply d ran → IsResultOf supply job ran
 result_of supply job (deposits.Ran r) ran is stands = subst (λ (y : Ran). IsResultOf supply job y) (sym stands) is
 result_of supply job (deposits.Skipped other) ran is stands = subst (λ (j : Job). IsResultOf supply j ran) is stands
 result_of supply job deposits.OutOfMemory ran is stands = absurd stands

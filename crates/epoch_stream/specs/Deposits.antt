@@ -26,10 +26,10 @@ AreFor supply (j ∷ js) [] = ⊥
 AreFor supply (j ∷ js) (d ∷ ds) = (d.0 ≡ j.0) × IsFor supply j.1 d.1 × AreFor supply js ds
 
 -- a result that a deposit stands for: if its job wasn't run, one of the job
-abbrev pub StandsFor : Supplied → Deposit → runner.Ran → Type 0
-StandsFor supply (Ran ran) result = result ≡ ran
-StandsFor supply (Skipped job) result = IsResultOf supply job result
-StandsFor supply OutOfMemory result = ⊥
+abbrev pub IsResultIn : Supplied → Deposit → runner.Ran → Type 0
+IsResultIn supply (Ran ran) result = result ≡ ran
+IsResultIn supply (Skipped job) result = IsResultOf supply job result
+IsResultIn supply OutOfMemory result = ⊥
 
 -- it is one of these
 abbrev pub In : {A : Type 0} → A → List A → Type 0
@@ -38,4 +38,4 @@ In x (y ∷ ys) = (x ≡ y) ⊎ In x ys
 
 -- The results in order: a deposit with the index k + 1 stands for the one at place k.
 abbrev pub AreOf : Supplied → List (ℕ × Deposit) → List runner.Ran → Type 0
-AreOf supply deposits results = (k : ℕ) (ran : runner.Ran) → slice_get results k ≡ Some ran → (d : Deposit) × In (suc k, d) deposits × StandsFor supply d ran
+AreOf supply deposits results = (k : ℕ) (ran : runner.Ran) → slice_get results k ≡ Some ran → (d : Deposit) × In (suc k, d) deposits × IsResultIn supply d ran

@@ -31,9 +31,9 @@ AreJobs plan limit k first [] = ⊤
 AreJobs plan limit k first (x ∷ xs) = (x.0 ≡ k) × (x.1.index ≡ k) × (x.1.bounds ≡ bounds_for plan limit first x.1.start) × AreJobs plan limit (suc k) 1 xs
 
 -- the thread that is tried first after these jobs
-abbrev pub first_behind : ℕ → List (ℕ × Job) → ℕ
-first_behind first [] = first
-first_behind first (x ∷ xs) = 1
+abbrev pub first_after_jobs : ℕ → List (ℕ × Job) → ℕ
+first_after_jobs first [] = first
+first_after_jobs first (x ∷ xs) = 1
 
 -- where the first of these jobs starts; the last one, which isn't among them, starts in this state
 abbrev pub opening : List (ℕ × Job) → State → State
@@ -81,4 +81,4 @@ pub record IsOpen {R : Type 0} (b : Board Job R) (s : StopWord) (p : Publisher J
   pub room : plan.jobs ≤ b.limit
   pub seen : stopped ≡ true → has_seen w ≡ true
   pub jobs : AreJobs plan limit 1 plan.first (published p)
-  pub first_is : first ≡ first_behind plan.first (published p)
+  pub first_is : first ≡ first_after_jobs plan.first (published p)

@@ -15,7 +15,7 @@ use Rattle.racing_runner.specs.declared.offer.More.{More}
 use Rattle.racing_runner.specs.Offers.{IfTold, Tells}
 use Rattle.epoch_runner.specs.declared.epoch_run.Ran.{Ran}
 use Rattle.epoch_stream.specs.declared.deposit.Deposit.{Deposit}
-use Rattle.epoch_stream.specs.declared.round_parts.Ready.{Ready}
+use Rattle.epoch_stream.specs.declared.round_parts.RoundParts.{RoundParts}
 use Rattle.epoch_stream.specs.declared.round_parts.SetUp.{SetUp}
 use Rattle.epoch_stream.specs.Results.{IsResultOf}
 use Rattle.epoch_stream.specs.Offers.{AreFirstOf, AreJobs, offers_within}
@@ -26,7 +26,7 @@ use Rattle.epoch_stream.specs.Rounds.{ArePasses}
 abbrev pub IsBlank : {A : Type 0} → List (Option A) → Type 0
 IsBlank {A} ws = (i : ℕ) (a : A) → slice_get ws i ≡ Some (Some a) → ⊥
 
-pub record IsReady (b : Board Job Deposit) (s : StopWord) (r : Ready) : Type 0 where
+pub record AreRoundParts (b : Board Job Deposit) (s : StopWord) (r : RoundParts) : Type 0 where
   pub stopper : IsStopperOf s r.stopper
   pub unsaid : has_stopped r.stopper ≡ false
   pub collector : IsCollectorOf b r.tray.collector
@@ -48,7 +48,7 @@ pub record IsSetUp (start : State) (jobs : ℕ) (s : SetUp) : Type 0 where
   pub publisher : IsPublisherOf s.board s.publisher
   pub nothing : published s.publisher ≡ []
   pub watcher : IsWatcherOf s.stop s.watcher
-  pub ready : IsReady s.board s.stop s.ready
+  pub ready : AreRoundParts s.board s.stop s.ready
 
 -- each result is of the job at its place, with this supply
 abbrev pub HaveJobs : Supplied → List (ℕ × Job) → List Ran → Type 0

@@ -2,7 +2,7 @@
 ghost use Rattle.std.specs.Prelude.{◌≡◌, ◌⊎◌, ◌<◌, ◌≤◌, ℕ, suc, List, None, Some, IfOk, IfSome, IsNone, OnOk, Ok, length, slice_get};
 ghost use Rattle.dp_base.specs.declared.limits.TheConstants.{MAX_JOBS};
 ghost use Rattle.job_board.specs.Passes.{IsCollectorOf, collected, counts};
-ghost use Rattle.epoch_stream.specs.Deposits.{AreOf, In, StandsFor};
+ghost use Rattle.epoch_stream.specs.Deposits.{AreOf, In, IsResultIn};
 ghost use Rattle.epoch_stream.specs.Takes.{AreWaiting, IsBehindAll, IsCount, Longer, Took};
 ghost use Rattle.epoch_runner.specs.declared.epoch_run.Ran.{Ran};
 ghost use Rattle.racing_runner.specs.declared.offer.More.TheVariants.{Yes};
@@ -30,7 +30,7 @@ pub(crate) struct Taken<T: Drop> {
 
 // The result that a deposit stands for.
 fn result_of(alloc: Global, supply: &Supply, deposit: Deposit) -> Result<Ran, OutOfMemory>
-    ensures { IfOk result (StandsFor supply.now deposit) }
+    ensures { IfOk result (IsResultIn supply.now deposit) }
 {
     match deposit {
         Deposit::Ran(ran) => Ok(ran),

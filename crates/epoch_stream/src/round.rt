@@ -4,13 +4,13 @@ ghost use Rattle.job_board.specs.Passes.{IsPublisherOf, published};
 ghost use Rattle.stop_word.specs.Seats.{IsStopperOf, IsWatcherOf, has_stopped};
 ghost use Rattle.racing_runner.specs.declared.offer.More.TheVariants.{Yes};
 ghost use Rattle.epoch_stream.specs.Finishing.{HasFinished};
-ghost use Rattle.epoch_stream.specs.Streams.{IsReady};
+ghost use Rattle.epoch_stream.specs.Streams.{AreRoundParts};
 
 use crate::bell::Bells;
 use crate::deposit::{Deposit, EpochBoard};
 use crate::hand_over::{Taken, take_all};
 use crate::race::{RaceEndOf, Raced, RacingOf};
-use crate::round_parts::Ready;
+use crate::round_parts::RoundParts;
 use crate::start::{join_all, join_racer, start_all, start_racer};
 use crate::taker::Taker;
 use disk_model::Gate;
@@ -67,7 +67,7 @@ fn in_scope<
     plan: &'s Plan,
     gate: &'s G,
     racing: RacingOf<Q>,
-    ready: Ready,
+    ready: RoundParts,
     taker: T,
 ) -> Finished<Q, T>
     requires countable { racing.start.steps + plan.now.left < 2 ^ 63 }
@@ -76,12 +76,12 @@ fn in_scope<
     requires publisher { IsPublisherOf board.now racing.publisher }
     requires nothing { published racing.publisher ≡ [] }
     requires watcher { IsWatcherOf stop.now racing.watcher }
-    requires ready { IsReady board.now stop.now ready }
+    requires ready { AreRoundParts board.now stop.now ready }
     requires taker { T.ready taker × (T.taken taker ≡ 0) }
     ensures { HasFinished Q.tells T.takes board.now racing.racer racing.start supply.now plan.now taker result.taken.taker result.taken.collector result.taken.end result.raced result.workers.items }
 {
     let was = Snapshot::of(&racing);
-    let Ready {
+    let RoundParts {
         tray,
         mut stopper,
         passes,
@@ -120,7 +120,7 @@ pub(crate) fn run_round<
     plan: &Plan,
     gate: &G,
     racing: RacingOf<Q>,
-    ready: Ready,
+    ready: RoundParts,
     taker: T,
 ) -> Finished<Q, T>
     requires countable { racing.start.steps + plan.now.left < 2 ^ 63 }
@@ -129,7 +129,7 @@ pub(crate) fn run_round<
     requires publisher { IsPublisherOf board.now racing.publisher }
     requires nothing { published racing.publisher ≡ [] }
     requires watcher { IsWatcherOf stop.now racing.watcher }
-    requires ready { IsReady board.now stop.now ready }
+    requires ready { AreRoundParts board.now stop.now ready }
     requires taker { T.ready taker × (T.taken taker ≡ 0) }
     ensures { HasFinished Q.tells T.takes board.now racing.racer racing.start supply.now plan.now taker result.taken.taker result.taken.collector result.taken.end result.raced result.workers.items }
 {
@@ -143,7 +143,7 @@ pub(crate) fn run_round<
             requires publisher { IsPublisherOf board.now racing.publisher }
             requires nothing { published racing.publisher ≡ [] }
             requires watcher { IsWatcherOf stop.now racing.watcher }
-            requires ready { IsReady board.now stop.now ready }
+            requires ready { AreRoundParts board.now stop.now ready }
             requires taker { T.ready taker × (T.taken taker ≡ 0) }
             ensures { HasFinished Q.tells T.takes board.entry.now racing.racer racing.start supply.entry.now plan.entry.now taker result.taken.taker result.taken.collector result.taken.end result.raced result.workers.items }
         {

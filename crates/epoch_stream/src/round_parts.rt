@@ -19,7 +19,7 @@ use stop_word::{StopWord, Stopper, Watcher};
 
 /// What a round's threads need.
 #[derive(Drop)]
-pub(crate) struct Ready {
+pub(crate) struct RoundParts {
     pub tray: Tray,
     pub stopper: Stopper,
     pub passes: Vec<Pass>,
@@ -36,7 +36,7 @@ pub(crate) struct SetUp {
     pub stop: StopWord,
     pub publisher: Publisher<Job, Deposit>,
     pub watcher: Watcher,
-    pub ready: Ready,
+    pub ready: RoundParts,
 }
 
 // A tray with nothing on it.
@@ -106,7 +106,7 @@ pub(crate) fn set_up(
         stop,
         publisher,
         watcher,
-        ready: Ready {
+        ready: RoundParts {
             tray,
             stopper,
             passes,

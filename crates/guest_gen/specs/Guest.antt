@@ -3,7 +3,7 @@ use Rattle.std.specs.Prelude.{◌+◌, ◌/◌, ◌%◌, ℕ, List, [], ◌∷�
 use Rattle.std.specs.List.{flat_map}
 use Rattle.byteorder.specs.Endian.{little_bytes}
 use Rattle.dp_base.specs.declared.limits.TheConstants.{PAGE_BYTES}
-use Rattle.elf_image.specs.File.{magic}
+use Rattle.elf_image.specs.File.{elf_magic}
 use Rattle.guest_gen.specs.declared.listing.TheConstants.{CODE, FILE_ADDRESS}
 use Rattle.guest_gen.specs.Listing.{code_from}
 
@@ -27,7 +27,7 @@ words numbers = flat_map (little_bytes 4) numbers
 
 -- ELFCLASS32, ELFDATA2LSB, EV_CURRENT, and padding to 16 bytes
 abbrev pub ident : List ℕ
-ident = magic ++ 1 ∷ 1 ∷ 1 ∷ 0 ∷ 0 ∷ 0 ∷ 0 ∷ 0 ∷ 0 ∷ 0 ∷ 0 ∷ 0 ∷ []
+ident = elf_magic ++ 1 ∷ 1 ∷ 1 ∷ 0 ∷ 0 ∷ 0 ∷ 0 ∷ 0 ∷ 0 ∷ 0 ∷ 0 ∷ 0 ∷ []
 
 -- of a file with so many bytes: ET_EXEC and EM_RISCV; EV_CURRENT, e_entry, e_phoff, e_shoff, e_flags; e_ehsize, e_phentsize, e_phnum and
 -- what there is of sections, which is nothing

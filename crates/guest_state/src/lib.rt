@@ -23,5 +23,5 @@ mod thread;
 pub use end::End;
 pub use hart::Hart;
 pub use reader::{read_end, read_page, read_thread};
-pub use scan::{Bounds, alive_count, is_checkpoint, live_count};
+pub use scan::{CheckpointBounds, alive_count, is_checkpoint, live_count};
 pub use thread::Thread;

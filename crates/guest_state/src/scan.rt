@@ -38,7 +38,7 @@ fn skip_checkpoint(bytes: &[u8]) -> Option<&[u8]>
     let (live, rest) = skip_threads(threads, rest)?;
     let (pages, rest) = read_u16(rest)?;
     let (rising, rest) = skip_pages(pages, rest)?;
-    let bounds = Bounds {
+    let bounds = CheckpointBounds {
         heap,
         brk,
         end,
@@ -52,7 +52,7 @@ fn skip_checkpoint(bytes: &[u8]) -> Option<&[u8]>
 
 /// What the bounds of a checkpoint are about.
 #[derive(Clone, Copy)]
-pub struct Bounds {
+pub struct CheckpointBounds {
     /// Where the heap starts, and where it ends.
     pub heap: u32,
     pub brk: u32,
@@ -65,7 +65,7 @@ pub struct Bounds {
     pub rising: bool,
 }
 
-impl Bounds {
+impl CheckpointBounds {
     /// Returns whether a checkpoint is within its bounds.
     pub fn hold(&self) -> bool
         ensures { result ≡ hold self.now }

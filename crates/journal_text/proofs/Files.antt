@@ -15,7 +15,7 @@ use Rattle.dp_base.proofs.Records.{header_code}
 use Rattle.dp_base.proofs.Sizes.{length-header}
 use Rattle.guest_state.proofs.Many.{none_mapped}
 use Rattle.journal_text.specs.Reading.{IsMadeOf, IsTail, Reading, Tail, end, ending, first_bytes, journal_of, reading_of, reads, reads_in, tail_at}
-use Rattle.journal_text.specs.Records.{IsRecord, Next, Record, bad, body_of, ended, fitting_at, found, list_from, next_at, next_of, record_bytes}
+use Rattle.journal_text.specs.Records.{IsRecord, NextRecord, Record, bad, body_of, ended, fitting_at, found, list_from, next_at, next_of, record_bytes}
 use Rattle.journal_text.proofs.Records.{fitting_found, fitting_taken, next_behind_closed, next_none, next_of_body, next_some, none_next}
 use Rattle.journal_text.proofs.Lists.{Stops, list_found, list_of, list_stops, list_taken}
 
@@ -25,23 +25,23 @@ mapped : {A B : Type 0} (f : A → B) (o : Option A) (y : B) → option_map f o 
 mapped f (Some x) y e = (x, refl, cc)
 mapped f None y e = absurd cc
 
-tail_taken : (next : Next) (place number : ℕ) → Stops next → IsTail next place number (tail_at next place number)
+tail_taken : (next : NextRecord) (place number : ℕ) → Stops next → IsTail next place number (tail_at next place number)
 tail_taken ended place number stops = refl
 tail_taken bad place number stops = refl
 tail_taken (found r rest) place number stops = absurd stops
 
-tail_found : (next : Next) (place number : ℕ) (tail : Tail) → IsTail next place number tail → tail_at next place number ≡ tail
+tail_found : (next : NextRecord) (place number : ℕ) (tail : Tail) → IsTail next place number tail → tail_at next place number ≡ tail
 tail_found ended place number tail is = sym is
 tail_found bad place number tail is = sym is
 tail_found (found r rest) place number tail is = absurd is
 
-tail_stops : (next : Next) (place number : ℕ) (tail : Tail) → IsTail next place number tail → Stops next
+tail_stops : (next : NextRecord) (place number : ℕ) (tail : Tail) → IsTail next place number tail → Stops next
 tail_stops ended place number tail is = tt
 tail_stops bad place number tail is = tt
 tail_stops (found r rest) place number tail is = absurd is
 
 -- where a reading ends as a journal does
-tail_ends : (next : Next) (place number at : ℕ) → IsTail next place number (end at) → (next ≡ ended) × (at ≡ place)
+tail_ends : (next : NextRecord) (place number at : ℕ) → IsTail next place number (end at) → (next ≡ ended) × (at ≡ place)
 tail_ends ended place number at is = (refl, cc)
 tail_ends bad place number at is = absurd cc
 tail_ends (found r rest) place number at is = absurd is
@@ -123,7 +123,7 @@ at_rest_made guest records is are =
       joined = refl;
       guest = is;
       records = are;
-      tail = subst (λ (next : Next). IsTail next place (length records + 1) (end place)) (sym (next_behind_closed [])) refl;
+      tail = subst (λ (next : NextRecord). IsTail next place (length records + 1) (end place)) (sym (next_behind_closed [])) refl;
     }
 
 pub at_rest : (guest : List ℕ) (records : List Record) → IsGuest guest → AllByRecursion IsRecord records → length (journal_of guest records) ≤ MAX_JOURNAL_BYTES
@@ -230,7 +230,7 @@ cut_behind part guest records behind head cut =
     let number = length (take cut.count records) + 1 in
     let read = behind_header part guest behind head
     ∙ ap (λ (l : List Record × List ℕ). Some (reading_of guest (length part) l)) cut.list
-    ∙ ap (λ (next : Next). Some (record { guest = guest; records = take cut.count records; tail = tail_at next place number })) cut.ends in
+    ∙ ap (λ (next : NextRecord). Some (record { guest = guest; records = take cut.count records; tail = tail_at next place number })) cut.ends in
     inr (cut.count, place, read)
 
 cut_made : (part more guest : List ℕ) (records : List Record) (place : ℕ) (file : List ℕ) (o : Option (List ℕ × List ℕ)) → header_at part ≡ o → part ++ more ≡ file → AreBytes part → IsMadeOf file (ending guest records place)

@@ -3,7 +3,7 @@ use Rattle.std.proofs.Common.{◌≡◌, ℕ, zero, suc, ◌<◌, ◌≤◌, Lis
 use Rattle.std.specs.List.{flat_map, AllByRecursion}
 use Rattle.std.proofs.lemmas.List.{nil_from_length}
 use Rattle.dp_base.specs.Field.{AreBytes}
-use Rattle.journal_text.specs.Records.{IsRecord, Next, Record, bad, ended, found, list_from, listed, next_at, record_bytes, records_at}
+use Rattle.journal_text.specs.Records.{IsRecord, NextRecord, Record, bad, ended, found, list_from, listed, next_at, record_bytes, records_at}
 use Rattle.journal_text.proofs.Records.{next_fewer, next_found, next_nothing, next_taken}
 
 -- ---- as many as there are
@@ -11,7 +11,7 @@ use Rattle.journal_text.proofs.Records.{next_fewer, next_found, next_nothing, ne
 at_no_bytes : (bytes : List ℕ) → length bytes ≤ 0 → next_at bytes ≡ ended
 at_no_bytes bytes few = ap next_at (nil_from_length bytes (omega (arith, few))) ∙ next_nothing
 
-listed_alike : (f g : List ℕ → List Record × List ℕ) (bytes : List ℕ) (next : Next) → ((r : Record) (rest : List ℕ) → next ≡ found r rest → f rest ≡ g rest) → listed f bytes next ≡ listed g bytes next
+listed_alike : (f g : List ℕ → List Record × List ℕ) (bytes : List ℕ) (next : NextRecord) → ((r : Record) (rest : List ℕ) → next ≡ found r rest → f rest ≡ g rest) → listed f bytes next ≡ listed g bytes next
 listed_alike f g bytes ended same = refl
 listed_alike f g bytes bad same = refl
 listed_alike f g bytes (found r rest) same = ap (λ (x : List Record × List ℕ). (r ∷ x.0, x.1)) (same r rest refl)
@@ -32,12 +32,12 @@ list_is bytes =
     let fewer = next_fewer bytes r rest is in records_alike (length bytes) (length rest) rest (omega (arith, fewer)) (omega arith))
 
 -- no record stands there
-abbrev pub Stops : Next → Type 0
+abbrev pub Stops : NextRecord → Type 0
 Stops ended = Unit {0}
 Stops bad = Unit {0}
 Stops (found r rest) = ⊥
 
-pub list_stops : (bytes : List ℕ) (next : Next) → Stops next → next_at bytes ≡ next → list_from bytes ≡ ([], bytes)
+pub list_stops : (bytes : List ℕ) (next : NextRecord) → Stops next → next_at bytes ≡ next → list_from bytes ≡ ([], bytes)
 list_stops bytes ended stops is = list_is bytes ∙ ap (listed list_from bytes) is
 list_stops bytes bad stops is = list_is bytes ∙ ap (listed list_from bytes) is
 list_stops bytes (found r rest) stops is = absurd stops
@@ -52,7 +52,7 @@ pub record Listed (bytes : List ℕ) (list : List Record × List ℕ) : Type 0 w
   pub records : AllByRecursion IsRecord list.0
   pub stops : Stops (next_at list.1)
 
-list_taken_as : (bytes : List ℕ) (next : Next) → next_at bytes ≡ next → AreBytes bytes → ((rest : List ℕ) → length rest < length bytes → AreBytes rest → Listed rest (list_from rest)) → Listed bytes (list_from bytes)
+list_taken_as : (bytes : List ℕ) (next : NextRecord) → next_at bytes ≡ next → AreBytes bytes → ((rest : List ℕ) → length rest < length bytes → AreBytes rest → Listed rest (list_from rest)) → Listed bytes (list_from bytes)
 list_taken_as bytes ended is fits others = rw (list_stops bytes ended tt is) (record { joined = refl; records = tt; stops = subst Stops (sym is) tt })
 list_taken_as bytes bad is fits others = rw (list_stops bytes bad tt is) (record { joined = refl; records = tt; stops = subst Stops (sym is) tt })
 list_taken_as bytes (found r rest) is fits others =

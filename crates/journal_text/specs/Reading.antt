@@ -3,7 +3,7 @@ use Rattle.std.specs.Prelude.{◌≡◌, ◌+◌, ◌-◌, ℕ, List, [], ◌∷
 use Rattle.std.specs.List.{flat_map, AllByRecursion}
 use Rattle.dp_base.specs.declared.limits.TheConstants.{MAX_JOURNAL_BYTES}
 use Rattle.dp_base.specs.Journal.{IsGuest, closed_gate, header, header_at}
-use Rattle.journal_text.specs.Records.{IsRecord, Next, Record, bad, ended, found, list_from, next_at, record_bytes}
+use Rattle.journal_text.specs.Records.{IsRecord, NextRecord, Record, bad, ended, found, list_from, next_at, record_bytes}
 
 -- where the list of records ends: at this place of the file, as a journal does, or at a bad record of this number
 pub data Tail : Type 0 where
@@ -24,7 +24,7 @@ abbrev pub first_bytes : List ℕ → List ℕ
 first_bytes bytes = take MAX_JOURNAL_BYTES bytes
 
 -- a list never ends where a record was found
-abbrev pub tail_at : Next → (place number : ℕ) → Tail
+abbrev pub tail_at : NextRecord → (place number : ℕ) → Tail
 tail_at ended place number = end place
 tail_at bad place number = bad_record number
 tail_at (found r rest) place number = end place
@@ -51,7 +51,7 @@ journal_of guest records = header guest ++ (flat_map record_bytes records ++ clo
 -- ---- a reading in other words: the parts that the file is made of
 
 -- why the list ends there
-abbrev pub IsTail : Next → (place number : ℕ) → Tail → Type 0
+abbrev pub IsTail : NextRecord → (place number : ℕ) → Tail → Type 0
 IsTail ended place number tail = tail ≡ end place
 IsTail bad place number tail = tail ≡ bad_record number
 IsTail (found r rest) place number tail = ⊥

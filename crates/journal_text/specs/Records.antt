@@ -69,27 +69,27 @@ fitting_at bytes = do
   if gate.0 == open_gate then Some body else None
 
 -- the journal ends here; or a body stands here that is no record's; or a record does, with the bytes behind it
-pub data Next : Type 0 where
-  ended : Next
-  bad : Next
-  found : Record → List ℕ → Next
+pub data NextRecord : Type 0 where
+  ended : NextRecord
+  bad : NextRecord
+  found : Record → List ℕ → NextRecord
 
-abbrev pub found_in : Option Record → List ℕ → Next
+abbrev pub found_in : Option Record → List ℕ → NextRecord
 found_in None rest = bad
 found_in (Some r) rest = found r rest
 
 -- an empty body is no record's
-abbrev pub next_of : Option (List ℕ × List ℕ) → Next
+abbrev pub next_of : Option (List ℕ × List ℕ) → NextRecord
 next_of None = ended
 next_of (Some (body, rest)) = if nat_le (length body) MAX_BODY_BYTES then found_in (record_in body) rest else bad
 
-unfoldable pub next_at : List ℕ → Next
+unfoldable pub next_at : List ℕ → NextRecord
 next_at bytes = next_of (fitting_at bytes)
 
 -- ---- the records one after another
 
 -- a record in front of those behind it, or none where no record stands
-abbrev pub listed : (List ℕ → List Record × List ℕ) → List ℕ → Next → List Record × List ℕ
+abbrev pub listed : (List ℕ → List Record × List ℕ) → List ℕ → NextRecord → List Record × List ℕ
 listed others bytes ended = ([], bytes)
 listed others bytes bad = ([], bytes)
 listed others bytes (found r rest) = (r ∷ (others rest).0, (others rest).1)

@@ -16,15 +16,15 @@ IsHead (Some h) head = head ≡ Whole (length h.0)
 IsHead None head = head ≡ NoJournal
 
 -- what an answer says of the place `at` of a file
-abbrev pub IsNext : (file : List ℕ) → (at : ℕ) → Rec → Type 0
-IsNext file at (Epoch body next) = (e : journal.Epoch) × (next_at (drop at file) ≡ found (epoch e) (drop next file))
+abbrev pub IsNextRecord : (file : List ℕ) → (at : ℕ) → Rec → Type 0
+IsNextRecord file at (Epoch body next) = (e : journal.Epoch) × (next_at (drop at file) ≡ found (epoch e) (drop next file))
     × (body.now ≡ body_of (epoch e)) × (at < next) × (next ≤ length file)
-IsNext file at (Mark body next) = (c : state.Checkpoint) × (next_at (drop at file) ≡ found (mark c) (drop next file))
+IsNextRecord file at (Mark body next) = (c : state.Checkpoint) × (next_at (drop at file) ≡ found (mark c) (drop next file))
     × (body.now ≡ body_of (mark c)) × (at < next) × (next ≤ length file)
-IsNext file at (Partial body next) = (m : marks.Partial) × (next_at (drop at file) ≡ found (partial m) (drop next file))
+IsNextRecord file at (Partial body next) = (m : marks.Partial) × (next_at (drop at file) ≡ found (partial m) (drop next file))
     × (body.now ≡ body_of (partial m)) × (at < next) × (next ≤ length file)
-IsNext file at (End place) = (next_at (drop at file) ≡ ended) × (place ≡ at)
-IsNext file at Bad = next_at (drop at file) ≡ bad
+IsNextRecord file at (End place) = (next_at (drop at file) ≡ ended) × (place ≡ at)
+IsNextRecord file at Bad = next_at (drop at file) ≡ bad
 
 -- a record may have this body
 pub record IsRecordBody (body : List ℕ) : Type 0 where

@@ -2,7 +2,7 @@
 ghost use Rattle.std.specs.Prelude.{◌≡◌, ◌≤◌, ◌<◌, is_some, length, option_map};
 ghost use Rattle.journal_text.specs.Reading.{first_bytes};
 ghost use Rattle.journal_text.specs.Records.{fitting_at, mark_in};
-ghost use Rattle.journal_text.specs.View.{IsNext};
+ghost use Rattle.journal_text.specs.View.{IsNextRecord};
 
 use crate::read_limit::first_bytes;
 use dp_base::field::{read_bytes, read_u8, read_u32};
@@ -33,7 +33,7 @@ pub enum Rec<'a> {
 /// What stands at the place `at` of the file, where a record's gate is. The journal ends there if the gate isn't open, or if
 /// the record's length or body isn't there whole within the first 2^30 bytes; so it does at each place behind them.
 pub fn next_record(bytes: &[u8], at: u64) -> Rec<'_>
-    ensures { IsNext (first_bytes bytes.now) at result }
+    ensures { IsNextRecord (first_bytes bytes.now) at result }
 {
     let file = first_bytes(bytes);
     if at >= file.len() as u64 {

@@ -11,8 +11,8 @@ use Rattle.dp_base.specs.Memory.{page_at}
 use Rattle.dp_base.proofs.Epochs.{chosen}
 use Rattle.dp_base.proofs.Fields.{bind_some}
 use Rattle.guest_state.specs.Checkpoint.{Checkpoint, IsCheckpoint, IsPageContent, is_bounded, rising_from}
-use Rattle.partial_mark.specs.Base.{applied, bytes_over, content_against, fields_of, has_bytes, page_against, page_over, pages_over, partial_of}
-use Rattle.partial_mark.specs.Partial.{IsContent, IsPartial, IsPartialPage, Partial, PartialPage, checkpoint_with, outline}
+use Rattle.partial_mark.specs.Base.{applied, bytes_over, content_against, fields_of, has_base_bytes, page_against, page_over, pages_over, partial_of}
+use Rattle.partial_mark.specs.Partial.{IsStoredContent, IsPartial, IsPartialPage, Partial, PartialPage, checkpoint_with, outline}
 use Rattle.partial_mark.specs.View.{outlines}
 
 -- ---- what is written, applied
@@ -21,14 +21,14 @@ module _ (base : List Page) where
   abbrev against : List Page → List PartialPage
   against pages = map (page_against base) pages
 
-  same_bytes : (o : Option Page) (bytes : List ℕ) → has_bytes bytes o ≡ true → option_map (λ (q : Page). q.bytes) o ≡ Some bytes
+  same_bytes : (o : Option Page) (bytes : List ℕ) → has_base_bytes bytes o ≡ true → option_map (λ (q : Page). q.bytes) o ≡ Some bytes
   same_bytes None bytes e = absurd cc
   same_bytes (Some q) bytes e = ap (λ (b : List ℕ). Some b) ((bytes_eq-Decides q.bytes bytes).0 e)
 
   bytes_back : (p : Page) → bytes_over (page_at base p.number) (content_against (page_at base p.number) p) ≡ Some p.bytes
-  bytes_back p = by_test (has_bytes p.bytes (page_at base p.number)) refl
+  bytes_back p = by_test (has_base_bytes p.bytes (page_at base p.number)) refl
     where
-      by_test : (b : Bool) → has_bytes p.bytes (page_at base p.number) ≡ b → bytes_over (page_at base p.number) (content_against (page_at base p.number) p) ≡ Some p.bytes
+      by_test : (b : Bool) → has_base_bytes p.bytes (page_at base p.number) ≡ b → bytes_over (page_at base p.number) (content_against (page_at base p.number) p) ≡ Some p.bytes
       by_test true e = ap (λ (c : Bool). bytes_over (page_at base p.number) (cond c None (Some p.bytes))) e ∙ same_bytes (page_at base p.number) p.bytes e
       by_test false e = ap (λ (c : Bool). bytes_over (page_at base p.number) (cond c None (Some p.bytes))) e
 
@@ -66,7 +66,7 @@ module _ (base : List Page) where
     record {
       number = are.0.number;
       flags = are.0.flags;
-      content = cond_both (has_bytes p.bytes (page_at base p.number)) None (Some p.bytes) IsContent (λ _. tt) (λ _. (are.0.count, are.0.bytes));
+      content = cond_both (has_base_bytes p.bytes (page_at base p.number)) None (Some p.bytes) IsStoredContent (λ _. tt) (λ _. (are.0.count, are.0.bytes));
     },
     are_against pages are.1,
   )
@@ -90,13 +90,13 @@ found_page (p ∷ base) number q are e =
     ]
 
 module _ (base : List Page) (are : AllByRecursion IsPageContent base) where
-  content_is : (number : ℕ) (content : Option (List ℕ)) (bytes : List ℕ) → IsContent content → bytes_over (page_at base number) content ≡ Some bytes → IsContent (Some bytes)
-  content_is number (Some own) bytes is e = subst (λ (b : List ℕ). IsContent (Some b)) (same_Some _ _ e) is
+  content_is : (number : ℕ) (content : Option (List ℕ)) (bytes : List ℕ) → IsStoredContent content → bytes_over (page_at base number) content ≡ Some bytes → IsStoredContent (Some bytes)
+  content_is number (Some own) bytes is e = subst (λ (b : List ℕ). IsStoredContent (Some b)) (same_Some _ _ e) is
   content_is number None bytes is e = from_base (page_at base number) refl e
     where
-      from_base : (o : Option Page) → page_at base number ≡ o → option_map (λ (q : Page). q.bytes) o ≡ Some bytes → IsContent (Some bytes)
+      from_base : (o : Option Page) → page_at base number ≡ o → option_map (λ (q : Page). q.bytes) o ≡ Some bytes → IsStoredContent (Some bytes)
       from_base None at_ e = absurd cc
-      from_base (Some q) at_ e = let is = found_page base number q are at_ in subst (λ (b : List ℕ). IsContent (Some b)) (same_Some _ _ e) (is.count, is.bytes)
+      from_base (Some q) at_ e = let is = found_page base number q are at_ in subst (λ (b : List ℕ). IsStoredContent (Some b)) (same_Some _ _ e) (is.count, is.bytes)
 
   -- pages that are there in full, as those without bytes
   record Stand (marked : List PartialPage) (pages : List Page) : Type 0 where

@@ -15,7 +15,7 @@ use Rattle.guest_state.proofs.CheckpointCode.{bounds_of}
 use Rattle.guest_state.proofs.Codes.{end_code, thread_code, word_code}
 use Rattle.guest_state.proofs.Steps.{Behind, bytes_code, find_first, find_step, grouped, made_of, of_kind, take_step}
 use Rattle.partial_mark.specs.declared.fields.Fields.{Fields}
-use Rattle.partial_mark.specs.Partial.{AreFields, IsContent, IsPartial, IsPartialPage, Partial, PartialPage, content_bytes, content_from, counted_bytes, counted_from, fields_bytes, fields_from, outline, page_outline, partial_bytes, partial_from, partial_page_bytes, partial_page_from, parts_bytes, parts_from, written_from}
+use Rattle.partial_mark.specs.Partial.{AreFields, IsStoredContent, IsPartial, IsPartialPage, Partial, PartialPage, content_bytes, content_from, counted_bytes, counted_from, fields_bytes, fields_from, outline, page_outline, partial_bytes, partial_from, partial_page_bytes, partial_page_from, parts_bytes, parts_from, written_from}
 
 -- ---- fields
 
@@ -54,31 +54,31 @@ fields_code = code_from fields_from fields_bytes AreFields fields_found fields_t
 abbrev Content : Type 0
 Content = Option (List ℕ)
 
-written_taken : (bytes : List ℕ) (x : Content × List ℕ) → AreBytes bytes → written_from bytes ≡ Some x → Behind content_bytes IsContent 1 bytes x
+written_taken : (bytes : List ℕ) (x : Content × List ℕ) → AreBytes bytes → written_from bytes ≡ Some x → Behind content_bytes IsStoredContent 1 bytes x
 unfolding written_from
 written_taken bytes x fits e = made_of (bytes_code PAGE_BYTES) (λ (content : List ℕ). Some content) 1 (λ content. refl) (λ content is. is) bytes x fits e
 
-content_taken : (bytes : List ℕ) (x : Content × List ℕ) → AreBytes bytes → content_from bytes ≡ Some x → Splits bytes (content_bytes x.0) x.1 × IsContent x.0
+content_taken : (bytes : List ℕ) (x : Content × List ℕ) → AreBytes bytes → content_from bytes ≡ Some x → Splits bytes (content_bytes x.0) x.1 × IsStoredContent x.0
 unfolding content_from
 content_taken bytes x fits e =
     let kind = take_step (number_code 1) _ bytes x fits e in
     let same_at : Content × List ℕ = (None, kind.rest) in
     elim (chosen (eqb kind.value 0) (Some same_at) (cond (eqb kind.value 1) (written_from kind.rest) None) (Some x) kind.goes_on) [
-      | inl w ↦ of_kind kind 0 x (eqb-true _ _ w.0) (subst (Behind content_bytes IsContent 0 kind.rest) (same_Some _ _ w.1) (record { body = []; encoded = refl; joined = refl; left = kind.left; is = tt }))
+      | inl w ↦ of_kind kind 0 x (eqb-true _ _ w.0) (subst (Behind content_bytes IsStoredContent 0 kind.rest) (same_Some _ _ w.1) (record { body = []; encoded = refl; joined = refl; left = kind.left; is = tt }))
       | inr w ↦ let g = only_if (eqb kind.value 1) (written_from kind.rest) x w.1 in of_kind kind 1 x (eqb-true _ _ g.0) (written_taken kind.rest x kind.left g.1)
     ]
 
-written_found : (content rest : List ℕ) → IsContent (Some content) → written_from (content ++ rest) ≡ Some (Some content, rest)
+written_found : (content rest : List ℕ) → IsStoredContent (Some content) → written_from (content ++ rest) ≡ Some (Some content, rest)
 unfolding written_from
 written_found content rest is = find_step (bytes_code PAGE_BYTES) _ content rest (Some (Some content, rest)) is refl
 
-content_found : (content : Content) (rest : List ℕ) → IsContent content → content_from (content_bytes content ++ rest) ≡ Some (content, rest)
+content_found : (content : Content) (rest : List ℕ) → IsStoredContent content → content_from (content_bytes content ++ rest) ≡ Some (content, rest)
 unfolding content_from
 content_found None rest is = find_step (number_code 1) _ 0 rest (Some (None, rest)) (omega arith) refl
 content_found (Some content) rest is = find_step (number_code 1) _ 1 (content ++ rest) (Some (Some content, rest)) (omega arith) (written_found content rest is)
 
-content_code : IsPrefixCode content_from content_bytes IsContent
-content_code = code_from content_from content_bytes IsContent content_found content_taken
+content_code : IsPrefixCode content_from content_bytes IsStoredContent
+content_code = code_from content_from content_bytes IsStoredContent content_found content_taken
 
 page_taken : (bytes : List ℕ) (x : PartialPage × List ℕ) → AreBytes bytes → partial_page_from bytes ≡ Some x → Splits bytes (partial_page_bytes x.0) x.1 × IsPartialPage x.0
 unfolding partial_page_from

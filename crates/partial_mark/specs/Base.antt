@@ -42,13 +42,13 @@ restored base bytes = whole partial_from bytes >>= applied base
 -- ---- the partial mark that is written of a checkpoint
 
 -- whether the base's page has these bytes
-abbrev pub has_bytes : List ℕ → Option Page → Bool
-has_bytes bytes None = false
-has_bytes bytes (Some p) = bytes_eq p.bytes bytes
+abbrev pub has_base_bytes : List ℕ → Option Page → Bool
+has_base_bytes bytes None = false
+has_base_bytes bytes (Some p) = bytes_eq p.bytes bytes
 
 -- bytes are left out exactly if the base's page with this number has the same
 abbrev pub content_against : Option Page → Page → Option (List ℕ)
-content_against same_number p = if has_bytes p.bytes same_number then None else Some p.bytes
+content_against same_number p = if has_base_bytes p.bytes same_number then None else Some p.bytes
 
 abbrev pub page_against : (base : List Page) → Page → PartialPage
 page_against base p = record { number = p.number; flags = p.flags; content = content_against (page_at base p.number) p }

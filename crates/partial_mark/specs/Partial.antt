@@ -37,14 +37,14 @@ pub record AreFields (f : Fields) : Type 0 where
   pub brk : IsWord f.brk
   pub end : IsEnd f.end
 
-abbrev pub IsContent : Option (List ℕ) → Type 0
-IsContent None = Unit {0}
-IsContent (Some bytes) = (length bytes ≡ PAGE_BYTES) × AreBytes bytes
+abbrev pub IsStoredContent : Option (List ℕ) → Type 0
+IsStoredContent None = Unit {0}
+IsStoredContent (Some bytes) = (length bytes ≡ PAGE_BYTES) × AreBytes bytes
 
 pub record IsPartialPage (p : PartialPage) : Type 0 where
   pub number : p.number < PAGE_NUMBERS
   pub flags : p.flags < 8
-  pub content : IsContent p.content
+  pub content : IsStoredContent p.content
 
 -- The bounds are those of a checkpoint. They say nothing of a page's bytes, so any do.
 

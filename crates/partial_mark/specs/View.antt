@@ -13,7 +13,7 @@ abbrev pub outlines : List PartialPage → List Page
 outlines pages = map page_outline pages
 
 -- what a page always is that was read
-pub record IsRead (p : PartialPage) : Type 0 where
+pub record IsPageRead (p : PartialPage) : Type 0 where
   pub number : p.number < PAGE_NUMBERS
   pub flags : p.flags < 8
   pub content : IfSome p.content (λ bytes. length bytes ≡ PAGE_BYTES)

@@ -2,7 +2,7 @@
 ghost use Rattle.std.specs.Prelude.{◌≡◌, IfSome, length, option_map};
 ghost use Rattle.partial_mark.specs.Partial.{content_from, partial_page_from, written_from};
 ghost use Rattle.dp_base.specs.declared.limits.TheConstants.{PAGE_BYTES};
-ghost use Rattle.partial_mark.specs.View.{IsRead, partial_page_of};
+ghost use Rattle.partial_mark.specs.View.{IsPageRead, partial_page_of};
 
 use dp_base::field::{read_u8, read_u32};
 use dp_base::limits::{PAGE_BYTES, PAGE_NUMBERS};
@@ -25,7 +25,7 @@ pub struct PartialPageView<'a> {
 #[tactic(auto, unfolding(crate::specs::Partial::partial_page_from))]
 pub fn read_partial_page(bytes: &[u8]) -> Option<(PartialPageView<'_>, &[u8])>
     ensures page { option_map (λ x. (partial_page_of x.0, x.1.now)) result ≡ partial_page_from bytes.now }
-    ensures kept { IfSome result (λ x. IsRead (partial_page_of x.0)) }
+    ensures kept { IfSome result (λ x. IsPageRead (partial_page_of x.0)) }
 {
     let (number, rest) = read_u32(bytes)?;
     let (flags, rest) = read_u8(rest)?;

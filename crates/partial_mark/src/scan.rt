@@ -10,7 +10,7 @@ ghost use Rattle.partial_mark.specs.View.{outlines};
 use crate::fields::read_fields;
 use crate::page::read_partial_page;
 use dp_base::field::{read_u8, read_u16};
-use guest_state::{Bounds, alive_count, read_thread};
+use guest_state::{CheckpointBounds, alive_count, read_thread};
 
 /// The first byte of a partial mark's body.
 pub const PARTIAL_KIND: u8 = 2;
@@ -48,7 +48,7 @@ fn skip_parts(bytes: &[u8]) -> Option<&[u8]>
     let (live, rest) = skip_threads(threads, rest)?;
     let (pages, rest) = read_u16(rest)?;
     let (rising, rest) = skip_pages(pages, rest)?;
-    let bounds = Bounds {
+    let bounds = CheckpointBounds {
         heap: fields.heap,
         brk: fields.brk,
         end: fields.end,

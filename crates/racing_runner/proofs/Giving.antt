@@ -4,7 +4,7 @@ use Rattle.std.proofs.Common.{◌≡◌, List, [], ◌∷◌, ◌++◌, inl, inr
 use Rattle.std.proofs.lemmas.List.{append_assoc, append-nil}
 use Rattle.racing_runner.specs.declared.offer.More.TheVariants.{Enough}
 use Rattle.racing_runner.specs.declared.offer.Offer.{Offer}
-use Rattle.racing_runner.specs.Offers.{HasGiven, HasTaken}
+use Rattle.racing_runner.specs.Offers.{HasGiven, HasTakenOffer}
 
 -- some of the list were offered, and all of them were taken
 pub record IsGiving (Ready Goes : Type 0) (got now list left : List Offer) : Type 0 where
@@ -20,7 +20,7 @@ none_given Ready Goes got list ready goes = record { ready = ready; goes = goes;
 
 -- it was the last that the sink took, or was dropped
 pub enough_given : (Ready Goes enough : Type 0) (got now after list whole left rest : List Offer) (o : Offer) → list ≡ whole → IsGiving Ready Goes got now list left → left ≡ o ∷ rest
-    → HasTaken now o after enough Enough → HasGiven got whole after rest enough
+    → HasTakenOffer now o after enough Enough → HasGiven got whole after rest enough
 enough_given Ready Goes enough got now after list whole left rest o is g next taken =
     elim taken.1 [
       | inl grown ↦ record {

@@ -10,8 +10,8 @@ use Rattle.racing_runner.specs.declared.chaos.Made.{Made}
 use Rattle.racing_runner.specs.declared.offer.More.TheVariants.{Enough}
 use Rattle.racing_runner.specs.declared.offer.Offer.{Offer}
 use Rattle.racing_runner.specs.declared.plan.Plan.{Plan}
-use Rattle.racing_runner.specs.Chaos.{and_then, made, offers}
-use Rattle.racing_runner.specs.Offers.{HasOffered, HasTaken, IsOver}
+use Rattle.racing_runner.specs.Chaos.{offers_after, made, offers}
+use Rattle.racing_runner.specs.Offers.{HasOffered, HasTakenOffer, IsOfferingOver}
 use Rattle.supply.specs.Supplied.{Supplied}
 
 -- a run that has made some of its offers, of which the rest is that of the whole
@@ -26,7 +26,7 @@ first_made : (list made rest : List Offer) → list ≡ made ++ rest → made �
 first_made list made rest is = sym (take-append_seam made rest) ∙ ap (take (length made)) (sym is)
 
 -- as many of the list are taken as were made
-pub offered_so_far : (got now list made rest : List Offer) (enough : Type 0) (result : Result (Unit {0}) OutOfMemory) → now ≡ got ++ made → list ≡ made ++ rest → IsOver (length made) list enough result → HasOffered got list now enough result
+pub offered_so_far : (got now list made rest : List Offer) (enough : Type 0) (result : Result (Unit {0}) OutOfMemory) → now ≡ got ++ made → list ≡ made ++ rest → IsOfferingOver (length made) list enough result → HasOffered got list now enough result
 offered_so_far got now list made rest enough result taken is over = record {
   count = length made;
   taken = taken ∙ ap (λ xs. got ++ xs) (first_made list made rest is);
@@ -49,9 +49,9 @@ list_more list made rest o is = is ∙ sym (append_assoc made (o ∷ []) rest)
 
 -- the offers from here, by what the next stretch makes
 from_here : (count n place : ℕ) (w : Supplied) (p : Plan) (left : ℕ) (s : State) (m : Option Made) → m ≡ made n place w p left s
-    → offers (suc count) n place w p left s ≡ and_then (offers count n (place + 1) w p (left - p.epoch)) m
+    → offers (suc count) n place w p left s ≡ offers_after (offers count n (place + 1) w p (left - p.epoch)) m
 unfolding offers
-from_here count n place w p left s m is = ap (and_then (offers count n (place + 1) w p (left - p.epoch))) (sym is)
+from_here count n place w p left s m is = ap (offers_after (offers count n (place + 1) w p (left - p.epoch))) (sym is)
 
 -- memory is wanted
 underway_failed_by : (got now list : List Offer) (made rest : List Offer) (enough : Type 0) (result : Result (Unit {0}) OutOfMemory)
@@ -81,7 +81,7 @@ made_more got now list n place w p left s m u count jobs some =
 
 -- and the sink takes no more
 pub underway_enough : (got now after list : List Offer) (n place : ℕ) (w : Supplied) (p : Plan) (left : ℕ) (s : State) (m : Made) (enough : Type 0)
-    → IsUnderway got now list n place w p left s → place < p.jobs → Some m ≡ made n place w p left s → HasTaken now m.offer after enough Enough → HasOffered got list after enough (Ok tt)
+    → IsUnderway got now list n place w p left s → place < p.jobs → Some m ≡ made n place w p left s → HasTakenOffer now m.offer after enough Enough → HasOffered got list after enough (Ok tt)
 underway_enough got now after list n place w p left s m enough u more some taken =
     let rest = offers (p.jobs - (place + 1)) n (place + 1) w p (left - p.epoch) m.end in
     let is = made_more got now list n place w p left s m u (p.jobs - (place + 1)) (omega (arith, more)) some in

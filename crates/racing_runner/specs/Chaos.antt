@@ -12,7 +12,7 @@ use Rattle.guest_state.specs.declared.thread.Thread.TheVariants.{Runs, Waits, Go
 use Rattle.racing_runner.specs.declared.chaos.Made.{Made}
 use Rattle.racing_runner.specs.declared.offer.Offer.{Offer}
 use Rattle.racing_runner.specs.declared.plan.Plan.{Plan}
-use Rattle.racing_runner.specs.Racing.{Raced, end_of, steps_of, stretch}
+use Rattle.racing_runner.specs.Racing.{Raced, raced_end, raced_steps, stretch}
 use Rattle.supply.specs.Supplied.{Supplied}
 
 -- ---- a state with one bit flipped
@@ -57,24 +57,24 @@ bounds_of p left = record { steps = min p.epoch left; slice = p.slice; first = p
 
 -- an offer is made after a stretch that has run a whole epoch's steps and left the guest not ended
 abbrev pub is_whole : Plan → Raced → Bool
-is_whole p r = steps_of r == p.epoch && not (has_ended (end_of r).end)
+is_whole p r = raced_steps r == p.epoch && not (has_ended (raced_end r).end)
 
 abbrev pub made_by : (n place : ℕ) → Plan → (before : State) → Raced → Option Made
 made_by n place p before r =
-    if is_whole p r then Some (record { offer = record { hints = r.hints; next = offered n place before (end_of r) }; end = end_of r }) else None
+    if is_whole p r then Some (record { offer = record { hints = r.hints; next = offered n place before (raced_end r) }; end = raced_end r }) else None
 
 -- the offer of this place, after a stretch from a state with so many steps left; and where the run goes on
 abbrev pub made : (n place : ℕ) → Supplied → Plan → (left : ℕ) → State → Option Made
 made n place w p left s = made_by n place p s (stretch w (bounds_of p left) s)
 
-abbrev pub and_then : (State → List Offer) → Option Made → List Offer
-and_then rest None = []
-and_then rest (Some m) = m.offer ∷ rest m.end
+abbrev pub offers_after : (State → List Offer) → Option Made → List Offer
+offers_after rest None = []
+offers_after rest (Some m) = m.offer ∷ rest m.end
 
 -- so many offers at most, the first of this place
 unfoldable pub offers : (count : ℕ) → (n place : ℕ) → Supplied → Plan → (left : ℕ) → State → List Offer
 offers zero n place w p left s = []
-offers (suc count) n place w p left s = and_then (offers count n (place + 1) w p (left - p.epoch)) (made n place w p left s)
+offers (suc count) n place w p left s = offers_after (offers count n (place + 1) w p (left - p.epoch)) (made n place w p left s)
 
 -- all offers of a round; of each fourth number there are none
 abbrev pub chaos : ℕ → State → Supplied → Plan → List Offer

@@ -19,20 +19,20 @@ IfTold None P = ⊤
 IfTold (Some list) P = P list
 
 -- what a sink that took these has after one more offer; it may drop one only if it takes no more
-abbrev pub HasTaken : (got : List Offer) → Offer → (now : List Offer) → (enough : Type 0) → More → Type 0
-HasTaken got o now enough Yes = now ≡ got ++ o ∷ []
-HasTaken got o now enough Enough = enough × ((now ≡ got ++ o ∷ []) ⊎ (now ≡ got))
+abbrev pub HasTakenOffer : (got : List Offer) → Offer → (now : List Offer) → (enough : Type 0) → More → Type 0
+HasTakenOffer got o now enough Yes = now ≡ got ++ o ∷ []
+HasTakenOffer got o now enough Enough = enough × ((now ≡ got ++ o ∷ []) ⊎ (now ≡ got))
 
 -- a race is over if all was offered, or the sink takes no more; after want of memory it need not be
-abbrev pub IsOver : (count : ℕ) → List Offer → (enough : Type 0) → Result (Unit {0}) OutOfMemory → Type 0
-IsOver count list enough (Ok done) = (length list ≤ count) ⊎ enough
-IsOver count list enough (Err error) = ⊤
+abbrev pub IsOfferingOver : (count : ℕ) → List Offer → (enough : Type 0) → Result (Unit {0}) OutOfMemory → Type 0
+IsOfferingOver count list enough (Ok done) = (length list ≤ count) ⊎ enough
+IsOfferingOver count list enough (Err error) = ⊤
 
 -- a sink that took these has taken the first of a list, each once and in order
 pub record HasOffered (got list now : List Offer) (enough : Type 0) (result : Result (Unit {0}) OutOfMemory) : Type 0 where
   pub count : ℕ
   pub taken : now ≡ got ++ take count list
-  pub over : IsOver count list enough result
+  pub over : IsOfferingOver count list enough result
 
 -- a sink that keeps offers, up to a number
 pub record Gathered : Type 0 where

@@ -3,7 +3,7 @@
 use Rattle.std.specs.Prelude.{◌+◌, ◌==◌, ℕ, zero, suc, Bool, List, [], ◌∷◌, ◌++◌, position, slice_get, slice_set, Option, Some, None}
 use Rattle.dp_base.specs.declared.tid.Tid.{Tid}
 use Rattle.epoch_runner.specs.declared.bounds.Bounds.{Bounds}
-use Rattle.epoch_runner.specs.Schedule.{Course, Next, closed, ends, followed, next, progress, starting, turn_of}
+use Rattle.epoch_runner.specs.Schedule.{Course, NextStep, closed, ends, followed, next, progress, starting, turn_of}
 use Rattle.epoch_runner.specs.Syncing.{sync_of}
 use Rattle.epoch_runner.specs.Walking.{opened}
 use Rattle.guest_kernel.specs.declared.state.State.{State}
@@ -53,7 +53,7 @@ abbrev pub with_note : Raced → Tid → Option Sc → Option Course → Option 
 with_note r tid sync None = None
 with_note r tid sync (Some course) = Some (record { course = course; hints = noted tid sync r.hints })
 
-abbrev pub raced_by : Supplied → Raced → Next → Option Raced
+abbrev pub raced_by : Supplied → Raced → NextStep → Option Raced
 raced_by w r (turn_of tid begins hints) = with_note r tid (sync_of (opened begins r.course).state tid) (followed w r.course (turn_of tid begins hints))
 raced_by w r ends = None
 
@@ -74,8 +74,8 @@ raced (suc n) w bounds r = or_else r (raced n w bounds) (race_turn w bounds r)
 abbrev pub stretch : Supplied → Bounds → State → Raced
 stretch w bounds s = raced bounds.steps w bounds (record { course = starting s no_hints; hints = no_hints })
 
-abbrev pub steps_of : Raced → ℕ
-steps_of r = (progress r.course).turns
+abbrev pub raced_steps : Raced → ℕ
+raced_steps r = (progress r.course).turns
 
-abbrev pub end_of : Raced → State
-end_of r = (closed r.course).state
+abbrev pub raced_end : Raced → State
+raced_end r = (closed r.course).state

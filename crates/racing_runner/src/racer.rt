@@ -1,6 +1,6 @@
 // Racing runs, and what takes their offers.
 ghost use Rattle.std.specs.Prelude.{◌≡◌, ◌+◌, ◌<◌, ◌^◌};
-ghost use Rattle.racing_runner.specs.Offers.{HasOffered, HasTaken, IfTold};
+ghost use Rattle.racing_runner.specs.Offers.{HasOffered, HasTakenOffer, IfTold};
 ghost use denote.Param.Send.{IsSync};
 
 use crate::offer::More;
@@ -35,7 +35,7 @@ pub trait JobSink {
         requires { ready self.old }
         ensures ready { ready self.new }
         ensures goes { goes self.old self.new }
-        ensures taken { HasTaken (got self.old) (record { hints = hints; next = next }) (got self.new) (enough self.new) result };
+        ensures taken { HasTakenOffer (got self.old) (record { hints = hints; next = next }) (got self.new) (enough self.new) result };
 
     /// No offer leaves all as it is.
     ghost goes_nowhere: { (s : Self) → goes s s };

@@ -2,7 +2,7 @@
 ghost use Rattle.std.specs.Prelude.{◌≡◌, ◌+◌, ◌<◌, ◌≤◌, ◌^◌, [], IfOk, OnOk, position};
 ghost use Rattle.std.specs.List.{AllByRecursion};
 ghost use Rattle.epoch_runner.specs.Schedule.{progress};
-ghost use Rattle.racing_runner.specs.Racing.{counted, end_of, is_count_of, ordered, raced, raced_so_far, steps_of, stretch};
+ghost use Rattle.racing_runner.specs.Racing.{counted, raced_end, is_count_of, ordered, raced, raced_so_far, raced_steps, stretch};
 ghost use Rattle.sync_hints.specs.NoHints.{no_hints};
 
 use dp_base::{Log, OutOfMemory, Tid};
@@ -80,9 +80,9 @@ pub(crate) fn run_stretch(
     bounds: Bounds,
 ) -> Result<Stretch, OutOfMemory>
     requires { start.steps + bounds.steps < 2 ^ 64 }
-    ensures steps { IfOk result (λ s. s.steps ≡ steps_of (stretch supply.now bounds start)) }
+    ensures steps { IfOk result (λ s. s.steps ≡ raced_steps (stretch supply.now bounds start)) }
     ensures hints { IfOk result (λ s. s.hints ≡ (stretch supply.now bounds start).hints) }
-    ensures end { IfOk result (λ s. s.end ≡ end_of (stretch supply.now bounds start)) }
+    ensures end { IfOk result (λ s. s.end ≡ raced_end (stretch supply.now bounds start)) }
     ensures within { IfOk result (λ s. s.steps ≤ bounds.steps) }
     ensures moved { IfOk result (λ s. s.end.steps ≡ start.steps + s.steps) }
 {

@@ -9,12 +9,12 @@ use Rattle.guest_kernel.specs.declared.state.State.{State}
 use Rattle.epoch_runner.specs.Answering.{can_step, ready_at}
 use Rattle.epoch_runner.specs.declared.bounds.Bounds.{Bounds}
 use Rattle.epoch_runner.specs.Hinted.{Following, HintedTurn, any_left, hinted}
-use Rattle.epoch_runner.specs.Schedule.{Course, IsScheduled, Progress, after_last, begins_from, by_hinted, by_hints, by_last, course, ends, ends_epoch, turn_of, followed, next, progress, starting, step}
+use Rattle.epoch_runner.specs.Schedule.{Course, IsScheduled, EpochProgress, after_last, begins_from, by_hinted, by_hints, by_last, course, ends, ends_epoch, turn_of, followed, next, progress, starting, step}
 use Rattle.supply.specs.Supplied.{Supplied}
 use Rattle.sync_hints.specs.NoHints.{no_hints}
 use Rattle.sync_hints.specs.declared.hints.Hints.{Hints}
 use Rattle.recorder.specs.declared.options.Options.{Options}
-use Rattle.recorder.specs.Recording.{IsNext}
+use Rattle.recorder.specs.Recording.{IsNextEpoch}
 
 record AreAlike (a b : Bounds) : Type 0 where
   steps : a.steps ≡ b.steps
@@ -22,7 +22,7 @@ record AreAlike (a b : Bounds) : Type 0 where
   first : a.first ≡ b.first
 
 module _ (w : Supplied) (a b : Bounds) (alike : AreAlike a b) where
-  by_last_alike : (s : State) (p : Progress) (last : Option Tid) → by_last s w a p last ≡ by_last s w b p last
+  by_last_alike : (s : State) (p : EpochProgress) (last : Option Tid) → by_last s w a p last ≡ by_last s w b p last
   by_last_alike s p None = ap (begins_from s w) alike.first
   by_last_alike s p (Some tid) = ap (λ n. cond (ready_at s w tid && not p.yielded && nat_lt p.in_slice n) (turn_of tid false None) (begins_from s w (tid.0 + 1))) alike.slice
 
@@ -30,15 +30,15 @@ module _ (w : Supplied) (a b : Bounds) (alike : AreAlike a b) where
   after_last_alike None = alike.first
   after_last_alike (Some tid) = refl
 
-  by_hinted_alike : (s : State) (p : Progress) (t : Option HintedTurn) → by_hinted s w a p t ≡ by_hinted s w b p t
+  by_hinted_alike : (s : State) (p : EpochProgress) (t : Option HintedTurn) → by_hinted s w a p t ≡ by_hinted s w b p t
   by_hinted_alike s p None = ap (begins_from s w) (after_last_alike p.last)
   by_hinted_alike s p (Some t) = refl
 
-  by_hints_alike : (s : State) (p : Progress) (hints : Option Following) → by_hints s w a p hints ≡ by_hints s w b p hints
+  by_hints_alike : (s : State) (p : EpochProgress) (hints : Option Following) → by_hints s w a p hints ≡ by_hints s w b p hints
   by_hints_alike s p None = by_last_alike s p p.last
   by_hints_alike s p (Some f) = ap (λ x. cond (any_left f.left) x ends) (by_hinted_alike s p (hinted s w f))
 
-  next_alike : (s : State) (p : Progress) → next s w a p ≡ next s w b p
+  next_alike : (s : State) (p : EpochProgress) → next s w a p ≡ next s w b p
   unfolding next
   next_alike s p =
       ap (λ n. cond (not (can_step s w) || nat_le n p.turns || nat_le EPOCH_END_BYTES p.output || nat_le EPOCH_END_BYTES p.read) ends (by_hints s w a p p.hints)) alike.steps
@@ -70,7 +70,7 @@ IsDetermined = (start : State) (hints : Hints) (w : Supplied) (bounds : Bounds) 
     → IsScheduled start hints w bounds e output end → IsScheduled start hints w bounds f other otherwise → (e ≡ f) × (output ≡ other) × (end ≡ otherwise)
 
 pub one_epoch : IsDetermined → (options : Options) (first : ℕ) (s : State) (w : Supplied) (e f : Epoch) (end other : State) (output written : List ℕ)
-    → IsNext options first s w e end output → IsNext options first s w f other written → (e ≡ f) × (end ≡ other) × (output ≡ written)
+    → IsNextEpoch options first s w e end output → IsNextEpoch options first s w f other written → (e ≡ f) × (end ≡ other) × (output ≡ written)
 one_epoch determined options first s w e f end other output written a b =
     let alike : AreAlike b.bounds a.bounds = record { steps = b.steps ∙ sym a.steps; slice = b.slice ∙ sym a.slice; first = b.first_is ∙ sym a.first_is } in
     let same = determined s no_hints w a.bounds e f output written end other a.scheduled (scheduled_alike w b.bounds a.bounds alike s no_hints f written other b.scheduled) in

@@ -9,9 +9,9 @@ use Rattle.commit_core.specs.declared.stage.Stage.{Stage}
 use Rattle.commit_core.specs.declared.stage.Stage.TheVariants.{Offered, Claimed, Done, Taken, Judged}
 use Rattle.commit_core.specs.declared.verdict.Verdict.{Verdict}
 use Rattle.commit_core.specs.declared.verdict.Verdict.TheVariants.{Commit, Squash, Over, NotYet, Closed}
-use Rattle.commit_core.specs.Judging.{Core, HasApplied, HasJudged, IsJudged, JudgesNext, JudgesWhere, fresh, shut, with_epoch, with_job, with_stage}
+use Rattle.commit_core.specs.Judging.{Core, HasApplied, HasJudged, IsJudged, JudgesNext, JudgesWhere, new_core, shut, with_epoch, with_job, with_stage}
 use Rattle.commit_core.specs.Noting.{BecomesBy, Goes, IsRefusal, NotesOrRefuses}
-use Rattle.device.specs.Sending.{AreEmits, SendCalls, left_of}
+use Rattle.device.specs.Sending.{AreEmits, SendCalls, left_to_send}
 use Rattle.disk_model.specs.History.{History}
 use Rattle.disk_model.specs.Input.{Input}
 use Rattle.disk_model.specs.Steps.{Emitted, Synced, Wrote}
@@ -45,12 +45,12 @@ use Rattle.journal_text.specs.Records.{Record, body_of}
 use Rattle.recorder.specs.declared.commit.CommitFault.{CommitFault}
 use Rattle.recorder.specs.declared.commit.CommitFault.TheVariants as commits
 use Rattle.recorder.specs.Committing.{CommitCalls, HasCommitted}
-use Rattle.recorder.specs.Machine.{Call, CallLeaves, Event, Hand, InRound, IsAtRest, IsNextOutput, IsReached, IsTakeable, Judges, Machine, Reaches, RecordFits, Step, after_call, fails, frame_sync, frame_write, gate_sync, gate_write, holds, in_round, journal_end, makes, output_of_runs, record_of_run, send_fails, sends}
+use Rattle.recorder.specs.Machine.{MachineCall, CallLeaves, MachineEvent, Hand, RoundEvent, IsAtRest, IsNextOutput, IsReached, IsTakeable, Judges, Machine, Reaches, RecordFits, Step, after_machine_call, fails, frame_sync, frame_write, gate_sync, gate_write, holds, in_round, journal_end, makes, output_of_runs, record_of_run, send_fails, sends}
 use Rattle.recorder.specs.CallEvents.{AppendEvents, AppendIsEvents, AppliedIsEvent, BegunIsFirst, CallFails, CommitEvents, CommitIsEvents, CommitIsInHand, DrawIsRound, IsAllowed, IsJournalOf, SendEvents, SendIsEvents, after_commit, calls_before, pieces_of, record_calls}
 
 -- ---- events after events
 
-pub reaches-append : (guest : List ℕ) (supplied : Bool) (m n last : Machine) (some more : List Event) → Reaches guest supplied m some n → Reaches guest supplied n more last → Reaches guest supplied m (some ++ more) last
+pub reaches-append : (guest : List ℕ) (supplied : Bool) (m n last : Machine) (some more : List MachineEvent) → Reaches guest supplied m some n → Reaches guest supplied n more last → Reaches guest supplied m (some ++ more) last
 reaches-append guest supplied m n last [] more is then_ = subst (λ (x : Machine). Reaches guest supplied x more last) is then_
 reaches-append guest supplied m n last (e ∷ some) more is then_ = (is.0, is.1, reaches-append guest supplied is.0 n last some more is.2 then_)
 
@@ -73,7 +73,7 @@ module _ (guest : List ℕ) (supplied : Bool) (m : Machine) (none : m.left ≡ N
   becomes (Epoch r) n (inr j) = inr (j.0, ap (λ (x : Machine). x.core) j.1)
   becomes (Idle s) n j = ap (λ (x : Machine). x.core) j.1
 
-  goes_too : (e : rounds.Event) (n : Machine) → InRound supplied m e n → Goes m.core e n.core
+  goes_too : (e : rounds.Event) (n : Machine) → RoundEvent supplied m e n → Goes m.core e n.core
   goes_too (events.Offer i) n t = (t.0, t.1, ap (λ (x : Machine). x.core) t.2)
   goes_too (events.Claim i) n t = (t.0, ap (λ (x : Machine). x.core) t.1)
   goes_too (events.Done i) n t = (t.0, ap (λ (x : Machine). x.core) t.1)
@@ -163,7 +163,7 @@ draw_is_round used_up guest supplied m d jobs i w core = λ none rest over some 
   record m {
     input = i;
     supply = supply_of m.supply d;
-    core = fresh m.core.committed jobs;
+    core = new_core m.core.committed jobs;
     results = [];
     began = m.core.committed;
     round_runs = [];
@@ -197,20 +197,20 @@ run_is_takeable law false s hints w bounds (Idle t) run = tt
 
 module _ (guest : List ℕ) (supplied : Bool) (m : Machine) (r : Record) (rs : List EpochRun) (none : m.left ≡ None) (works : m.stopped ≡ false) (in_hand : m.hand ≡ holds r rs frame_write) where
   -- at one of the calls
-  abbrev at : Call → History → Machine
+  abbrev at : MachineCall → History → Machine
   at call t = record m { world = t; hand = holds r rs call }
 
   start_is : at frame_write m.world ≡ m
   start_is = ap (λ (h : Hand). record m { hand = h }) (sym in_hand)
 
-  abbrev From : List Event → Machine → Type 0
+  abbrev From : List MachineEvent → Machine → Type 0
   From events n = Reaches guest supplied (at frame_write m.world) events n
 
-  from_m : (events : List Event) (n : Machine) → From events n → Reaches guest supplied m events n
+  from_m : (events : List MachineEvent) (n : Machine) → From events n → Reaches guest supplied m events n
   from_m events n is = subst (λ (x : Machine). Reaches guest supplied x events n) start_is is
 
   module _ (room : RecordFits guest m r) where
-    failed : (call : Call) (s t : History) → CallLeaves guest (at call s) r call false t → Step guest supplied (at call s) (fails call) (record (at call t) { stopped = true })
+    failed : (call : MachineCall) (s t : History) → CallLeaves guest (at call s) r call false t → Step guest supplied (at call s) (fails call) (record (at call t) { stopped = true })
     failed call s t leaves = (none, (works, r, rs, refl, t, leaves, refl))
 
     made_frame : (t : History) → Wrote (journal_end guest m) (frame (body_of r)) true m.world t → From (makes frame_write ∷ []) (at frame_sync t)
@@ -224,12 +224,12 @@ module _ (guest : List ℕ) (supplied : Bool) (m : Machine) (r : Record) (rs : L
     made_gate s t u wrote synced gate = reaches-append guest supplied (at frame_write m.world) (at gate_write t) (at gate_sync u) (calls_before gate_write) (makes gate_write ∷ []) (made_sync s t wrote synced)
         (at gate_sync u, (none, (works, r, rs, refl, u, gate, refl)), refl)
 
-    all_calls : (t : History) → RecordCalls (journal_end guest m) (frame (body_of r)) true m.world t → Reaches guest supplied m record_calls (after_call m r rs gate_sync t)
-    all_calls t (mid, (a, wrote, synced), (b, gate, last)) = from_m record_calls (after_call m r rs gate_sync t)
-        (reaches-append guest supplied (at frame_write m.world) (at gate_sync b) (after_call m r rs gate_sync t) (calls_before gate_sync) (makes gate_sync ∷ []) (made_gate a mid b wrote synced gate)
-        (after_call m r rs gate_sync t, (none, (works, r, rs, refl, t, last, refl)), refl))
+    all_calls : (t : History) → RecordCalls (journal_end guest m) (frame (body_of r)) true m.world t → Reaches guest supplied m record_calls (after_machine_call m r rs gate_sync t)
+    all_calls t (mid, (a, wrote, synced), (b, gate, last)) = from_m record_calls (after_machine_call m r rs gate_sync t)
+        (reaches-append guest supplied (at frame_write m.world) (at gate_sync b) (after_machine_call m r rs gate_sync t) (calls_before gate_sync) (makes gate_sync ∷ []) (made_gate a mid b wrote synced gate)
+        (after_machine_call m r rs gate_sync t, (none, (works, r, rs, refl, t, last, refl)), refl))
 
-    then_fails : (call : Call) (s t : History) → From (calls_before call) (at call s) → CallLeaves guest (at call s) r call false t → CallFails guest supplied m r rs t
+    then_fails : (call : MachineCall) (s t : History) → From (calls_before call) (at call s) → CallLeaves guest (at call s) r call false t → CallFails guest supplied m r rs t
     then_fails call s t made leaves = (
       call,
       from_m (calls_before call ++ fails call ∷ []) (record (at call t) { stopped = true })
@@ -268,7 +268,7 @@ append_is_events guest supplied m before after added result t = λ r rs none wor
 
 -- ---- output
 
-left-is : (bytes : List ℕ) (n : ℕ) → left_of bytes n ≡ drop n bytes
+left-is : (bytes : List ℕ) (n : ℕ) → left_to_send bytes n ≡ drop n bytes
 left-is bytes n = take_all (length bytes - n) (drop n bytes) (omega (arith, length-drop n bytes))
 
 module _ (guest : List ℕ) (supplied : Bool) (m : Machine) (bytes : List ℕ) (none : m.left ≡ None) (works : m.stopped ≡ false) (unsent : output_of_runs m.written ≡ m.released ++ bytes) where
@@ -276,29 +276,29 @@ module _ (guest : List ℕ) (supplied : Bool) (m : Machine) (bytes : List ℕ) (
   abbrev sent_to : ℕ → History → Machine
   sent_to n t = record m { world = t; released = m.released ++ take n bytes }
 
-  next_output : (n : ℕ) (t : History) → IsNextOutput (sent_to n t) (left_of bytes n)
+  next_output : (n : ℕ) (t : History) → IsNextOutput (sent_to n t) (left_to_send bytes n)
   next_output n t = (
     [],
     unsent ∙ ap (λ (l : List ℕ). m.released ++ l) (sym (take-append-drop n bytes)) ∙ sym (append_assoc m.released (take n bytes) (drop n bytes))
-        ∙ ap (λ (l : List ℕ). (m.released ++ take n bytes) ++ l) (sym (append-nil (left_of bytes n) ∙ left-is bytes n)),
+        ∙ ap (λ (l : List ℕ). (m.released ++ take n bytes) ++ l) (sym (append-nil (left_to_send bytes n) ∙ left-is bytes n)),
   )
 
-  more : (n k : ℕ) → (m.released ++ take n bytes) ++ take k (left_of bytes n) ≡ m.released ++ take (n + k) bytes
-  more n k = append_assoc m.released (take n bytes) (take k (left_of bytes n))
+  more : (n k : ℕ) → (m.released ++ take n bytes) ++ take k (left_to_send bytes n) ≡ m.released ++ take (n + k) bytes
+  more n k = append_assoc m.released (take n bytes) (take k (left_to_send bytes n))
       ∙ ap (λ (l : List ℕ). m.released ++ (take n bytes ++ take k l)) (left-is bytes n)
       ∙ ap (λ (l : List ℕ). m.released ++ l) (sym (take-add n k bytes))
 
-  one : (n k : ℕ) (s t : History) → Emitted Out (left_of bytes n) (Ok k) s t → Step guest supplied (sent_to n s) (sends (left_of bytes n) k) (sent_to (n + k) t)
+  one : (n k : ℕ) (s t : History) → Emitted Out (left_to_send bytes n) (Ok k) s t → Step guest supplied (sent_to n s) (sends (left_to_send bytes n) k) (sent_to (n + k) t)
   one n k s t is = (none, (works, next_output n s, t, is, ap (λ (l : List ℕ). record m { world = t; released = l }) (sym (more n k))))
 
   emits : (n there : ℕ) (counts : List ℕ) (s t : History) → AreEmits Out bytes n counts there s t → Reaches guest supplied (sent_to n s) (pieces_of bytes n counts) (sent_to there t)
   emits n there [] s t is = ap (λ (k : ℕ). record m { world = t; released = m.released ++ take k bytes }) is.0 ∙ ap (λ (h : History). sent_to n h) is.1
   emits n there (k ∷ counts) s t is = (sent_to (n + k) is.0, one n k s is.0 is.1, emits (n + k) there counts is.0 t is.2)
 
-  from_start : (events : List Event) (n : Machine) → Reaches guest supplied (sent_to 0 m.world) events n → Reaches guest supplied m events n
+  from_start : (events : List MachineEvent) (n : Machine) → Reaches guest supplied (sent_to 0 m.world) events n → Reaches guest supplied m events n
   from_start events n is = subst (λ (x : Machine). Reaches guest supplied x events n) (ap (λ (l : List ℕ). record m { released = l }) (append-nil m.released)) is
 
-  failed_sent : (n : ℕ) (why : Failed) (s t : History) → Emitted Out (left_of bytes n) (Err why) s t → (count : ℕ) × (t.sent ≡ s.sent ++ take count (left_of bytes n))
+  failed_sent : (n : ℕ) (why : Failed) (s t : History) → Emitted Out (left_to_send bytes n) (Err why) s t → (count : ℕ) × (t.sent ≡ s.sent ++ take count (left_to_send bytes n))
   failed_sent n why s t (inl e) = (0, ap (λ (h : History). h.sent) e ∙ sym (append-nil s.sent))
   failed_sent n why s t (inr e) = (e.0, ap (λ (h : History). h.sent) e.1)
 
@@ -310,12 +310,12 @@ module _ (guest : List ℕ) (supplied : Bool) (m : Machine) (bytes : List ℕ) (
   )
   send_events false t (counts, there, mid, are, why, failed_) =
       let some = failed_sent there why mid t failed_ in
-      let last : Machine = record m { world = t; released = (m.released ++ take there bytes) ++ take some.0 (left_of bytes there); stopped = true } in (
+      let last : Machine = record m { world = t; released = (m.released ++ take there bytes) ++ take some.0 (left_to_send bytes there); stopped = true } in (
         counts,
-        left_of bytes there,
+        left_to_send bytes there,
         there + some.0,
-        subst (λ (l : List ℕ). Reaches guest supplied m (pieces_of bytes 0 counts ++ send_fails (left_of bytes there) ∷ []) (record m { world = t; released = l; stopped = true })) (more there some.0)
-            (reaches-append guest supplied m (sent_to there mid) last (pieces_of bytes 0 counts) (send_fails (left_of bytes there) ∷ []) (from_start (pieces_of bytes 0 counts) (sent_to there mid) (emits 0 there counts m.world mid are))
+        subst (λ (l : List ℕ). Reaches guest supplied m (pieces_of bytes 0 counts ++ send_fails (left_to_send bytes there) ∷ []) (record m { world = t; released = l; stopped = true })) (more there some.0)
+            (reaches-append guest supplied m (sent_to there mid) last (pieces_of bytes 0 counts) (send_fails (left_to_send bytes there) ∷ []) (from_start (pieces_of bytes 0 counts) (sent_to there mid) (emits 0 there counts m.world mid are))
             (last, (none, (works, next_output there mid, t, why, failed_, some.0, some.1, refl)), refl)),
       )
 
@@ -327,7 +327,7 @@ send_is_events guest supplied m bytes ok t = λ none works unsent calls. send_ev
 module _ (guest : List ℕ) (supplied : Bool) (m : Machine) (r : EpochRun) (none : m.left ≡ None) (works : m.stopped ≡ false) (sent_all : m.released ≡ output_of_runs m.written)
     (in_hand : m.hand ≡ holds (record_of_run r) (r ∷ []) frame_write) where
   abbrev acknowledged : History → Machine
-  acknowledged t = after_call m (record_of_run r) (r ∷ []) gate_sync t
+  acknowledged t = after_machine_call m (record_of_run r) (r ∷ []) gate_sync t
 
   output_is : output_of_runs (m.written ++ r ∷ []) ≡ m.released ++ r.out
   output_is = flat_map-append (λ (x : EpochRun). x.out) m.written (r ∷ []) ∙ ap (λ (l : List ℕ). l ++ output_of_runs (r ∷ [])) (sym sent_all) ∙ ap (λ (l : List ℕ). m.released ++ l) (append-nil r.out)

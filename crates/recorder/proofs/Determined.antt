@@ -2,7 +2,7 @@
 use Rattle.std.proofs.Common.{◌≡◌, ◌≢◌, ◌⊎◌, inl, inr, ℕ, ◌+◌, ◌-◌, ◌<◌, ◌≤◌, Bool, true, false, List, [], ◌∷◌, ◌++◌, length, map, take, Option, Some, refl, sym, ◌∙◌, ap, subst, append_assoc, arith}
 use Rattle.std.proofs.Math.Seq.{take-nil}
 use Rattle.std.proofs.lemmas.List.{append-nil}
-use Rattle.commit_core.specs.JudgedRound.{AreLinked, IsJudged, RoundEnd, over, squashed, used_up}
+use Rattle.commit_core.specs.JudgedRound.{AreLinked, IsRoundJudged, RoundEnd, over, squashed, used_up}
 use Rattle.dp_base.specs.Journal as journals
 use Rattle.epoch_record.specs.Epoch.{epoch_of}
 use Rattle.epoch_runner.specs.Answering.{can_step}
@@ -16,10 +16,10 @@ use Rattle.racing_runner.specs.declared.offer.Offer.{Offer}
 use Rattle.racing_runner.specs.declared.plan.Plan.{Plan}
 use Rattle.racing_runner.specs.Offers.{IfTold, Tells}
 use Rattle.recorder.specs.declared.options.Options.{Options}
-use Rattle.recorder.specs.Drawing.{Draw, Round, draws_of, epochs_of, supply_behind, supply_of}
+use Rattle.recorder.specs.Drawing.{Draw, Round, draws_of, epochs_of_rounds, supply_behind, supply_of}
 use Rattle.recorder.specs.Machine.{epochs_of_runs}
-use Rattle.recorder.specs.Racing.{AreResults, IsRaced, bounds_for, plan_of}
-use Rattle.recorder.specs.Recording.{BeginsWith, EachIsNext, EachIsRound, IsNext, IsRound, Run, RunOn, TellsAll, draws, draws_on, epochs, first_after, first_behind, first_next, is_squash, supply}
+use Rattle.recorder.specs.Racing.{AreResults, IsRaced, job_bounds, plan_of}
+use Rattle.recorder.specs.Recording.{BeginsWith, EachIsNextEpoch, EachIsRound, IsNextEpoch, IsRound, Run, RunOn, TellsAll, draws, draws_on, epochs, first_after, first_behind, first_next, is_squash, supply}
 use Rattle.recorder.proofs.Alike.{IsDetermined}
 use Rattle.recorder.proofs.JobRuns.{few_results}
 use Rattle.recorder.proofs.RunLists.{epochs-append, first-append}
@@ -59,8 +59,8 @@ module _ (law : IsDetermined) (options : Options) (w : Supplied) where
   all_results first s offers (x ∷ xs) [] is there = tt
   all_results first s [] (x ∷ z ∷ xs) (y ∷ ys) is there = absurd is
   all_results first s [] (x ∷ []) (y ∷ z ∷ ys) is there = absurd there
-  all_results first s [] (x ∷ []) (y ∷ []) is there = (one_result s no_hints (bounds_for options first s) x y is there, tt)
-  all_results first s (o ∷ offers) (x ∷ xs) (y ∷ ys) is there = (one_result s o.hints (bounds_for options first s) x y is.0 there.0, all_results 1 o.next offers xs ys is.1 there.1)
+  all_results first s [] (x ∷ []) (y ∷ []) is there = (one_result s no_hints (job_bounds options first s) x y is there, tt)
+  all_results first s (o ∷ offers) (x ∷ xs) (y ∷ ys) is there = (one_result s o.hints (job_bounds options first s) x y is.0 there.0, all_results 1 o.next offers xs ys is.1 there.1)
 
 -- ---- judged
 
@@ -79,12 +79,12 @@ fewer count x xs stop is = record { few = (let few = is.few in omega (arith, few
 too_few : (count : ℕ) (x : Ran) (xs : List Ran) (stop other : RoundEnd) → stop ≡ used_up → IsFull count [] stop → IsFull count (x ∷ xs) other → ⊥
 too_few count x xs stop other up is there = let none = is.full up in let few = there.few in omega (arith, none, few)
 
-same_judged : (s : State) (count : ℕ) (xs ys : List Ran) (runs others : List EpochRun) (t u : State) (stop other : RoundEnd) → AgreeOn xs ys → IsFull count xs stop → IsFull count ys other → IsJudged s xs runs t stop → IsJudged s ys others u other
+same_judged : (s : State) (count : ℕ) (xs ys : List Ran) (runs others : List EpochRun) (t u : State) (stop other : RoundEnd) → AgreeOn xs ys → IsFull count xs stop → IsFull count ys other → IsRoundJudged s xs runs t stop → IsRoundJudged s ys others u other
     → AreEqual runs t stop others u other
 same_judged s count [] [] [] [] t u stop other same f g is there = (refl, is.0 ∙ sym there.0, is.1 ∙ sym there.1)
 same_judged s count (Epoch r ∷ xs) (Epoch q ∷ ys) (x ∷ runs) (y ∷ others) t u stop other same f g is there =
     let rest = same_judged r.end (count - 1) xs ys runs others t u stop other same.1 (fewer count (Epoch r) xs stop f) (fewer count (Epoch q) ys other g) is.1.1
-    (subst (λ (z : State). IsJudged z ys others u other) (sym same.0.2) there.1.1) in
+    (subst (λ (z : State). IsRoundJudged z ys others u other) (sym same.0.2) there.1.1) in
     let first : epoch_of x.epoch ≡ epoch_of y.epoch = ap (λ (z : EpochRun). epoch_of z.epoch) is.1.0 ∙ same.0.1 ∙ ap (λ (z : EpochRun). epoch_of z.epoch) (sym there.1.0) in
     (ap (λ (e : journals.Epoch). e ∷ epochs_of_runs runs) first ∙ ap (λ (l : List journals.Epoch). epoch_of y.epoch ∷ l) rest.0, rest.1, rest.2)
 same_judged s count (Epoch r ∷ xs) (Epoch q ∷ ys) [] [] t u stop other same f g is there = (refl, is.1.0 ∙ sym there.1.0, is.1.1 ∙ sym there.1.1)
@@ -142,7 +142,7 @@ module _ (law : IsDetermined) (options : Options) where
   -- a longer run that drew the same at first has the same rounds at first
   pub split_rounds : (tells : Tells) → TellsAll tells → (first : ℕ) (s : State) (w : Supplied) (xs ys : List Round) (t u : State) (after other : Tells) (more : List Draw) → draws_of ys ≡ draws_of xs ++ more
       → EachIsRound tells options first s w xs t after → EachIsRound tells options first s w ys u other
-      → (zs : List Round) × (ys ≡ xs ++ zs) × (draws_of zs ≡ more) × (after ≡ tells) × EachIsRound tells options (first_after first (epochs_of xs)) t (supply_behind w (draws_of xs)) zs u other
+      → (zs : List Round) × (ys ≡ xs ++ zs) × (draws_of zs ≡ more) × (after ≡ tells) × EachIsRound tells options (first_after first (epochs_of_rounds xs)) t (supply_behind w (draws_of xs)) zs u other
   split_rounds tells all_told first s w [] ys t u after other more draws a b =
       (ys, refl, draws, a.1, subst (λ (z : State). EachIsRound tells options first z w ys u other) (sym a.0) b)
   split_rounds tells all_told first s w (x ∷ xs) [] t u after other more draws a b = absurd cc
@@ -161,7 +161,7 @@ module _ (law : IsDetermined) (options : Options) where
         ap (λ (r : Round). r ∷ ys) (sym (same_round x y draw same.0 same.2)) ∙ ap (λ (l : List Round). x ∷ l) rest.1,
         rest.2,
         rest.3,
-        subst (λ (n : ℕ). EachIsRound tells options n t (supply_behind (supply_of w x.draw) (draws_of xs)) rest.0 u other) (sym (first-append first x.epochs (epochs_of xs))) rest.4,
+        subst (λ (n : ℕ). EachIsRound tells options n t (supply_behind (supply_of w x.draw) (draws_of xs)) rest.0 u other) (sym (first-append first x.epochs (epochs_of_rounds xs))) rest.4,
       )
 
   -- the same draws leave the same rounds
@@ -169,7 +169,7 @@ module _ (law : IsDetermined) (options : Options) where
       → EachIsRound tells options first s w xs t after → EachIsRound tells options first s w ys u other → (xs ≡ ys) × (t ≡ u)
   all_rounds tells all_told first s w xs ys t u after other draws a b =
       let split = split_rounds tells all_told first s w xs ys t u after other [] (sym draws ∙ sym (append-nil (draws_of xs))) a b in
-      none split.0 (first_after first (epochs_of xs)) (supply_behind w (draws_of xs)) split.1 split.2 split.4
+      none split.0 (first_after first (epochs_of_rounds xs)) (supply_behind w (draws_of xs)) split.1 split.2 split.4
     where
       none : (zs : List Round) (n : ℕ) (v : Supplied) → ys ≡ xs ++ zs → draws_of zs ≡ [] → EachIsRound tells options n t v zs u other → (xs ≡ ys) × (t ≡ u)
       none [] n v is bare each = (sym (is ∙ append-nil xs), sym each.0)
@@ -178,14 +178,14 @@ module _ (law : IsDetermined) (options : Options) where
   -- ---- a round that isn't over
 
   front_of : (s : State) (count : ℕ) (runs : List EpochRun) (rest ys : List Ran) (others : List EpochRun) (t u : State) (stop : RoundEnd) → AgreeOn (map Epoch runs ++ rest) ys → length (map Epoch runs ++ rest) ≤ count → IsFull count ys stop
-      → AreLinked s runs t → IsJudged s ys others u stop → BeginsWith (epochs_of_runs others) (epochs_of_runs runs)
+      → AreLinked s runs t → IsRoundJudged s ys others u stop → BeginsWith (epochs_of_runs others) (epochs_of_runs runs)
   front_of s count [] rest ys others t u stop same few full linked judged = (epochs_of_runs others, refl)
   front_of s count (r ∷ runs) rest [] [] t u stop same few full linked judged = absurd (let none = full.full judged.1 in omega (arith, none, few))
   front_of s count (r ∷ runs) rest [] (x ∷ others) t u stop same few full linked judged = absurd judged
   front_of s count (r ∷ runs) rest (Idle y ∷ ys) others t u stop same few full linked judged = absurd same.0
   front_of s count (r ∷ runs) rest (Epoch q ∷ ys) [] t u stop same few full linked judged = absurd (judged.0 (sym same.0.0 ∙ linked.0))
   front_of s count (r ∷ runs) rest (Epoch q ∷ ys) (x ∷ others) t u stop same few full linked judged =
-      let more = front_of r.end (count - 1) runs rest ys others t u stop same.1 (omega (arith, few)) (fewer count (Epoch q) ys stop full) linked.1 (subst (λ (z : State). IsJudged z ys others u stop) (sym same.0.2) judged.1.1) in
+      let more = front_of r.end (count - 1) runs rest ys others t u stop same.1 (omega (arith, few)) (fewer count (Epoch q) ys stop full) linked.1 (subst (λ (z : State). IsRoundJudged z ys others u stop) (sym same.0.2) judged.1.1) in
       let first : epoch_of x.epoch ≡ epoch_of r.epoch = ap (λ (z : EpochRun). epoch_of z.epoch) judged.1.0 ∙ sym same.0.1 in
       (more.0, ap (λ (e : journals.Epoch). e ∷ epochs_of_runs others) first ∙ ap (λ (l : List journals.Epoch). epoch_of r.epoch ∷ l) more.1)
 
@@ -216,11 +216,11 @@ module _ (law : IsDetermined) (options : Options) where
             let few = few_results options first s mine.offers w on.results mine.are_results in
             let full : IsFull count theirs.results theirs.stop = record { few = few_results options first s mine.offers w theirs.results others; full = λ up. theirs.all up ∙ ap (λ (l : List Offer). length l + 1) (sym offers) } in
             let front = front_of s count runs rest theirs.results theirs.runs end each.2 theirs.stop (subst (λ (l : List Ran). AgreeOn l theirs.results) all same) (omega (arith, few, ap (λ (l : List Ran). length l) all)) full linked theirs.judged in (
-              front.0 ++ epochs_of zs,
-              ap (λ (l : List Round). epochs_of l) is ∙ epochs-append on.run.rounds (z ∷ zs)
-                  ∙ ap (λ (l : List journals.Epoch). epochs on.run ++ (l ++ epochs_of zs)) (theirs.epochs_are ∙ front.1)
-                  ∙ ap (λ (l : List journals.Epoch). epochs on.run ++ l) (append_assoc (epochs_of_runs runs) front.0 (epochs_of zs))
-                  ∙ sym (append_assoc (epochs on.run) (epochs_of_runs runs) (front.0 ++ epochs_of zs)),
+              front.0 ++ epochs_of_rounds zs,
+              ap (λ (l : List Round). epochs_of_rounds l) is ∙ epochs-append on.run.rounds (z ∷ zs)
+                  ∙ ap (λ (l : List journals.Epoch). epochs on.run ++ (l ++ epochs_of_rounds zs)) (theirs.epochs_are ∙ front.1)
+                  ∙ ap (λ (l : List journals.Epoch). epochs on.run ++ l) (append_assoc (epochs_of_runs runs) front.0 (epochs_of_rounds zs))
+                  ∙ sym (append_assoc (epochs on.run) (epochs_of_runs runs) (front.0 ++ epochs_of_rounds zs)),
             )
 
 -- ---- a racer that offers nothing
@@ -229,12 +229,12 @@ module _ (options : Options) (tells : Tells) (idle : (s : State) (w : Supplied) 
   no_offers : (o : List Offer) → o ≡ take (options.ahead - 1) [] → o ≡ []
   no_offers o is = is ∙ take-nil (options.ahead - 1)
 
-  next_of : (first : ℕ) (s : State) (w : Supplied) (r : EpochRun) → HasRunEpoch s no_hints w (bounds_for options first s) r → IsNext options first s w (epoch_of r.epoch) r.end r.out
-  next_of first s w r is = record { bounds = bounds_for options first s; steps = refl; slice = refl; first_is = refl; scheduled = is.scheduled; is_epoch = is.runs.is_epoch; fits = is.runs.fits }
+  next_of : (first : ℕ) (s : State) (w : Supplied) (r : EpochRun) → HasRunEpoch s no_hints w (job_bounds options first s) r → IsNextEpoch options first s w (epoch_of r.epoch) r.end r.out
+  next_of first s w r is = record { bounds = job_bounds options first s; steps = refl; slice = refl; first_is = refl; scheduled = is.scheduled; is_epoch = is.runs.is_epoch; fits = is.runs.fits }
 
   -- a round of one job
-  one_job : (first : ℕ) (s t : State) (w : Supplied) (r : Round) (results : List Ran) (runs : List EpochRun) (stop : RoundEnd) → AreResults options first s [] w results → IsJudged s results runs t stop → 0 < length runs
-      → r.epochs ≡ epochs_of_runs runs → r.squashed ≡ is_squash stop → (e : journals.Epoch) × (output : List ℕ) × (r.epochs ≡ e ∷ []) × (r.squashed ≡ false) × IsNext options first s w e t output
+  one_job : (first : ℕ) (s t : State) (w : Supplied) (r : Round) (results : List Ran) (runs : List EpochRun) (stop : RoundEnd) → AreResults options first s [] w results → IsRoundJudged s results runs t stop → 0 < length runs
+      → r.epochs ≡ epochs_of_runs runs → r.squashed ≡ is_squash stop → (e : journals.Epoch) × (output : List ℕ) × (r.epochs ≡ e ∷ []) × (r.squashed ≡ false) × IsNextEpoch options first s w e t output
   one_job first s t w r [] [] stop are judged some epochs_are squash = absurd (omega (arith, some))
   one_job first s t w r [] (x ∷ runs) stop are judged some epochs_are squash = absurd judged
   one_job first s t w r (x ∷ y ∷ results) runs stop are judged some epochs_are squash = absurd are
@@ -246,13 +246,13 @@ module _ (options : Options) (tells : Tells) (idle : (s : State) (w : Supplied) 
     q.out,
     epochs_are ∙ ap (λ (z : EpochRun). epoch_of z.epoch ∷ []) judged.1.0,
     squash ∙ ap is_squash judged.1.1.1,
-    subst (λ (z : State). IsNext options first s w (epoch_of q.epoch) z q.out) (sym judged.1.1.0) (next_of first s w q are),
+    subst (λ (z : State). IsNextEpoch options first s w (epoch_of q.epoch) z q.out) (sym judged.1.1.0) (next_of first s w q are),
   )
 
   idle_again : (mid : Tells) → mid ≡ tells → (s : State) (w : Supplied) (p : Plan) → mid s w p ≡ Some []
   idle_again mid same s w p = ap (λ (k : Tells). k s w p) same ∙ idle s w p
 
-  pub each_one : (first : ℕ) (s t : State) (w : Supplied) (rounds : List Round) (after : Tells) → EachIsRound tells options first s w rounds t after → EachIsNext options first s w rounds
+  pub each_one : (first : ℕ) (s t : State) (w : Supplied) (rounds : List Round) (after : Tells) → EachIsRound tells options first s w rounds t after → EachIsNextEpoch options first s w rounds
   each_one first s t w [] after each = tt
   each_one first s t w (r ∷ rounds) after each =
       let is = each.4 in

@@ -38,7 +38,7 @@ use Rattle.recorder.specs.EpochLaws.{EpochLaws}
 use Rattle.recorder.specs.Drawing.{Draw, Drew, HasDrawn, IsHonestSince, answers_in, readings_since, supply_of}
 use Rattle.recorder.specs.Keeping.{AlwaysPartly, CanGoOn, IsDrawn, IsSince, Kept, Setting}
 use Rattle.recorder.specs.Moments.{EachMoment, HoldsAt}
-use Rattle.recorder.specs.Racing.{bounds_for, epoch_steps}
+use Rattle.recorder.specs.Racing.{job_bounds, epoch_steps}
 use Rattle.recorder.specs.Marking.{IsMarkDue, base_after, base_then, is_due, mark_of, marks_at, records_of, records_unmarked, since_after, since_then}
 use Rattle.recorder.specs.Recording.{GoesOn, HasRoom, IsInterrupted, IsRecorded, first_behind}
 use Rattle.checkpoint.specs.State.{IsEncodable, checkpoint_of}
@@ -170,12 +170,12 @@ module _ (a : Setting) (there : Option Input) (now : Option History) (E : List E
   abbrev K : List Record
   K = records_of a.options a.start E
 
-  module _ (laws : EpochLaws) (last : IfInput (λ s t. IsLast w.stamp (readings_since s t)) a.given there) (first : ℕ) (hints : Hints) (r : EpochRun) (is : HasRunEpoch state hints w (bounds_for a.options first state) r) where
+  module _ (laws : EpochLaws) (last : IfInput (λ s t. IsLast w.stamp (readings_since s t)) a.given there) (first : ℕ) (hints : Hints) (r : EpochRun) (is : HasRunEpoch state hints w (job_bounds a.options first state) r) where
     abbrev e : Epoch
     e = epoch_of r.epoch
 
     abbrev bounds : Bounds
-    bounds = bounds_for a.options first state
+    bounds = job_bounds a.options first state
 
     abbrev end_at : After
     end_at = at r.end r.out []

@@ -6,7 +6,7 @@ use Rattle.commit_core.specs.declared.event.Event as rounds
 use Rattle.commit_core.specs.declared.event.Event.TheVariants as events
 use Rattle.commit_core.specs.declared.stage.Stage.{Stage}
 use Rattle.commit_core.specs.declared.stage.Stage.TheVariants.{Offered, Claimed, Done, Taken, Judged}
-use Rattle.commit_core.specs.Judging.{fresh, with_job, with_stage}
+use Rattle.commit_core.specs.Judging.{new_core, with_job, with_stage}
 use Rattle.disk_model.specs.History.{History}
 use Rattle.disk_model.specs.Input.{Input, IsLast}
 use Rattle.dp_base.specs.declared.answer.Answer.{Answer}
@@ -24,7 +24,7 @@ use Rattle.supply.specs.Supplied.{Supplied, empty, end_of}
 use Rattle.supply.specs.declared.TheConstants.{MAX_ROOM}
 use Rattle.std.proofs.lemmas.Grind.{flat_map-append}
 use Rattle.journal_text.specs.Records.{Record}
-use Rattle.recorder.specs.Machine.{Call, Event, Hand, InRound, IsAtRest, IsTakeable, Judges, Machine, Reaches, Step, after_call, crash, fails, first_machine, frame_sync, frame_write, gate_sync, gate_write, holds, in_round, judged_runs, makes, marks, round, runs_in_hand, send_fails, sends}
+use Rattle.recorder.specs.Machine.{MachineCall, MachineEvent, Hand, RoundEvent, IsAtRest, IsTakeable, Judges, Machine, Reaches, Step, after_machine_call, crash, fails, first_machine, frame_sync, frame_write, gate_sync, gate_write, holds, in_round, judged_runs, makes, marks, round, runs_in_hand, send_fails, sends}
 use Rattle.recorder.specs.MachineKept.{answers_of_runs, draws_in}
 use Rattle.recorder.proofs.MachineEvents.{All, step}
 use Rattle.recorder.proofs.MachineRound.{next_known}
@@ -72,7 +72,7 @@ module _ (laws : TakeLaws) (guest : List ℕ) (start : State) (before : History)
   judged draws m n (Epoch r) all d rest next (inr j) = subst (Drawn draws) (sym j.1) d
   judged draws m n (Idle s) all d rest next j = subst (Drawn draws) (sym j.1) d
 
-  told_one : (draws : List Draw) (m n : Machine) (e : rounds.Event) → AllOf m → Drawn draws m → InRound true m e n → Drawn draws n
+  told_one : (draws : List Draw) (m n : Machine) (e : rounds.Event) → AllOf m → Drawn draws m → RoundEvent true m e n → Drawn draws n
   told_one draws m n (events.Offer k) all d t = subst (Drawn draws) (sym t.2)
       (other_jobs draws m.supply m.core.committed.input (length m.core.jobs) (length (with_job m.core).jobs) m.core.max_jobs (judged_runs m) m.input d
       (omega (arith, t.0, t.1, length-append m.core.jobs (Offered ∷ []))))
@@ -85,23 +85,23 @@ module _ (laws : TakeLaws) (guest : List ℕ) (start : State) (before : History)
   other_runs : (draws : List Draw) (m : Machine) (rs : List EpochRun) → Drawn draws m → rs ≡ judged_runs m → DrawnBy draws m.supply m.core.committed.input (length m.core.jobs) m.core.max_jobs rs m.input
   other_runs draws m rs d same = subst (λ (l : List EpochRun). DrawnBy draws m.supply m.core.committed.input (length m.core.jobs) m.core.max_jobs l m.input) (sym same) d
 
-  called_drawn : (draws : List Draw) (m : Machine) (r : Record) (rs : List EpochRun) (call : Call) (t : History) → m.hand ≡ holds r rs call → Drawn draws m → Drawn draws (after_call m r rs call t)
+  called_drawn : (draws : List Draw) (m : Machine) (r : Record) (rs : List EpochRun) (call : MachineCall) (t : History) → m.hand ≡ holds r rs call → Drawn draws m → Drawn draws (after_machine_call m r rs call t)
   called_drawn draws m r rs call t in_hand d =
       by_call call (other_runs draws m (m.written ++ rs) d (ap (λ (h : Hand). m.written ++ runs_in_hand h) (sym in_hand)))
     where
-      by_call : (call : Call) → DrawnBy draws m.supply m.core.committed.input (length m.core.jobs) m.core.max_jobs (m.written ++ rs) m.input → Drawn draws (after_call m r rs call t)
+      by_call : (call : MachineCall) → DrawnBy draws m.supply m.core.committed.input (length m.core.jobs) m.core.max_jobs (m.written ++ rs) m.input → Drawn draws (after_machine_call m r rs call t)
       by_call frame_write same = same
       by_call frame_sync same = same
       by_call gate_write same = same
       by_call gate_sync same = subst (λ (l : List EpochRun). DrawnBy draws m.supply m.core.committed.input (length m.core.jobs) m.core.max_jobs l m.input) (sym (append-nil (m.written ++ rs))) same
 
-  drawn_step : (draws : List Draw) (m n : Machine) (e : Event) (events : List Event) → AllOf m → Drawn draws m → Step guest true m e n → (more : List Draw) × Drawn (draws ++ more) n × (draws_in (e ∷ events) ≡ more ++ draws_in events)
+  drawn_step : (draws : List Draw) (m n : Machine) (e : MachineEvent) (events : List MachineEvent) → AllOf m → Drawn draws m → Step guest true m e n → (more : List Draw) × Drawn (draws ++ more) n × (draws_in (e ∷ events) ≡ more ++ draws_in events)
   drawn_step draws m n (round d jobs) events all drawn (none, s) =
       let more = drawn_more laws m.supply m.core.committed.input draws (answers_of_runs (judged_runs m)) d i m.input n.input drawn.drawn s.4 s.5 in
       let start_ : Machine = record m {
         input = n.input;
         supply = supply_of m.supply d;
-        core = fresh m.core.committed jobs;
+        core = new_core m.core.committed jobs;
         results = [];
         began = m.core.committed;
         round_runs = [];
@@ -120,14 +120,14 @@ module _ (laws : TakeLaws) (guest : List ℕ) (start : State) (before : History)
   drawn_step draws m n (send_fails piece) events all d (none, s) = ([], subst (λ (l : List Draw). Drawn l n) (sym (append-nil draws)) (subst (Drawn draws) (sym s.7) d), refl)
   drawn_step draws m n (crash image) events all d (none, s) = ([], subst (λ (l : List Draw). Drawn l n) (sym (append-nil draws)) (subst (Drawn draws) (sym s.1) d), refl)
 
-  drawn_all : (draws : List Draw) (m n : Machine) (events : List Event) → AllOf m → Drawn draws m → Reaches guest true m events n → Drawn (draws ++ draws_in events) n
+  drawn_all : (draws : List Draw) (m n : Machine) (events : List MachineEvent) → AllOf m → Drawn draws m → Reaches guest true m events n → Drawn (draws ++ draws_in events) n
   drawn_all draws m n [] all d is = subst (λ (l : List Draw). Drawn l n) (sym (append-nil draws)) (subst (Drawn draws) (sym is) d)
   drawn_all draws m n (e ∷ events) all d is =
       let one = drawn_step draws m is.0 e events all d is.1 in
       let rest = drawn_all (draws ++ one.0) is.0 n events (step guest start before is-guest true m is.0 e all is.1) one.1 is.2 in
       subst (λ (l : List Draw). Drawn l n) (append_assoc draws one.0 (draws_in events) ∙ ap (λ (l : List Draw). draws ++ l) (sym one.2)) rest
 
-  pub all_drawn : (h : History) (n : Machine) (events : List Event) → start.input ≡ 0 → AllOf (first_machine start h i) → Reaches guest true (first_machine start h i) events n → HasDrawn (draws_in events) (answers_of_runs (judged_runs n)) i n.input
+  pub all_drawn : (h : History) (n : Machine) (events : List MachineEvent) → start.input ≡ 0 → AllOf (first_machine start h i) → Reaches guest true (first_machine start h i) events n → HasDrawn (draws_in events) (answers_of_runs (judged_runs n)) i n.input
   all_drawn h n events zero_ all is =
       let first : Drawn [] (first_machine start h i) = record {
         drawn = subst (λ (x : ℕ). IsDrawn (empty MAX_ROOM) x [] [] i i) (sym zero_) (none_drawn i);

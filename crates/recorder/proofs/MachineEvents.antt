@@ -5,7 +5,7 @@ use Rattle.commit_core.specs.declared.event.Event as rounds
 use Rattle.commit_core.specs.declared.event.Event.TheVariants as events
 use Rattle.commit_core.specs.declared.stage.Stage.TheVariants.{Offered, Claimed, Done, Taken, Judged}
 use Rattle.commit_core.specs.JudgedRound.{used_up}
-use Rattle.commit_core.specs.Judging.{Core, fresh, shut, with_epoch, with_job, with_stage}
+use Rattle.commit_core.specs.Judging.{Core, new_core, shut, with_epoch, with_job, with_stage}
 use Rattle.disk_model.specs.History.{History}
 use Rattle.disk_model.proofs.Moments.{got-nothing}
 use Rattle.dp_base.specs.Journal.{IsGuest}
@@ -21,16 +21,16 @@ use Rattle.disk_model.specs.Input.{Input}
 use Rattle.dp_base.specs.declared.limits.TheConstants.{MAX_JOURNAL_BYTES}
 use Rattle.epoch_journal.specs.Standing.{Stands}
 use Rattle.journal_text.specs.Reading.{journal_of}
-use Rattle.recorder.specs.Machine.{Call, Event, Hand, InRound, IsAtRest, IsResult, IsTakeable, Judges, Machine, Reaches, Step, after_call, crash, fails, first_machine, frame_sync, frame_write, gate_sync, gate_write, holds, in_round, judged_runs, makes, marks, nothing, record_of_run, round, runs_in_hand, send_fails, sends}
+use Rattle.recorder.specs.Machine.{MachineCall, MachineEvent, Hand, RoundEvent, IsAtRest, IsMachineResult, IsTakeable, Judges, Machine, Reaches, Step, after_machine_call, crash, fails, first_machine, frame_sync, frame_write, gate_sync, gate_write, holds, in_round, judged_runs, makes, marks, nothing, record_of_run, round, runs_in_hand, send_fails, sends}
 use Rattle.recorder.specs.Marking.{mark_of}
-use Rattle.recorder.specs.MachineKept.{IsKept, IsRound, StandFor, WasTaken}
+use Rattle.recorder.specs.MachineKept.{IsKept, IsMachineRound, StandFor, WasTaken}
 use Rattle.recorder.proofs.MachineRuns.{Follows, IsRunHere, Linked, linked-append, linked-chain, linked-links, mark_follows, run_follows}
 use Rattle.recorder.proofs.MachineOutside.{ByHand, Holds, crashed, images_of, round_only, send_failed, sent, starts, taken_up, write_failed, wrote}
 use Rattle.recorder.proofs.MachineRound.{RoundInv, committed_round, fresh_round, gone_on, judged_last, judged_open, judged_shut, next_known, offered_round, shut_round, taken_last, taken_round, taken_runs}
 use Rattle.recorder.proofs.JobStages.{stage_within}
 
 -- what was taken was run
-was_ran : (supplied : Bool) (w : Supplied) (ran : Ran) → IsTakeable supplied w ran → IsResult ran
+was_ran : (supplied : Bool) (w : Supplied) (ran : Ran) → IsTakeable supplied w ran → IsMachineResult ran
 was_ran true w ran is = is.0
 was_ran false w ran is = is
 
@@ -64,7 +64,7 @@ module _ (guest : List ℕ) (start : State) (before : History) (is-guest : IsGue
     inside = shut_round supplied m.supply m.began m.round_runs m.core m.results all.inside (Idle s) next j.0;
   })
 
-  told_one : (m n : Machine) (e : rounds.Event) → All m → m.left ≡ None → InRound supplied m e n → All n
+  told_one : (m n : Machine) (e : rounds.Event) → All m → m.left ≡ None → RoundEvent supplied m e n → All n
   told_one m n (events.Offer i) all none t = subst All (sym t.2) (record {
     outside = core_only m (with_job m.core) all none refl;
     inside = offered_round supplied m.supply m.began m.round_runs m.core m.results all.inside;
@@ -85,19 +85,19 @@ module _ (guest : List ℕ) (start : State) (before : History) (is-guest : IsGue
       })
   told_one m n events.Judge all none t = judged m n t.2 all none t.0 t.1 t.3 t.4
 
-  called_inside : (m : Machine) (r : Record) (rs : List EpochRun) (call : Call) (t : History) → RoundInv supplied m.supply m.began m.round_runs m.core m.results
-      → RoundInv supplied (after_call m r rs call t).supply (after_call m r rs call t).began (after_call m r rs call t).round_runs (after_call m r rs call t).core (after_call m r rs call t).results
+  called_inside : (m : Machine) (r : Record) (rs : List EpochRun) (call : MachineCall) (t : History) → RoundInv supplied m.supply m.began m.round_runs m.core m.results
+      → RoundInv supplied (after_machine_call m r rs call t).supply (after_machine_call m r rs call t).began (after_machine_call m r rs call t).round_runs (after_machine_call m r rs call t).core (after_machine_call m r rs call t).results
   called_inside m r rs frame_write t inv = inv
   called_inside m r rs frame_sync t inv = inv
   called_inside m r rs gate_write t inv = inv
   called_inside m r rs gate_sync t inv = inv
 
-  pub step : (m n : Machine) (e : Event) → All m → Step guest supplied m e n → All n
+  pub step : (m n : Machine) (e : MachineEvent) → All m → Step guest supplied m e n → All n
   step m n (round d jobs) all (none, s) =
       let there : Machine = record m {
         input = n.input;
         supply = supply_of m.supply d;
-        core = fresh m.core.committed jobs;
+        core = new_core m.core.committed jobs;
         results = [];
         began = m.core.committed;
         round_runs = [];
@@ -132,7 +132,7 @@ module _ (guest : List ℕ) (start : State) (before : History) (is-guest : IsGue
     inside = all.inside;
   })
 
-  pub reached : (m n : Machine) (events : List Event) → All m → Reaches guest supplied m events n → All n
+  pub reached : (m n : Machine) (events : List MachineEvent) → All m → Reaches guest supplied m events n → All n
   reached m n [] all is = subst All (sym is) all
   reached m n (e ∷ events) all is = reached is.0 n events (step m is.0 e all is.1) is.2
 
@@ -152,7 +152,7 @@ module _ (guest : List ℕ) (start : State) (before : History) (is-guest : IsGue
     | inr t ↦ stage_within m.core.jobs i Judged t
   ]
 
-  round_by : (m : Machine) → RoundInv supplied m.supply m.began m.round_runs m.core m.results → (closed : Bool) → m.core.closed ≡ closed → IsRound m
+  round_by : (m : Machine) → RoundInv supplied m.supply m.began m.round_runs m.core m.results → (closed : Bool) → m.core.closed ≡ closed → IsMachineRound m
   round_by m inv false is = record {
     results = map Epoch m.round_runs;
     are_taken = taken_runs m.results 0 m.began m.core.committed m.round_runs inv.committed;

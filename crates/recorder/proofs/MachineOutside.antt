@@ -19,7 +19,7 @@ use Rattle.epoch_runner.specs.declared.epoch_run.EpochRun.{EpochRun}
 use Rattle.guest_kernel.specs.declared.state.State.{State}
 use Rattle.journal_text.specs.Reading.{journal_of}
 use Rattle.journal_text.specs.Records.{IsRecord, Record, body_of}
-use Rattle.recorder.specs.Machine.{Call, CallLeaves, Hand, IsNextOutput, Machine, after_call, base_with, first_machine, frame_sync, frame_write, gate_sync, gate_write, holds, journal_end, nothing, output_of_runs}
+use Rattle.recorder.specs.Machine.{MachineCall, CallLeaves, Hand, IsNextOutput, Machine, after_machine_call, base_with, first_machine, frame_sync, frame_write, gate_sync, gate_write, holds, journal_end, nothing, output_of_runs}
 use Rattle.recorder.specs.MachineKept.{ReadsWith, StandFor, in_question, record_in_hand, record_opened}
 use Rattle.std.proofs.lemmas.Grind.{flat_map-append}
 use Rattle.recorder.proofs.MachineRuns.{Follows, Linked, linked-append, stand-append}
@@ -61,7 +61,7 @@ module _ (guest : List ℕ) (start : State) (before : History) (is-guest : IsGue
   abbrev pub RoomFor : List Record → Record → Type 0
   RoomFor records r = length (journal_of guest records) + length (frame (body_of r)) ≤ MAX_JOURNAL_BYTES
 
-  abbrev pub IsWritten : List Record → Record → Call → List ℕ → Pending → Type 0
+  abbrev pub IsWritten : List Record → Record → MachineCall → List ℕ → Pending → Type 0
   IsWritten records r frame_write disk pending = IsWaiting guest records r disk pending
   IsWritten records r frame_sync disk pending = IsFramed guest records r disk pending × RoomFor records r
   IsWritten records r gate_write disk pending = IsBehind guest records r disk pending × RoomFor records r
@@ -93,14 +93,14 @@ module _ (guest : List ℕ) (start : State) (before : History) (is-guest : IsGue
     all : AllByRecursion IsRecord (records ++ r ∷ [])
     all = all_append IsRecord records (r ∷ []) are (is-record, tt)
 
-    written_images : (rs : List EpochRun) (p : Call) (disk : List ℕ) (pending : Pending) → IsWritten records r p disk pending → (image : List ℕ) → IsImage pending image → ReadsWith guest records (record_opened (holds r rs p)) image
+    written_images : (rs : List EpochRun) (p : MachineCall) (disk : List ℕ) (pending : Pending) → IsWritten records r p disk pending → (image : List ℕ) → IsImage pending image → ReadsWith guest records (record_opened (holds r rs p)) image
     written_images rs frame_write disk pending is image may = whole_journal guest records is-guest are fits image (subst (λ (x : Pending). IsImage x image) is.synced may)
     written_images rs frame_sync disk pending is image may = torn_frame guest records r is-guest all is.1 image (subst (λ (x : Pending). IsImage x image) is.0.pending_is may)
     written_images rs gate_write disk pending is image may = whole_frame guest records r is-guest all is.1 image (subst (λ (x : Pending). IsImage x image) is.0.synced may)
     written_images rs gate_sync disk pending is image may = torn_gate guest records r is-guest all is.1 image (subst (λ (x : Pending). IsImage x image) is.0.pending_is may)
 
     -- a call fails
-    failed_images : (m : Machine) (p : Call) (t : History) → m.records ≡ records → IsWritten records r p m.world.disk m.world.pending → CallLeaves guest m r p false t
+    failed_images : (m : Machine) (p : MachineCall) (t : History) → m.records ≡ records → IsWritten records r p m.world.disk m.world.pending → CallLeaves guest m r p false t
         → (image : List ℕ) → IsImage t.pending image → (Reads guest records image) ⊎ (Reads guest (records ++ r ∷ []) image)
     failed_images m frame_write t same is call image may = look (wrote_pending (journal_end guest m) (frame (body_of r)) m.world t call.1)
       where
@@ -174,13 +174,13 @@ module _ (guest : List ℕ) (start : State) (before : History) (is-guest : IsGue
   }
 
   module _ (m : Machine) (r : Record) (rs : List EpochRun) (none : m.left ≡ None) where
-    call_sent : (call : Call) (ok : Bool) (t : History) → CallLeaves guest m r call ok t → t.sent ≡ m.world.sent
+    call_sent : (call : MachineCall) (ok : Bool) (t : History) → CallLeaves guest m r call ok t → t.sent ≡ m.world.sent
     call_sent frame_write ok t leaves = wrote_sent (journal_end guest m) (frame (body_of r)) ok m.world t leaves.1
     call_sent frame_sync ok t leaves = synced_sent ok m.world t leaves
     call_sent gate_write ok t leaves = wrote_sent (journal_end guest m - 1) (open_gate ∷ []) ok m.world t leaves
     call_sent gate_sync ok t leaves = synced_sent ok m.world t leaves
 
-    called : (call : Call) (t : History) → Inv m (holds r rs call) false → CallLeaves guest m r call true t → Inv (after_call m r rs call t) (after_call m r rs call t).hand false
+    called : (call : MachineCall) (t : History) → Inv m (holds r rs call) false → CallLeaves guest m r call true t → Inv (after_machine_call m r rs call t) (after_machine_call m r rs call t).hand false
     called frame_write t inv leaves = moved m (holds r rs frame_write) (holds r rs frame_sync) t inv none (call_sent frame_write true t leaves) inv.by_hand
         (framed_by guest m.records r m.world t inv.disk leaves.1, leaves.0)
     called frame_sync t inv leaves = moved m (holds r rs frame_sync) (holds r rs gate_write) t inv none (call_sent frame_sync true t leaves) inv.by_hand
@@ -203,22 +203,22 @@ module _ (guest : List ℕ) (start : State) (before : History) (is-guest : IsGue
           left = λ image e. absurd (gone m.left image none e);
         }
 
-    still : (call : Call) (t : History) → (after_call m r rs call t).stopped ≡ m.stopped
+    still : (call : MachineCall) (t : History) → (after_machine_call m r rs call t).stopped ≡ m.stopped
     still frame_write t = refl
     still frame_sync t = refl
     still gate_write t = refl
     still gate_sync t = refl
 
-    holding : (call : Call) → m.stopped ≡ false → m.hand ≡ holds r rs call → Holds m → Inv m (holds r rs call) false
+    holding : (call : MachineCall) → m.stopped ≡ false → m.hand ≡ holds r rs call → Holds m → Inv m (holds r rs call) false
     holding call works in_hand inv = subst (λ (h : Hand). Inv m h false) in_hand (working m works inv)
 
-    pub wrote : (call : Call) (t : History) → Holds m → m.stopped ≡ false → m.hand ≡ holds r rs call → CallLeaves guest m r call true t → Holds (after_call m r rs call t)
+    pub wrote : (call : MachineCall) (t : History) → Holds m → m.stopped ≡ false → m.hand ≡ holds r rs call → CallLeaves guest m r call true t → Holds (after_machine_call m r rs call t)
     wrote call t inv works in_hand leaves =
-        subst (λ (b : Bool). Inv (after_call m r rs call t) (after_call m r rs call t).hand b) (sym (still call t ∙ works)) (called call t (holding call works in_hand inv) leaves)
+        subst (λ (b : Bool). Inv (after_machine_call m r rs call t) (after_machine_call m r rs call t).hand b) (sym (still call t ∙ works)) (called call t (holding call works in_hand inv) leaves)
 
     -- ---- it fails
 
-    pub write_failed : (call : Call) (t : History) → Holds m → m.stopped ≡ false → m.hand ≡ holds r rs call → CallLeaves guest m r call false t → Holds (record m { world = t; stopped = true })
+    pub write_failed : (call : MachineCall) (t : History) → Holds m → m.stopped ≡ false → m.hand ≡ holds r rs call → CallLeaves guest m r call false t → Holds (record m { world = t; stopped = true })
     write_failed call t inv works in_hand leaves =
         let held = holding call works in_hand inv in
         record {

@@ -2,8 +2,8 @@
 use Rattle.std.proofs.Common.{◌≡◌, ◌≢◌, map, ◌⊎◌, inl, inr, ℕ, zero, suc, ◌+◌, ◌-◌, add-one, Bool, true, false, List, [], ◌∷◌, ◌++◌, length, slice_get, slice_set, Some, refl, sym, ◌∙◌, ap, subst, arith, length-append}
 use Rattle.commit_core.specs.declared.stage.Stage.{Stage}
 use Rattle.commit_core.specs.declared.stage.Stage.TheVariants.{Offered, Claimed, Done, Taken, Judged}
-use Rattle.commit_core.specs.JudgedRound.{IsJudged, RoundEnd, over, squashed, used_up}
-use Rattle.commit_core.specs.Judging.{Core, fresh, shut, stage_at, with_epoch, with_job, with_stage}
+use Rattle.commit_core.specs.JudgedRound.{IsRoundJudged, RoundEnd, over, squashed, used_up}
+use Rattle.commit_core.specs.Judging.{Core, new_core, shut, stage_at, with_epoch, with_job, with_stage}
 use Rattle.epoch_runner.specs.declared.epoch_run.EpochRun.{EpochRun}
 use Rattle.epoch_runner.specs.declared.epoch_run.Ran.{Ran}
 use Rattle.epoch_runner.specs.declared.epoch_run.Ran.TheVariants.{Epoch, Idle}
@@ -60,16 +60,16 @@ pub taken_last : (results : List TakenResult) (n : ℕ) (s t : State) (rs : List
 taken_last results n s t [] ran c is = (subst (λ (k : ℕ). WasTaken results k ran) (omega arith) is, tt)
 taken_last results n s t (r ∷ rs) ran c is = (c.1, taken_last results (n + 1) r.end t rs ran c.2 (subst (λ (k : ℕ). WasTaken results k ran) (omega arith) is))
 
-pub judged_open : (results : List TakenResult) (n : ℕ) (s t : State) (rs : List EpochRun) → AreCommitted results n s rs t → IsJudged s (map Epoch rs) rs t used_up
+pub judged_open : (results : List TakenResult) (n : ℕ) (s t : State) (rs : List EpochRun) → AreCommitted results n s rs t → IsRoundJudged s (map Epoch rs) rs t used_up
 judged_open results n s t [] c = (c, refl)
 judged_open results n s t (r ∷ rs) c = (c.0, (refl, judged_open results (n + 1) r.end t rs c.2))
 
-pub judged_shut : (results : List TakenResult) (n : ℕ) (s t : State) (rs : List EpochRun) (rest : List Ran) (why : RoundEnd) → AreCommitted results n s rs t → IsJudged t rest [] t why → IsJudged s (map Epoch rs ++ rest) rs t why
-judged_shut results n s t [] rest why c is = subst (λ (x : State). IsJudged x rest [] t why) c is
+pub judged_shut : (results : List TakenResult) (n : ℕ) (s t : State) (rs : List EpochRun) (rest : List Ran) (why : RoundEnd) → AreCommitted results n s rs t → IsRoundJudged t rest [] t why → IsRoundJudged s (map Epoch rs ++ rest) rs t why
+judged_shut results n s t [] rest why c is = subst (λ (x : State). IsRoundJudged x rest [] t why) c is
 judged_shut results n s t (r ∷ rs) rest why c is = (c.0, (refl, judged_shut results (n + 1) r.end t rs rest why c.2 is))
 
 -- a result that closes the round
-pub judged_last : (s : State) (ran : Ran) → IsNoEpochFrom s ran → (why : RoundEnd) × IsJudged s (ran ∷ []) [] s why × (why ≢ used_up)
+pub judged_last : (s : State) (ran : Ran) → IsNoEpochFrom s ran → (why : RoundEnd) × IsRoundJudged s (ran ∷ []) [] s why × (why ≢ used_up)
 judged_last s (Epoch r) differs = (squashed, (differs, (refl, refl)), λ e. absurd cc)
 judged_last s (Idle t) (inl same) = (over, (refl, inl (same, refl)), λ e. absurd cc)
 judged_last s (Idle t) (inr differs) = (squashed, (refl, inr (differs, refl)), λ e. absurd cc)
@@ -215,7 +215,7 @@ module _ (supplied : Bool) (w : Supplied) (began : State) (round_runs : List Epo
   }
 
 -- a round begins
-pub fresh_round : (supplied : Bool) (w : Supplied) (s : State) (jobs : ℕ) → RoundInv supplied w s [] (fresh s jobs) []
+pub fresh_round : (supplied : Bool) (w : Supplied) (s : State) (jobs : ℕ) → RoundInv supplied w s [] (new_core s jobs) []
 fresh_round supplied w s jobs = record {
   committed = refl;
   counted = refl;

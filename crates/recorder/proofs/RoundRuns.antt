@@ -4,8 +4,8 @@ use Rattle.std.proofs.lemmas.List.{append-nil, length-append, length-map, map_pu
 use Rattle.std.specs.List.{AllByRecursion, list_any}
 use Rattle.commit_core.specs.declared.stage.Stage.{Stage}
 use Rattle.commit_core.specs.declared.stage.Stage.TheVariants.{Judged, Taken}
-use Rattle.commit_core.specs.JudgedRound.{IsJudged, IsWithin, RoundEnd, used_up}
-use Rattle.commit_core.specs.Judging.{Core, fresh}
+use Rattle.commit_core.specs.JudgedRound.{IsRoundJudged, IsWithin, RoundEnd, used_up}
+use Rattle.commit_core.specs.Judging.{Core, new_core}
 use Rattle.disk_model.specs.History.{History}
 use Rattle.disk_model.specs.Input.{IfInput, Input}
 use Rattle.disk_model.specs.Known.{IfKnown}
@@ -33,12 +33,12 @@ use Rattle.recorder.specs.declared.commit.CommitFault.TheVariants as commits
 use Rattle.recorder.specs.declared.record_fault.RecordFault.{RecordFault}
 use Rattle.recorder.specs.declared.record_fault.RecordFault.TheVariants as faults
 use Rattle.recorder.specs.declared.tally.Tally.{Tally}
-use Rattle.recorder.specs.Drawing.{Draw, Drew, HasDrawn, Round, answers_in, draws_of, epochs_of, supply_behind, supply_of}
+use Rattle.recorder.specs.Drawing.{Draw, Drew, HasDrawn, Round, answers_in, draws_of, epochs_of_rounds, supply_behind, supply_of}
 use Rattle.recorder.specs.EpochLaws.{EpochLaws}
 use Rattle.recorder.specs.Faults.{MetNoOther, of_commit}
 use Rattle.recorder.specs.Keeping.{InRound, IsOver, IsSince, IsStopped, Kept, Setting, SoFar, Within}
 use Rattle.recorder.specs.Machine.{epochs_of_runs}
-use Rattle.recorder.specs.Racing.{AreResults, IsRaced, bounds_for}
+use Rattle.recorder.specs.Racing.{AreResults, IsRaced, job_bounds}
 use Rattle.recorder.specs.Marking.{IsMarkDue, is_due, mark_of, records_of, records_unmarked}
 use Rattle.checkpoint.specs.State.{IsEncodable, checkpoint_of}
 use Rattle.partial_mark.specs.Base.{partial_of}
@@ -117,7 +117,7 @@ pub begins : (a : Setting) (there later : Option Input) (now : Option History) (
 begins a there later now racer after state w with_ j tally count so_far laws round going left can results whole raced core judged at_start =
     let here = subst (λ (n : ℕ). RacedWith racer a.options n state with_ results after (IsAll (whole ≡ true) results)) so_far.kept.first_is raced in
     let run_ = run_so_far a there now racer state w j tally count so_far in
-    let kept = kept_drawn a there now (records_of a.options a.start (epochs_of so_far.rounds)) (epochs_of so_far.rounds) (draws_of so_far.rounds) so_far.output state w j tally so_far.kept laws later with_ round in
+    let kept = kept_drawn a there now (records_of a.options a.start (epochs_of_rounds so_far.rounds)) (epochs_of_rounds so_far.rounds) (draws_of so_far.rounds) so_far.output state w j tally so_far.kept laws later with_ round in
     record {
       run = run_;
       from_is = refl;
@@ -135,10 +135,10 @@ begins a there later now racer after state w with_ j tally count so_far laws rou
       runs = [];
       judged = judged;
       output = so_far.output;
-      since_is = subst (λ (l : List journals.Epoch). IsSince true a l core.committed tally.since tally.base) (sym (append-nil (epochs_of so_far.rounds))) so_far.since_is;
-      kept = subst (λ (l : List journals.Epoch). Kept a later now (records_of a.options a.start l) l (draws_of so_far.rounds ++ round.draw ∷ []) so_far.output core.committed with_ j tally) (sym (append-nil (epochs_of so_far.rounds)))
-          (subst (λ (s : State). Kept a later now (records_of a.options a.start (epochs_of so_far.rounds)) (epochs_of so_far.rounds) (draws_of so_far.rounds ++ round.draw ∷ []) so_far.output s with_ j tally) (sym at_start) kept);
-      last = last_drawn a there now (records_of a.options a.start (epochs_of so_far.rounds)) (epochs_of so_far.rounds) (draws_of so_far.rounds) so_far.output state w j tally so_far.kept laws later with_ round;
+      since_is = subst (λ (l : List journals.Epoch). IsSince true a l core.committed tally.since tally.base) (sym (append-nil (epochs_of_rounds so_far.rounds))) so_far.since_is;
+      kept = subst (λ (l : List journals.Epoch). Kept a later now (records_of a.options a.start l) l (draws_of so_far.rounds ++ round.draw ∷ []) so_far.output core.committed with_ j tally) (sym (append-nil (epochs_of_rounds so_far.rounds)))
+          (subst (λ (s : State). Kept a later now (records_of a.options a.start (epochs_of_rounds so_far.rounds)) (epochs_of_rounds so_far.rounds) (draws_of so_far.rounds ++ round.draw ∷ []) so_far.output s with_ j tally) (sym at_start) kept);
+      last = last_drawn a there now (records_of a.options a.start (epochs_of_rounds so_far.rounds)) (epochs_of_rounds so_far.rounds) (draws_of so_far.rounds) so_far.output state w j tally so_far.kept laws later with_ round;
       longer = omega (arith, ap (λ (s : State). s.steps) at_start);
     }
 
@@ -148,7 +148,7 @@ module _ (laws : StepLaws) (a : Setting) (there later : Option Input) (now : Opt
   drawn_by = round_of w state there later with_ drew (laws.used_up state w so_far.kept.is_supply so_far.kept.placed so_far.kept.inside) is_supply
 
   pub begins_by : TakeLaws → Starts → has_ended state.end ≡ false → state.steps < a.options.limit → (after : Tells) (results : List Ran) (whole : Bool)
-      → RacedWith racer a.options tally.first state with_ results after (IsAll (whole ≡ true) results) → (core : Core) → core ≡ fresh state MAX_JOBS
+      → RacedWith racer a.options tally.first state with_ results after (IsAll (whole ≡ true) results) → (core : Core) → core ≡ new_core state MAX_JOBS
       → Within true (record { setting = a; later = later; racer = after; supply = with_; from = state; squashes = count; results = results; whole = whole }) now core j tally
   begins_by takes starts going left after results whole raced core core_is =
       let kept = so_far.kept in
@@ -197,7 +197,7 @@ module _ (a : InRound) (now : Option History) (core : Core) (j : Journal) (tally
 
   -- ---- it is over
 
-  module _ (there : Core) (stop : RoundEnd) (judged : IsJudged within.run.end within.results within.runs there.committed stop) (all : IsAll (stop ≡ used_up) within.results within.raced.offers) where
+  module _ (there : Core) (stop : RoundEnd) (judged : IsRoundJudged within.run.end within.results within.runs there.committed stop) (all : IsAll (stop ≡ used_up) within.results within.raced.offers) where
     stays : core.committed ≡ there.committed
     stays = same_end within.run.end core.committed there.committed within.runs within.judged.linked (judged_links within.run.end there.committed within.results within.runs stop judged)
 
@@ -224,13 +224,13 @@ module _ (a : InRound) (now : Option History) (core : Core) (j : Journal) (tally
       squashed_is = refl;
     }
 
-    rounds_are : epochs_of (within.run.rounds ++ round_is ∷ []) ≡ E
+    rounds_are : epochs_of_rounds (within.run.rounds ++ round_is ∷ []) ≡ E
     rounds_are = epochs-push within.run.rounds round_is
 
-    kept_there : Kept a.setting a.later now (records_of a.setting.options a.setting.start (epochs_of (within.run.rounds ++ round_is ∷ []))) (epochs_of (within.run.rounds ++ round_is ∷ [])) (draws_of (within.run.rounds ++ round_is ∷ [])) within.output there.committed a.supply j tally
+    kept_there : Kept a.setting a.later now (records_of a.setting.options a.setting.start (epochs_of_rounds (within.run.rounds ++ round_is ∷ []))) (epochs_of_rounds (within.run.rounds ++ round_is ∷ [])) (draws_of (within.run.rounds ++ round_is ∷ [])) within.output there.committed a.supply j tally
     kept_there =
-        subst (λ (s : State). Kept a.setting a.later now (records_of a.setting.options a.setting.start (epochs_of (within.run.rounds ++ round_is ∷ []))) (epochs_of (within.run.rounds ++ round_is ∷ [])) (draws_of (within.run.rounds ++ round_is ∷ [])) within.output s a.supply j tally) stays
-        (subst (λ (l : List Draw). Kept a.setting a.later now (records_of a.setting.options a.setting.start (epochs_of (within.run.rounds ++ round_is ∷ []))) (epochs_of (within.run.rounds ++ round_is ∷ [])) l within.output core.committed a.supply j tally) (sym (draws-push within.run.rounds round_is))
+        subst (λ (s : State). Kept a.setting a.later now (records_of a.setting.options a.setting.start (epochs_of_rounds (within.run.rounds ++ round_is ∷ []))) (epochs_of_rounds (within.run.rounds ++ round_is ∷ [])) (draws_of (within.run.rounds ++ round_is ∷ [])) within.output s a.supply j tally) stays
+        (subst (λ (l : List Draw). Kept a.setting a.later now (records_of a.setting.options a.setting.start (epochs_of_rounds (within.run.rounds ++ round_is ∷ []))) (epochs_of_rounds (within.run.rounds ++ round_is ∷ [])) l within.output core.committed a.supply j tally) (sym (draws-push within.run.rounds round_is))
         (subst (λ (l : List journals.Epoch). Kept a.setting a.later now (records_of a.setting.options a.setting.start l) l D within.output core.committed a.supply j tally) (sym rounds_are) within.kept))
 
     pub is_over : IsOver a (a.squashes + (if is_squash stop then 1 else 0)) now there j tally
@@ -256,7 +256,7 @@ module _ (a : InRound) (now : Option History) (core : Core) (j : Journal) (tally
     starts : r.start ≡ core.committed
     starts = starts_there within.run.end there.committed core.committed within.runs r next.linked within.judged.linked
 
-    abbrev job : (f : ℕ) × (hints : Hints) × HasRunEpoch core.committed hints a.supply (bounds_for a.setting.options f core.committed) r
+    abbrev job : (f : ℕ) × (hints : Hints) × HasRunEpoch core.committed hints a.supply (job_bounds a.setting.options f core.committed) r
     job = next_run a.setting.options (first_next within.run) within.run.end within.raced.offers a.supply within.runs r next.rest core.committed
         (subst (λ (l : List Ran). AreResults a.setting.options (first_next within.run) within.run.end within.raced.offers a.supply l) (within.judged.all ∙ ap (λ (l : List Ran). map Epoch within.runs ++ l) rest_is) (raced_here true a now core j tally within).are_results) starts
 
@@ -264,7 +264,7 @@ module _ (a : InRound) (now : Option History) (core : Core) (j : Journal) (tally
     e = epoch_of r.epoch
 
     pub few_written : length r.out < EPOCH_END_BYTES + MAX_CALL_BYTES
-    few_written = laws.writes core.committed job.1 a.supply (bounds_for a.setting.options job.0 core.committed) e r.out r.end job.2.scheduled
+    few_written = laws.writes core.committed job.1 a.supply (job_bounds a.setting.options job.0 core.committed) e r.out r.end job.2.scheduled
 
     pub low_here : AllByRecursion (λ (x : Slice). x.tid.0 < 65535) e.slices
     low_here = low a.setting a.later now E D within.output core.committed a.supply j tally within.kept laws within.last job.0 job.1 r job.2

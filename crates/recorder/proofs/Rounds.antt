@@ -1,7 +1,7 @@
 -- What a streamed round comes to: its results were taken in order, by a committer that stood where the round begins.
 use Rattle.std.proofs.Common.{◌≡◌, ◌⊎◌, inl, inr, ℕ, suc, ◌+◌, ◌-◌, ◌<◌, ◌≤◌, Bool, true, false, List, [], ◌∷◌, ◌++◌, length, slice_get, take, Option, Some, None, Result, Ok, Err, refl, sym, ap, subst, ◌∙◌, append_assoc, arith}
 use Rattle.std.proofs.lemmas.List.{append-nil, length-append}
-use Rattle.commit_core.specs.Judging.{Core, fresh}
+use Rattle.commit_core.specs.Judging.{Core, new_core}
 use Rattle.disk_model.specs.Counts.{Rose}
 use Rattle.disk_model.specs.Input.{IfInput, Input}
 use Rattle.dp_base.specs.declared.limits.TheConstants.{MAX_JOBS}
@@ -24,8 +24,8 @@ use Rattle.racing_runner.specs.Offers.{IfTold, Tells}
 use Rattle.recorder.specs.declared.options.Options.{Options}
 use Rattle.recorder.specs.declared.record_fault.RecordFault.{RecordFault}
 use Rattle.recorder.specs.declared.record_fault.RecordFault.TheVariants as faults
-use Rattle.recorder.specs.declared.tally.Next.{Next}
-use Rattle.recorder.specs.declared.tally.Next.TheVariants.{Committed, Over, Squashed}
+use Rattle.recorder.specs.declared.tally.AfterJudging.{AfterJudging}
+use Rattle.recorder.specs.declared.tally.AfterJudging.TheVariants.{Committed, Over, Squashed}
 use Rattle.recorder.specs.Faults.{MetNoOther}
 use Rattle.recorder.specs.Keeping.{HasStopped, InRound, Setting, SoFar, StepSays, Within}
 use Rattle.recorder.specs.Racing.{AreResults, IsRaced, plan_of}
@@ -36,7 +36,7 @@ use Rattle.recorder.proofs.RoundRuns.{IsAll, RacedWith, Starts, StepLaws, begins
 use Rattle.recorder.proofs.Takings.{all_over}
 use Rattle.supply.specs.Supplied.{IsSupply, Supplied}
 
-yes_is_committed : (last : Result Next RecordFault) → Yes ≡ more_after last → last ≡ Ok Committed
+yes_is_committed : (last : Result AfterJudging RecordFault) → Yes ≡ more_after last → last ≡ Ok Committed
 yes_is_committed (Ok Committed) is = refl
 yes_is_committed (Ok Squashed) is = absurd cc
 yes_is_committed (Ok Over) is = absurd cc
@@ -48,7 +48,7 @@ item_at (y ∷ front) x later = item_at front x later
 
 -- ---- takes one after another
 
-module _ {T : Type 0} (hold : T → Holding) (last_of : T → Result Next RecordFault) where
+module _ {T : Type 0} (hold : T → Holding) (last_of : T → Result AfterJudging RecordFault) where
   abbrev pub Takes : T → Ran → More → T → Type 0
   Takes t ran more u = HasTaken (hold t) ran more (hold u) (last_of u)
 
@@ -72,7 +72,7 @@ module _ {T : Type 0} (hold : T → Holding) (last_of : T → Result Next Record
   one_still : (t m : T) (ran : Ran) → Takes t ran Yes m → IsStill t m
   one_still t m ran took =
       let last = yes_is_committed (last_of m) took.more_is in
-      let met = subst (λ (l : Result Next RecordFault). MetNoOther l (hold t).disk (hold m).disk (hold t).sink (hold m).sink 0 0) last (took.others 0) in
+      let met = subst (λ (l : Result AfterJudging RecordFault). MetNoOther l (hold t).disk (hold m).disk (hold t).sink (hold m).sink 0 0) last (took.others 0) in
       record { disk = met.0; sink = met.1; every = took.every; last = last; judged = (took.count last).1 }
 
   then_still : (t m u : T) → IsStill t m → IsStill m u → IsStill t u
@@ -87,7 +87,7 @@ module _ {T : Type 0} (hold : T → Holding) (last_of : T → Result Next Record
 
   pub went_leaves : (t u : T) → IsStill t u → Leaves t u
   went_leaves t u still = record {
-    others = λ input. subst (λ (l : Result Next RecordFault). MetNoOther l (hold t).disk (hold u).disk (hold t).sink (hold u).sink input input) (sym still.last) (still.disk, still.sink, refl);
+    others = λ input. subst (λ (l : Result AfterJudging RecordFault). MetNoOther l (hold t).disk (hold u).disk (hold t).sink (hold u).sink input input) (sym still.last) (still.disk, still.sink, refl);
     no_input = λ is. (let bad = sym still.last ∙ is in absurd cc);
     disk_cause = λ is. (let bad = sym still.last ∙ is in absurd cc);
     sink_cause = λ is. (let bad = sym still.last ∙ is in absurd cc);
@@ -131,7 +131,7 @@ module _ {T : Type 0} (hold : T → Holding) (last_of : T → Result Next Record
         let m = went.0 in
         let first = one_still t m r went.1 in
         let says = one_says t m r Yes front (rs ++ later) went.1 stands every count all in
-        let there : Stands m = subst (λ (l : Result Next RecordFault). StepSays a (hold m).history (hold m).core (hold m).journal (hold m).tally l) first.last says in
+        let there : Stands m = subst (λ (l : Result AfterJudging RecordFault). StepSays a (hold m).history (hold m).core (hold m).journal (hold m).tally l) first.last says in
         let here : IsStill m m = record { disk = refl; sink = refl; every = refl; last = first.last; judged = first.judged } in
         let more : length (hold m).core.jobs ≡ length (front ++ r ∷ []) = (let n = (went.1.count first.last).0 in let l = length-append front (r ∷ []) in omega (arith, n, count, l)) in
         let rest = went_on m u (front ++ r ∷ []) rs later here there (every ∙ sym first.every) more (all ∙ sym (append_assoc front (r ∷ []) (rs ++ later))) went.2 in
@@ -170,7 +170,7 @@ module _ {Q T : Type 0} (tells : Q → Tells) (takes : T → Ran → More → T 
 
 -- ---- how it ended
 
-module _ {T : Type 0} (hold : T → Holding) (last_of : T → Result Next RecordFault) (setting : Setting) (later : Option Input) (after : Tells) (w : Supplied) (s : State) (squashes : ℕ) (offers : List Offer) (jobs : List (ℕ × Job)) (results : List Ran) (t u : T) where
+module _ {T : Type 0} (hold : T → Holding) (last_of : T → Result AfterJudging RecordFault) (setting : Setting) (later : Option Input) (after : Tells) (w : Supplied) (s : State) (squashes : ℕ) (offers : List Offer) (jobs : List (ℕ × Job)) (results : List Ran) (t u : T) where
   -- the recording goes on, or it stops
   abbrev pub Came : Result ℕ RecordFault → Type 0
   Came (Ok n) = SoFar setting later (hold u).history after (hold u).core.committed w (hold u).journal (hold u).tally (squashes + n) × (s.steps < (hold u).core.committed.steps)
@@ -181,7 +181,7 @@ module _ {T : Type 0} (hold : T → Holding) (last_of : T → Result Next Record
 
   module _ (begins : (whole : Bool) → (whole ≡ true → IsWhole offers jobs results) → Stands hold last_of (in_round whole) t) (still : IsStill hold last_of t t) (every : setting.options.mark ≡ (hold t).every) (none : length (hold t).core.jobs ≡ 0) where
     -- the committer had enough
-    by_last : (whole : Bool) (answer : Result (Unit {0}) OutOfMemory) (last : Result Next RecordFault) → Enough ≡ more_after last → StepSays (in_round whole) (hold u).history (hold u).core (hold u).journal (hold u).tally last → Came (outcome last answer)
+    by_last : (whole : Bool) (answer : Result (Unit {0}) OutOfMemory) (last : Result AfterJudging RecordFault) → Enough ≡ more_after last → StepSays (in_round whole) (hold u).history (hold u).core (hold u).journal (hold u).tally last → Came (outcome last answer)
     by_last whole answer (Ok Committed) enough says = absurd cc
     by_last whole answer (Ok Squashed) enough says = says
     by_last whole answer (Ok Over) enough says =
@@ -210,16 +210,16 @@ module _ {T : Type 0} (hold : T → Holding) (last_of : T → Result Next Record
     ended_so (Ok done) (inl p) =
         let there = taken true (λ yes. p.1) p.0 in
         let over = all_over (in_round true) (hold u).history (hold u).core (hold u).journal (hold u).tally there.0 (all_judged true (λ yes. p.1) p.0) refl (let n = there.1 in omega (arith, n)) in
-        subst (λ (l : Result Next RecordFault). Came (outcome l (Ok tt))) (sym (last_is true (λ yes. p.1) p.0))
+        subst (λ (l : Result AfterJudging RecordFault). Came (outcome l (Ok tt))) (sym (last_is true (λ yes. p.1) p.0))
         (subst (λ (n : ℕ). SoFar setting later (hold u).history after (hold u).core.committed w (hold u).journal (hold u).tally n × (s.steps < (hold u).core.committed.steps)) (omega arith) over)
     ended_so (Ok done) (inr had) = when_enough (Ok done) had
     ended_so (Err error) (inl went) =
         let there = taken false bad_whole went in
-        subst (λ (l : Result Next RecordFault). Came (outcome l (Err error))) (sym (last_is false bad_whole went))
+        subst (λ (l : Result AfterJudging RecordFault). Came (outcome l (Err error))) (sym (last_is false bad_whole went))
         (no_memory (in_round false) (hold u).history (hold u).core (hold u).journal (hold u).tally there.0)
     ended_so (Err error) (inr had) = when_enough (Err error) had
 
-module _ {T : Type 0} (hold : T → Holding) (last_of : T → Result Next RecordFault) (offers : List Offer) (jobs : List (ℕ × Job)) (results : List Ran) (t u : T) (still : IsStill hold last_of t t) where
+module _ {T : Type 0} (hold : T → Holding) (last_of : T → Result AfterJudging RecordFault) (offers : List Offer) (jobs : List (ℕ × Job)) (results : List Ran) (t u : T) (still : IsStill hold last_of t t) where
   pub ended_leaves : (answer : Result (Unit {0}) OutOfMemory) → HasEnded (Takes hold last_of) offers jobs results t u answer → Leaves hold last_of t u
   ended_leaves (Ok done) (inl p) = went_leaves hold last_of t u (went_still hold last_of t u results still p.0)
   ended_leaves (Ok done) (inr had) = enough_leaves hold last_of t u results still had
@@ -227,7 +227,7 @@ module _ {T : Type 0} (hold : T → Holding) (last_of : T → Result Next Record
   ended_leaves (Err error) (inr had) = enough_leaves hold last_of t u results still had
 
 -- by the round's outcome
-pub few_squashed : (last : Result Next RecordFault) (answer : Result (Unit {0}) OutOfMemory) (n : ℕ) → outcome last answer ≡ Ok n → n ≤ 1
+pub few_squashed : (last : Result AfterJudging RecordFault) (answer : Result (Unit {0}) OutOfMemory) (n : ℕ) → outcome last answer ≡ Ok n → n ≤ 1
 few_squashed (Ok Committed) (Ok done) n is = let e : 0 ≡ n = cc in omega (arith, e)
 few_squashed (Ok Committed) (Err error) n is = absurd cc
 few_squashed (Ok Squashed) answer n is = let e : 1 ≡ n = cc in omega (arith, e)
@@ -235,11 +235,11 @@ few_squashed (Ok Over) answer n is = let e : 0 ≡ n = cc in omega (arith, e)
 few_squashed (Err fault) answer n is = absurd cc
 
 module _ (B : Type 0) (disk disk_after sink sink_after input input_after : ℕ) (same : input_after ≡ input) where
-  pub met_ok : (last : Result Next RecordFault) (answer : Result (Unit {0}) OutOfMemory) (n : ℕ) → outcome last answer ≡ Ok n → MetNoOther last disk disk_after sink sink_after 0 0 → (disk_after ≡ disk) × (sink_after ≡ sink) × (input_after ≡ input)
+  pub met_ok : (last : Result AfterJudging RecordFault) (answer : Result (Unit {0}) OutOfMemory) (n : ℕ) → outcome last answer ≡ Ok n → MetNoOther last disk disk_after sink sink_after 0 0 → (disk_after ≡ disk) × (sink_after ≡ sink) × (input_after ≡ input)
   met_ok (Ok next) answer n is met = (met.0, met.1, same)
   met_ok (Err fault) answer n is met = absurd cc
 
-  pub met_err : (last : Result Next RecordFault) (answer : Result (Unit {0}) OutOfMemory) (fault : RecordFault) → outcome last answer ≡ Err fault → MetNoOther last disk disk_after sink sink_after 0 0
+  pub met_err : (last : Result AfterJudging RecordFault) (answer : Result (Unit {0}) OutOfMemory) (fault : RecordFault) → outcome last answer ≡ Err fault → MetNoOther last disk disk_after sink sink_after 0 0
       → MetNoOther {A = B} (Err fault) disk disk_after sink sink_after input input_after
   met_err (Ok Committed) (Ok done) fault is met = absurd cc
   met_err (Ok Committed) (Err error) fault is met = let e : faults.OutOfMemory ≡ fault = cc in subst (λ (f : RecordFault). MetNoOther {A = B} (Err f) disk disk_after sink sink_after input input_after) e (met.0, met.1, same)
@@ -247,10 +247,10 @@ module _ (B : Type 0) (disk disk_after sink sink_after input input_after : ℕ) 
   met_err (Ok Over) answer fault is met = absurd cc
   met_err (Err f) answer fault is met =
       let e : f ≡ fault = cc in
-      subst (λ (f : RecordFault). MetNoOther {A = B} (Err f) disk disk_after sink sink_after input input_after) e (met_same Next B f disk disk disk_after sink sink sink_after 0 input input_after refl refl same met)
+      subst (λ (f : RecordFault). MetNoOther {A = B} (Err f) disk disk_after sink sink_after input input_after) e (met_same AfterJudging B f disk disk disk_after sink sink sink_after 0 input input_after refl refl same met)
 
 -- a fault that isn't want of memory is that of the last result
-pub fault_of_last : (last : Result Next RecordFault) (answer : Result (Unit {0}) OutOfMemory) (fault : RecordFault) → outcome last answer ≡ Err fault → (fault ≡ faults.OutOfMemory) ⊎ (last ≡ Err fault)
+pub fault_of_last : (last : Result AfterJudging RecordFault) (answer : Result (Unit {0}) OutOfMemory) (fault : RecordFault) → outcome last answer ≡ Err fault → (fault ≡ faults.OutOfMemory) ⊎ (last ≡ Err fault)
 fault_of_last (Ok Committed) (Ok done) fault is = absurd cc
 fault_of_last (Ok Committed) (Err error) fault is = inl (let e : faults.OutOfMemory ≡ fault = cc in sym e)
 fault_of_last (Ok Squashed) answer fault is = absurd cc
@@ -259,8 +259,8 @@ fault_of_last (Err f) answer fault is = let e : f ≡ fault = cc in inr (ap (λ 
 
 -- ---- a whole round
 
-module _ {Q T : Type 0} (tells : Q → Tells) (hold : T → Holding) (last_of : T → Result Next RecordFault) (steps : StepLaws) (takes : TakeLaws) (starts : Starts) (a : Setting) (there later : Option Input) (racer racer_after : Q) (state : State) (w with_ : Supplied) (count : ℕ) (plan : Plan)
-    (answer : Result (Unit {0}) OutOfMemory) (t u : T) (streamed : Streamed tells (Takes hold last_of) with_ plan state racer racer_after t u answer) (last_is : last_of t ≡ Ok Committed) (core_is : (hold t).core ≡ fresh state MAX_JOBS) where
+module _ {Q T : Type 0} (tells : Q → Tells) (hold : T → Holding) (last_of : T → Result AfterJudging RecordFault) (steps : StepLaws) (takes : TakeLaws) (starts : Starts) (a : Setting) (there later : Option Input) (racer racer_after : Q) (state : State) (w with_ : Supplied) (count : ℕ) (plan : Plan)
+    (answer : Result (Unit {0}) OutOfMemory) (t u : T) (streamed : Streamed tells (Takes hold last_of) with_ plan state racer racer_after t u answer) (last_is : last_of t ≡ Ok Committed) (core_is : (hold t).core ≡ new_core state MAX_JOBS) where
   still_there : IsStill hold last_of t t
   still_there = record {
     disk = refl;

@@ -11,7 +11,7 @@ use Rattle.epoch_runner.specs.Answering.{input_due}
 use Rattle.epoch_runner.specs.declared.epoch_run.EpochRun.{EpochRun}
 use Rattle.supply.specs.Supplied.{Supplied}
 use Rattle.racing_runner.specs.Offers.{Tells}
-use Rattle.recorder.specs.Drawing.{Draw, Round, answers_in, draws_of, epochs_of, squashes_of, supply_behind, supply_of}
+use Rattle.recorder.specs.Drawing.{Draw, Round, answers_in, draws_of, epochs_of_rounds, squashes_of, supply_behind, supply_of}
 use Rattle.recorder.specs.Keeping.{AreAnswers}
 use Rattle.guest_kernel.specs.declared.state.State.{State}
 use Rattle.guest_kernel.specs.Slices.{chain}
@@ -25,13 +25,13 @@ no_epochs start = refl
 
 -- ---- one more round
 
-pub epochs-push : (rounds : List Round) (r : Round) → epochs_of (rounds ++ r ∷ []) ≡ epochs_of rounds ++ r.epochs
+pub epochs-push : (rounds : List Round) (r : Round) → epochs_of_rounds (rounds ++ r ∷ []) ≡ epochs_of_rounds rounds ++ r.epochs
 epochs-push [] r = append-nil r.epochs
-epochs-push (x ∷ rounds) r = ap (λ (l : List Epoch). x.epochs ++ l) (epochs-push rounds r) ∙ sym (append_assoc x.epochs (epochs_of rounds) r.epochs)
+epochs-push (x ∷ rounds) r = ap (λ (l : List Epoch). x.epochs ++ l) (epochs-push rounds r) ∙ sym (append_assoc x.epochs (epochs_of_rounds rounds) r.epochs)
 
-pub epochs-append : (xs ys : List Round) → epochs_of (xs ++ ys) ≡ epochs_of xs ++ epochs_of ys
+pub epochs-append : (xs ys : List Round) → epochs_of_rounds (xs ++ ys) ≡ epochs_of_rounds xs ++ epochs_of_rounds ys
 epochs-append [] ys = refl
-epochs-append (x ∷ xs) ys = ap (λ (l : List Epoch). x.epochs ++ l) (epochs-append xs ys) ∙ sym (append_assoc x.epochs (epochs_of xs) (epochs_of ys))
+epochs-append (x ∷ xs) ys = ap (λ (l : List Epoch). x.epochs ++ l) (epochs-append xs ys) ∙ sym (append_assoc x.epochs (epochs_of_rounds xs) (epochs_of_rounds ys))
 
 pub draws-push : (rounds : List Round) (r : Round) → draws_of (rounds ++ r ∷ []) ≡ draws_of rounds ++ r.draw ∷ []
 draws-push rounds r = map_push (λ (x : Round). x.draw) rounds r
@@ -54,7 +54,7 @@ first-append first (x ∷ xs) ys = first-append (first_behind first x.slices) xs
 module _ (options : Options) where
   pub each-push : (tells mid after : Tells) (first : ℕ) (s t u : State) (w : Supplied) (rounds : List Round) (r : Round) → EachIsRound tells options first s w rounds t mid → GoesOn options t
       → r.draw.due ≡ input_due t (supply_behind w (draws_of rounds))
-      → IsRound mid options (first_after first (epochs_of rounds)) t (supply_of (supply_behind w (draws_of rounds)) r.draw) r u after → EachIsRound tells options first s w (rounds ++ r ∷ []) u after
+      → IsRound mid options (first_after first (epochs_of_rounds rounds)) t (supply_of (supply_behind w (draws_of rounds)) r.draw) r u after → EachIsRound tells options first s w (rounds ++ r ∷ []) u after
   each-push tells mid after first s t u w [] r each goes_on due is =
       subst (λ (x : State). EachIsRound tells options first x w (r ∷ []) u after) each.0
       (subst (λ (x : Tells). EachIsRound x options first t w (r ∷ []) u after) each.1 (goes_on, due, u, after, is, (refl, refl)))
@@ -65,7 +65,7 @@ module _ (options : Options) where
     each.3,
     each.4,
     each-push each.3 mid after (first_after first x.epochs) each.2 t u (supply_of w x.draw) rounds r each.5 goes_on due
-        (subst (λ (n : ℕ). IsRound mid options n t (supply_of (supply_behind (supply_of w x.draw) (draws_of rounds)) r.draw) r u after) (first-append first x.epochs (epochs_of rounds)) is),
+        (subst (λ (n : ℕ). IsRound mid options n t (supply_of (supply_behind (supply_of w x.draw) (draws_of rounds)) r.draw) r u after) (first-append first x.epochs (epochs_of_rounds rounds)) is),
   )
 
   squash_is_one : (b : Bool) → (if b then 1 else 0) ≤ 1
@@ -73,12 +73,12 @@ module _ (options : Options) where
   squash_is_one false = omega arith
 
   -- each round has an epoch, so no more results were squashed than epochs committed
-  pub few_squashes : (tells after : Tells) (first : ℕ) (s t : State) (w : Supplied) (rounds : List Round) → EachIsRound tells options first s w rounds t after → squashes_of rounds ≤ length (epochs_of rounds)
+  pub few_squashes : (tells after : Tells) (first : ℕ) (s t : State) (w : Supplied) (rounds : List Round) → EachIsRound tells options first s w rounds t after → squashes_of rounds ≤ length (epochs_of_rounds rounds)
   few_squashes tells after first s t w [] each = omega arith
   few_squashes tells after first s t w (r ∷ rounds) each =
       let rest = few_squashes each.3 after (first_after first r.epochs) each.2 t (supply_of w r.draw) rounds each.5 in
       let some : length r.epochs ≡ length each.4.runs = ap (λ (l : List Epoch). length l) each.4.epochs_are ∙ length-map each.4.runs (λ (x : EpochRun). epoch_of x.epoch) in
-      omega (arith, rest, some, each.4.some, squash_is_one r.squashed, length-append r.epochs (epochs_of rounds))
+      omega (arith, rest, some, each.4.some, squash_is_one r.squashed, length-append r.epochs (epochs_of_rounds rounds))
 
 pub supply-push : (w : Supplied) (draws : List Draw) (d : Draw) → supply_behind w (draws ++ d ∷ []) ≡ supply_of (supply_behind w draws) d
 supply-push w [] d = refl

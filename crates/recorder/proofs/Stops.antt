@@ -20,7 +20,7 @@ use Rattle.racing_runner.specs.Offers.{Tells}
 use Rattle.recorder.specs.declared.record_fault.RecordFault.{RecordFault}
 use Rattle.recorder.specs.declared.record_fault.RecordFault.TheVariants as faults
 use Rattle.recorder.specs.declared.tally.Tally.{Tally}
-use Rattle.recorder.specs.Drawing.{HasDrawn, answers_in, draws_of, epochs_of}
+use Rattle.recorder.specs.Drawing.{HasDrawn, answers_in, draws_of, epochs_of_rounds}
 use Rattle.recorder.specs.Keeping.{Setting, SoFar}
 use Rattle.recorder.specs.Moments.{EachMoment, HoldsAt}
 use Rattle.recorder.specs.Recording.{HasDrawnOn, HasRoom, IsRecorded, Recorded, Run, reported}
@@ -33,7 +33,7 @@ use Rattle.supply.specs.Supplied.{Supplied}
 
 module _ (a : Setting) (there : Option Input) (now : Option History) (racer : Tells) (state : State) (w : Supplied) (j : Journal) (tally : Tally) (squashes : ℕ) (so_far : SoFar a there now racer state w j tally squashes) where
   abbrev E : List Epoch
-  E = epochs_of so_far.rounds
+  E = epochs_of_rounds so_far.rounds
 
   abbrev K : List Record
   K = records_of a.options a.start E

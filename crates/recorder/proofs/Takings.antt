@@ -35,7 +35,7 @@ use Rattle.epoch_runner.specs.declared.epoch_run.Ran.TheVariants.{Epoch, Idle}
 use Rattle.disk_model.specs.History.{History}
 use Rattle.recorder.specs.declared.tally.Tally.{Tally}
 use Rattle.recorder.specs.declared.due_mark.DueMark.{DueMark}
-use Rattle.recorder.specs.Keeping.{InRound, IsDueMark, IsOver, IsReady, Within, next_base}
+use Rattle.recorder.specs.Keeping.{InRound, IsDueMark, IsOver, CanCommit, Within, next_base}
 use Rattle.recorder.proofs.JobRuns.{judged_all}
 use Rattle.recorder.proofs.RoundRuns.{is_over}
 use Rattle.recorder.proofs.Takes.{last_at}
@@ -129,7 +129,7 @@ pub record IsCommitOf (core told : Core) (ran : Ran) (epoch : records.Epoch) (ou
   pub start_is : run.start ≡ core.committed
   pub there_is : there ≡ with_epoch told run
 
-module _ (core told : Core) (j : Journal) (ran : Ran) (ready : IsReady core j) (told_is : told ≡ record core { jobs = core.jobs ++ Taken ran ∷ [] }) where
+module _ (core told : Core) (j : Journal) (ran : Ran) (ready : CanCommit core j) (told_is : told ≡ record core { jobs = core.jobs ++ Taken ran ∷ [] }) where
   next_stage : slice_get told.jobs told.judged ≡ Some (Taken ran)
   next_stage =
       ap (λ (c : Core). slice_get c.jobs c.judged) told_is ∙ ap (slice_get (core.jobs ++ Taken ran ∷ [])) ready.judged ∙ last_at core.jobs (Taken ran)
@@ -195,7 +195,7 @@ module _ (core told : Core) (j : Journal) (ran : Ran) (ready : IsReady core j) (
       encodable_there =
           encodable_of laws commit.run (subst IsEncodable (sym commit.start_is) ready.encodable) (let early = early_there in omega (arith, early)) (let little = little_there in omega (arith, little))
 
-      pub ready_there : (j' : Journal) → j'.failed ≡ false → IsReady there j'
+      pub ready_there : (j' : Journal) → j'.failed ≡ false → CanCommit there j'
       ready_there j' works =
           let committed : there.committed ≡ commit.run.end = ap (λ (c : Core). c.committed) commit.there_is in
           let more = one_more in
@@ -282,7 +282,7 @@ module _ (a : InRound) (now : Option History) (core : Core) (j : Journal) (tally
   all_over whole all =
       let none : within.coming ≡ [] = no_items within.coming (let n = as_many in let m = ap (λ (l : List Ran). length l) within.all ∙ length-append within.results within.coming in omega (arith, n, m, all)) in
       let same : a.results ≡ within.results = within.all ∙ ap (λ (l : List Ran). within.results ++ l) none ∙ append-nil within.results in
-      let judged = subst (λ (l : List Ran). Rattle.commit_core.specs.JudgedRound.IsJudged within.run.end l within.runs core.committed used_up) (sym results_are) (judged_all within.run.end core.committed within.runs within.judged.linked) in
+      let judged = subst (λ (l : List Ran). Rattle.commit_core.specs.JudgedRound.IsRoundJudged within.run.end l within.runs core.committed used_up) (sym results_are) (judged_all within.run.end core.committed within.runs within.judged.linked) in
       subst (λ (n : ℕ). IsOver a n now core j tally) (omega arith)
       (is_over a now core j tally within core used_up judged (λ up. sym (ap (λ (l : List Ran). length l) same) ∙ within.full whole))
 

@@ -4,9 +4,9 @@ use Rattle.commit_core.specs.declared.event.Event as rounds
 use Rattle.commit_core.specs.declared.event.Event.TheVariants as events
 use Rattle.commit_core.specs.declared.verdict.Verdict.{Verdict}
 use Rattle.commit_core.specs.declared.verdict.Verdict.TheVariants.{Commit}
-use Rattle.commit_core.specs.Judging.{Core, HasApplied, HasJudged, fresh}
+use Rattle.commit_core.specs.Judging.{Core, HasApplied, HasJudged, new_core}
 use Rattle.commit_core.specs.Noting.{IsRefusal}
-use Rattle.device.specs.Sending.{SendCalls, left_of}
+use Rattle.device.specs.Sending.{SendCalls, left_to_send}
 use Rattle.disk_model.specs.History.{History}
 use Rattle.disk_model.specs.Input.{Input}
 use Rattle.disk_model.specs.declared.world.Stream.TheVariants.{Out}
@@ -27,7 +27,7 @@ use Rattle.recorder.specs.Committing.{CommitCalls, HasCommitted}
 use Rattle.recorder.specs.declared.commit.CommitFault.{CommitFault}
 use Rattle.recorder.specs.declared.commit.CommitFault.TheVariants as commits
 use Rattle.recorder.specs.Drawing.{Draw, Drew, supply_of}
-use Rattle.recorder.specs.Machine.{Call, Event, IsAtRest, IsReached, IsTakeable, Machine, Reaches, Step, after_call, fails, first_machine, frame_sync, frame_write, gate_sync, gate_write, holds, in_round, journal_end, makes, output_of_runs, record_of_run, round, send_fails, sends}
+use Rattle.recorder.specs.Machine.{MachineCall, MachineEvent, IsAtRest, IsReached, IsTakeable, Machine, Reaches, Step, after_machine_call, fails, first_machine, frame_sync, frame_write, gate_sync, gate_write, holds, in_round, journal_end, makes, output_of_runs, record_of_run, round, send_fails, sends}
 use Rattle.supply.specs.Supplied.{IsSupply, Supplied, end_of}
 
 -- the machine's journal, as the program counts its bytes
@@ -51,7 +51,7 @@ abbrev pub DrawIsRound : (guest : List ℕ) → (supplied : Bool) → Machine �
 DrawIsRound guest supplied m d jobs i w core =
     m.left ≡ None → IsAtRest m → (m.core.closed ≡ true) ⊎ (m.core.judged ≡ length m.core.jobs) → 0 < jobs → jobs ≤ MAX_JOBS
     → IsSupply m.supply → m.supply.place ≤ m.core.committed.input → m.core.committed.input ≤ end_of m.supply → d.due ≡ input_due m.core.committed m.supply
-    → Drew d m.input i → w ≡ supply_of m.supply d → core ≡ fresh m.core.committed jobs
+    → Drew d m.input i → w ≡ supply_of m.supply d → core ≡ new_core m.core.committed jobs
     → (n : Machine) × Step guest supplied m (round d jobs) n × (n.input ≡ i) × (n.supply ≡ w) × (n.core ≡ core) × IsReached true n.supply n.core.committed
 
 -- ---- the events of a core
@@ -81,24 +81,24 @@ CommitIsInHand guest supplied m e out core = m.left ≡ None → IsAtRest m → 
 -- ---- an append
 
 -- the calls of a record before one of them
-abbrev pub calls_before : Call → List Event
+abbrev pub calls_before : MachineCall → List MachineEvent
 calls_before frame_write = []
 calls_before frame_sync = makes frame_write ∷ []
 calls_before gate_write = makes frame_write ∷ makes frame_sync ∷ []
 calls_before gate_sync = makes frame_write ∷ makes frame_sync ∷ makes gate_write ∷ []
 
 -- all four of them
-abbrev pub record_calls : List Event
+abbrev pub record_calls : List MachineEvent
 record_calls = calls_before gate_sync ++ makes gate_sync ∷ []
 
 -- a call of the record in hand fails, after those before it
 abbrev pub CallFails : (guest : List ℕ) → (supplied : Bool) → Machine → Record → List EpochRun → History → Type 0
-CallFails guest supplied m r rs t = (call : Call) × Reaches guest supplied m (calls_before call ++ fails call ∷ []) (record m { world = t; hand = holds r rs call; stopped = true })
+CallFails guest supplied m r rs t = (call : MachineCall) × Reaches guest supplied m (calls_before call ++ fails call ∷ []) (record m { world = t; hand = holds r rs call; stopped = true })
 
 -- An append is the four calls of a record, or those up to one that fails, or no event.
 abbrev pub AppendEvents : (guest : List ℕ) → (supplied : Bool) → Machine → Record → List EpochRun → Journal → Result (Unit {0}) AppendFault → History → Type 0
 AppendEvents guest supplied m r rs after (Ok done) t =
-    Reaches guest supplied m record_calls (after_call m r rs gate_sync t) × IsJournalOf guest (after_call m r rs gate_sync t) after
+    Reaches guest supplied m record_calls (after_machine_call m r rs gate_sync t) × IsJournalOf guest (after_machine_call m r rs gate_sync t) after
 AppendEvents guest supplied m r rs after (Err appends.DiskFault) t = CallFails guest supplied m r rs t
 AppendEvents guest supplied m r rs after (Err (appends.Full end need)) t = t ≡ m.world
 AppendEvents guest supplied m r rs after (Err (appends.Failed last)) t = t ≡ m.world
@@ -111,9 +111,9 @@ AppendIsEvents guest supplied m before after added result t =
 -- ---- output
 
 -- Bytes are sent in pieces, once this number of them was sent. Each piece is all that is left, and of each Out takes this many bytes.
-abbrev pub pieces_of : List ℕ → (sent : ℕ) → (counts : List ℕ) → List Event
+abbrev pub pieces_of : List ℕ → (sent : ℕ) → (counts : List ℕ) → List MachineEvent
 pieces_of bytes sent [] = []
-pieces_of bytes sent (k ∷ counts) = sends (left_of bytes sent) k ∷ pieces_of bytes (sent + k) counts
+pieces_of bytes sent (k ∷ counts) = sends (left_to_send bytes sent) k ∷ pieces_of bytes (sent + k) counts
 
 -- They are sent piece by piece, to the end or to a call that fails.
 abbrev pub SendEvents : (guest : List ℕ) → (supplied : Bool) → Machine → (bytes : List ℕ) → Bool → History → Type 0
@@ -130,7 +130,7 @@ SendIsEvents guest supplied m bytes ok t =
 
 -- the machine once the record of a run is acknowledged and its output was sent
 abbrev pub after_commit : Machine → EpochRun → (output : List ℕ) → History → Machine
-after_commit m r output t = record (after_call m (record_of_run r) (r ∷ []) gate_sync t) { released = m.released ++ output }
+after_commit m r output t = record (after_machine_call m (record_of_run r) (r ∷ []) gate_sync t) { released = m.released ++ output }
 
 -- A commit is the four calls of the epoch's record and then the pieces of its output, or these up to a call that fails, or no event.
 abbrev pub CommitEvents : (guest : List ℕ) → (supplied : Bool) → Machine → EpochRun → Journal → Result (Unit {0}) CommitFault → History → Type 0

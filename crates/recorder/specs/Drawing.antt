@@ -27,8 +27,8 @@ pub record Round : Type 0 where
 abbrev pub draws_of : List Round → List Draw
 draws_of rounds = map (λ r. r.draw) rounds
 
-abbrev pub epochs_of : List Round → List Epoch
-epochs_of rounds = flat_map (λ r. r.epochs) rounds
+abbrev pub epochs_of_rounds : List Round → List Epoch
+epochs_of_rounds rounds = flat_map (λ r. r.epochs) rounds
 
 -- how many results were squashed
 abbrev pub squashes_of : List Round → ℕ

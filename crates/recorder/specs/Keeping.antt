@@ -29,10 +29,10 @@ use Rattle.journal_text.specs.Records.{IsRecord, Record, body_of}
 use Rattle.racing_runner.specs.Offers.{Tells}
 use Rattle.recorder.specs.declared.options.Options.{Options}
 use Rattle.recorder.specs.declared.record_fault.RecordFault.{RecordFault}
-use Rattle.recorder.specs.declared.tally.Next.{Next}
-use Rattle.recorder.specs.declared.tally.Next.TheVariants.{Committed, Squashed, Over}
+use Rattle.recorder.specs.declared.tally.AfterJudging.{AfterJudging}
+use Rattle.recorder.specs.declared.tally.AfterJudging.TheVariants.{Committed, Squashed, Over}
 use Rattle.recorder.specs.declared.tally.Tally.{Tally}
-use Rattle.recorder.specs.Drawing.{AreFound, Draw, DrewAll, Round, answers_in, draws_of, epochs_of, readings_since, squashes_of, supply_behind, supply_of}
+use Rattle.recorder.specs.Drawing.{AreFound, Draw, DrewAll, Round, answers_in, draws_of, epochs_of_rounds, readings_since, squashes_of, supply_behind, supply_of}
 use Rattle.recorder.specs.Machine.{epochs_of_runs}
 use Rattle.recorder.specs.Moments.{EachMoment}
 use Rattle.recorder.specs.Racing.{IsRaced}
@@ -145,8 +145,8 @@ pub record SoFar (a : Setting) (there : Option Input) (now : Option History) (ra
   pub each : EachIsRound a.tells a.options 1 a.start (empty MAX_ROOM) rounds state racer
   pub supply_is : w ≡ supply_behind (empty MAX_ROOM) (draws_of rounds)
   pub squashes_is : squashes ≡ squashes_of rounds
-  pub since_is : IsSince true a (epochs_of rounds) state tally.since tally.base
-  pub kept : Kept a there now (records_of a.options a.start (epochs_of rounds)) (epochs_of rounds) (draws_of rounds) output state w j tally
+  pub since_is : IsSince true a (epochs_of_rounds rounds) state tally.since tally.base
+  pub kept : Kept a there now (records_of a.options a.start (epochs_of_rounds rounds)) (epochs_of_rounds rounds) (draws_of rounds) output state w j tally
 
 -- ---- within a round
 
@@ -187,7 +187,7 @@ pub record Within (marked : Bool) (a : InRound) (now : Option History) (core : C
 
 -- What a committer's code stands on: all results that it took were committed, the counts of the committed state have room for those of the
 -- other jobs, and the journal takes more.
-pub record IsReady (core : Core) (j : Journal) : Type 0 where
+pub record CanCommit (core : Core) (j : Journal) : Type 0 where
   pub not_closed : core.closed ≡ false
   pub judged : core.judged ≡ length core.jobs
   pub places : core.max_jobs ≡ MAX_JOBS
@@ -209,7 +209,7 @@ abbrev pub IsStopped : InRound → (now : Option History) → RecordFault → Ty
 IsStopped a now fault = HasStopped a.setting a.later now fault
 
 -- what became of the next result
-abbrev pub StepSays : InRound → (now : Option History) → Core → Journal → Tally → Result Next RecordFault → Type 0
+abbrev pub StepSays : InRound → (now : Option History) → Core → Journal → Tally → Result AfterJudging RecordFault → Type 0
 StepSays a now core j tally (Ok Committed) = Within true a now core j tally
 StepSays a now core j tally (Ok Squashed) = IsOver a (a.squashes + 1) now core j tally
 StepSays a now core j tally (Ok Over) = IsOver a a.squashes now core j tally

@@ -5,7 +5,7 @@ use Rattle.std.specs.List.{flat_map}
 use Rattle.commit_core.specs.declared.event.Event as rounds
 use Rattle.commit_core.specs.declared.event.Event.TheVariants as events
 use Rattle.commit_core.specs.declared.stage.Stage.TheVariants.{Offered, Claimed, Done, Taken}
-use Rattle.commit_core.specs.Judging.{Core, fresh, stage_at, shut, with_epoch, with_job, with_stage}
+use Rattle.commit_core.specs.Judging.{Core, new_core, stage_at, shut, with_epoch, with_job, with_stage}
 use Rattle.disk_model.specs.History.{History, IsImage}
 use Rattle.disk_model.specs.Input.{Input}
 use Rattle.disk_model.specs.Steps.{Emitted, Synced, Wrote}
@@ -32,16 +32,16 @@ use Rattle.supply.specs.declared.TheConstants.{MAX_ROOM}
 -- ---- the state
 
 -- The four calls that write a record, in their order: its frame after the closed gate, a sync, the gate's byte, a sync.
-pub data Call : Type 0 where
-  frame_write : Call
-  frame_sync : Call
-  gate_write : Call
-  gate_sync : Call
+pub data MachineCall : Type 0 where
+  frame_write : MachineCall
+  frame_sync : MachineCall
+  gate_write : MachineCall
+  gate_sync : MachineCall
 
 -- What is written: nothing, or a record, which is that of these epochs (one, or none if it is a mark). The call is the next one.
 pub data Hand : Type 0 where
   nothing : Hand
-  holds : Record → List EpochRun → Call → Hand
+  holds : Record → List EpochRun → MachineCall → Hand
 
 -- a result that was taken, and the number of its job
 pub record TakenResult : Type 0 where
@@ -78,7 +78,7 @@ first_machine s h i = record {
   world = h;
   input = i;
   supply = empty MAX_ROOM;
-  core = fresh s 0;
+  core = new_core s 0;
   results = [];
   began = s;
   round_runs = [];
@@ -120,22 +120,22 @@ IsAtRest m = (m.stopped ≡ false) × (m.hand ≡ nothing) × (m.released ≡ ou
 
 -- ---- the events
 
-pub data Event : Type 0 where
+pub data MachineEvent : Type 0 where
   -- a round begins: what it reads from the input, and the number of its jobs at most
-  round : Draw → ℕ → Event
+  round : Draw → ℕ → MachineEvent
   -- a job is offered, claimed, done, or its result is taken; or the next result is judged
-  in_round : rounds.Event → Event
+  in_round : rounds.Event → MachineEvent
   -- the mark of the committed state is to be written
-  marks : Event
+  marks : MachineEvent
   -- the record's next call is made
-  makes : Call → Event
+  makes : MachineCall → MachineEvent
   -- a piece of the output is given to Out, which takes the first bytes of it, as many as this
-  sends : List ℕ → ℕ → Event
+  sends : List ℕ → ℕ → MachineEvent
   -- the record's next call fails, or the call that gives this piece to Out
-  fails : Call → Event
-  send_fails : List ℕ → Event
+  fails : MachineCall → MachineEvent
+  send_fails : List ℕ → MachineEvent
   -- the machine stops, and leaves this on the disk
-  crash : List ℕ → Event
+  crash : List ℕ → MachineEvent
 
 -- ---- round
 
@@ -145,7 +145,7 @@ BeginsRound m d jobs n = IsAtRest m × ((m.core.closed ≡ true) ⊎ (m.core.jud
     × Drew d m.input n.input × (n ≡ record m {
       input = n.input;
       supply = supply_of m.supply d;
-      core = fresh m.core.committed jobs;
+      core = new_core m.core.committed jobs;
       results = [];
       began = m.core.committed;
       round_runs = [];
@@ -154,9 +154,9 @@ BeginsRound m d jobs n = IsAtRest m × ((m.core.closed ≡ true) ⊎ (m.core.jud
 -- ---- offer, claim, done, take, judge
 
 -- an epoch that is a run of the guest and has a record, or nothing
-abbrev pub IsResult : Ran → Type 0
-IsResult (Epoch r) = IsRunOf r.start (epoch_of r.epoch) r.out r.end
-IsResult (Idle s) = ⊤
+abbrev pub IsMachineResult : Ran → Type 0
+IsMachineResult (Epoch r) = IsRunOf r.start (epoch_of r.epoch) r.out r.end
+IsMachineResult (Idle s) = ⊤
 
 -- If the epoch starts within this supply's window, its answers are the supply's.
 abbrev pub IsSupplied : Supplied → Ran → Type 0
@@ -165,8 +165,8 @@ IsSupplied w (Idle s) = ⊤
 
 -- a result that may be taken: with any answers, or only with the supply's
 abbrev pub IsTakeable : (supplied : Bool) → Supplied → Ran → Type 0
-IsTakeable true w ran = IsResult ran × IsSupplied w ran
-IsTakeable false w ran = IsResult ran
+IsTakeable true w ran = IsMachineResult ran × IsSupplied w ran
+IsTakeable false w ran = IsMachineResult ran
 
 -- The window doesn't begin after the input that this state has read. This is asked only if answers must be the supply's.
 abbrev pub IsReached : (supplied : Bool) → Supplied → State → Type 0
@@ -181,19 +181,19 @@ Judges supplied m (Epoch r) n =
 Judges supplied m (Idle s) n = ((s ≡ m.core.committed) ⊎ (s ≢ m.core.committed)) × (n ≡ record m { core = shut m.core })
 
 -- each comes once for a job, and after the one before it
-abbrev pub InRound : (supplied : Bool) → Machine → rounds.Event → Machine → Type 0
-InRound supplied m (events.Offer i) n = (i ≡ length m.core.jobs + 1) × (i ≤ m.core.max_jobs) × (n ≡ record m { core = with_job m.core })
-InRound supplied m (events.Claim i) n = (stage_at m.core.jobs i ≡ Some Offered) × (n ≡ record m { core = with_stage m.core i Claimed })
-InRound supplied m (events.Done i) n = (stage_at m.core.jobs i ≡ Some Claimed) × (n ≡ record m { core = with_stage m.core i Done })
-InRound supplied m (events.Take i ran) n = (stage_at m.core.jobs i ≡ Some Done) × IsTakeable supplied m.supply ran
+abbrev pub RoundEvent : (supplied : Bool) → Machine → rounds.Event → Machine → Type 0
+RoundEvent supplied m (events.Offer i) n = (i ≡ length m.core.jobs + 1) × (i ≤ m.core.max_jobs) × (n ≡ record m { core = with_job m.core })
+RoundEvent supplied m (events.Claim i) n = (stage_at m.core.jobs i ≡ Some Offered) × (n ≡ record m { core = with_stage m.core i Claimed })
+RoundEvent supplied m (events.Done i) n = (stage_at m.core.jobs i ≡ Some Claimed) × (n ≡ record m { core = with_stage m.core i Done })
+RoundEvent supplied m (events.Take i ran) n = (stage_at m.core.jobs i ≡ Some Done) × IsTakeable supplied m.supply ran
     × (n ≡ record m { core = with_stage m.core i (Taken ran); results = record { number = i; ran = ran } ∷ m.results })
-InRound supplied m events.Judge n =
+RoundEvent supplied m events.Judge n =
     IsAtRest m × (m.core.closed ≡ false) × (ran : Ran) × (slice_get m.core.jobs m.core.judged ≡ Some (Taken ran)) × Judges supplied m ran n
 
 -- ---- mark
 
-abbrev pub Marks : Machine → Machine → Type 0
-Marks m n = IsAtRest m × (has_ended m.core.committed.end ≡ false) × IsRecord (mark_of m.base m.core.committed) × (n ≡ record m { hand = holds (mark_of m.base m.core.committed) [] frame_write })
+abbrev pub MarkBegins : Machine → Machine → Type 0
+MarkBegins m n = IsAtRest m × (has_ended m.core.committed.end ≡ false) × IsRecord (mark_of m.base m.core.committed) × (n ≡ record m { hand = holds (mark_of m.base m.core.committed) [] frame_write })
 
 -- ---- the four calls
 
@@ -204,22 +204,22 @@ abbrev pub RecordFits : (guest : List ℕ) → Machine → Record → Type 0
 RecordFits guest m r = journal_end guest m + length (frame (body_of r)) ≤ MAX_JOURNAL_BYTES
 
 -- what a call leaves, whether it succeeds or fails
-abbrev pub CallLeaves : (guest : List ℕ) → Machine → Record → Call → (ok : Bool) → History → Type 0
+abbrev pub CallLeaves : (guest : List ℕ) → Machine → Record → MachineCall → (ok : Bool) → History → Type 0
 CallLeaves guest m r frame_write ok h = RecordFits guest m r × Wrote (journal_end guest m) (frame (body_of r)) ok m.world h
 CallLeaves guest m r frame_sync ok h = Synced ok m.world h
 CallLeaves guest m r gate_write ok h = Wrote (journal_end guest m - 1) (open_gate ∷ []) ok m.world h
 CallLeaves guest m r gate_sync ok h = Synced ok m.world h
 
 -- After a call that succeeds the next one follows. After the last one the record is acknowledged.
-abbrev pub after_call : Machine → Record → List EpochRun → Call → History → Machine
-after_call m r rs frame_write h = record m { world = h; hand = holds r rs frame_sync }
-after_call m r rs frame_sync h = record m { world = h; hand = holds r rs gate_write }
-after_call m r rs gate_write h = record m { world = h; hand = holds r rs gate_sync }
-after_call m r rs gate_sync h = record m { world = h; hand = nothing; records = m.records ++ r ∷ []; written = m.written ++ rs; base = base_with r m.base m.core.committed }
+abbrev pub after_machine_call : Machine → Record → List EpochRun → MachineCall → History → Machine
+after_machine_call m r rs frame_write h = record m { world = h; hand = holds r rs frame_sync }
+after_machine_call m r rs frame_sync h = record m { world = h; hand = holds r rs gate_write }
+after_machine_call m r rs gate_write h = record m { world = h; hand = holds r rs gate_sync }
+after_machine_call m r rs gate_sync h = record m { world = h; hand = nothing; records = m.records ++ r ∷ []; written = m.written ++ rs; base = base_with r m.base m.core.committed }
 
-abbrev pub Makes : (guest : List ℕ) → Machine → Call → Machine → Type 0
+abbrev pub Makes : (guest : List ℕ) → Machine → MachineCall → Machine → Type 0
 Makes guest m call n = (m.stopped ≡ false) × (r : Record) × (rs : List EpochRun) × (m.hand ≡ holds r rs call)
-    × (h : History) × CallLeaves guest m r call true h × (n ≡ after_call m r rs call h)
+    × (h : History) × CallLeaves guest m r call true h × (n ≡ after_machine_call m r rs call h)
 
 -- ---- output
 
@@ -233,8 +233,8 @@ Sends m piece count n = (m.stopped ≡ false) × IsNextOutput m piece × (h : Hi
 
 -- ---- faults
 
-abbrev pub Fails : (guest : List ℕ) → Machine → Call → Machine → Type 0
-Fails guest m call n = (m.stopped ≡ false) × (r : Record) × (rs : List EpochRun) × (m.hand ≡ holds r rs call)
+abbrev pub DiskCallFails : (guest : List ℕ) → Machine → MachineCall → Machine → Type 0
+DiskCallFails guest m call n = (m.stopped ≡ false) × (r : Record) × (rs : List EpochRun) × (m.hand ≡ holds r rs call)
     × (h : History) × CallLeaves guest m r call false h × (n ≡ record m { world = h; stopped = true })
 
 -- a prefix of the piece may have been sent
@@ -245,21 +245,21 @@ SendFails m piece n = (m.stopped ≡ false) × IsNextOutput m piece × (h : Hist
 -- ---- a step, and steps
 
 -- From a machine to the next by an event. Results are taken with any answers, or only with those of their round's supply.
-abbrev pub StepBy : (guest : List ℕ) → (supplied : Bool) → Machine → Event → Machine → Type 0
+abbrev pub StepBy : (guest : List ℕ) → (supplied : Bool) → Machine → MachineEvent → Machine → Type 0
 StepBy guest supplied m (round d jobs) n = BeginsRound m d jobs n
-StepBy guest supplied m (in_round e) n = InRound supplied m e n
-StepBy guest supplied m marks n = Marks m n
+StepBy guest supplied m (in_round e) n = RoundEvent supplied m e n
+StepBy guest supplied m marks n = MarkBegins m n
 StepBy guest supplied m (makes call) n = Makes guest m call n
 StepBy guest supplied m (sends piece count) n = Sends m piece count n
-StepBy guest supplied m (fails call) n = Fails guest m call n
+StepBy guest supplied m (fails call) n = DiskCallFails guest m call n
 StepBy guest supplied m (send_fails piece) n = SendFails m piece n
 StepBy guest supplied m (crash image) n = IsImage m.world.pending image × (n ≡ record m { left = Some image })
 
 -- nothing follows a crash
-abbrev pub Step : (guest : List ℕ) → (supplied : Bool) → Machine → Event → Machine → Type 0
+abbrev pub Step : (guest : List ℕ) → (supplied : Bool) → Machine → MachineEvent → Machine → Type 0
 Step guest supplied m e n = (m.left ≡ None) × StepBy guest supplied m e n
 
 -- one event after another
-abbrev pub Reaches : (guest : List ℕ) → (supplied : Bool) → Machine → List Event → Machine → Type 0
+abbrev pub Reaches : (guest : List ℕ) → (supplied : Bool) → Machine → List MachineEvent → Machine → Type 0
 Reaches guest supplied m [] n = n ≡ m
 Reaches guest supplied m (e ∷ events) n = (mid : Machine) × Step guest supplied m e mid × Reaches guest supplied mid events n

@@ -2,7 +2,7 @@
 use Rattle.std.specs.Prelude.{◌≡◌, ◌≢◌, ◌⊎◌, ◌≤◌, ◌+◌, ℕ, Bool, true, false, List, [], ◌∷◌, ◌++◌, length, Option, Some, None, Ok, ⊤}
 use Rattle.std.specs.List.{AllByRecursion, flat_map}
 use Rattle.checkpoint.specs.State.{checkpoint_of}
-use Rattle.commit_core.specs.JudgedRound.{AreLinked, IsJudged, RoundEnd, used_up}
+use Rattle.commit_core.specs.JudgedRound.{AreLinked, IsRoundJudged, RoundEnd, used_up}
 use Rattle.disk_model.specs.History.{History, MayLeave, now}
 use Rattle.dp_base.specs.Encoding.{IsPrefixOf}
 use Rattle.dp_base.specs.declared.answer.Answer.{Answer}
@@ -15,7 +15,7 @@ use Rattle.guest_kernel.specs.Slices.{chain}
 use Rattle.journal_text.specs.Records.{IsRecord, Record, epoch, mark, partial}
 use Rattle.partial_mark.specs.Base.{applied}
 use Rattle.recorder.specs.Drawing.{Draw}
-use Rattle.recorder.specs.Machine.{Event, Hand, Machine, TakenResult, crash, epochs_of_runs, fails, frame_sync, frame_write, gate_sync, gate_write, holds, in_round, judged_runs, makes, marks, nothing, output_of_runs, round, send_fails, sends}
+use Rattle.recorder.specs.Machine.{MachineEvent, Hand, Machine, TakenResult, crash, epochs_of_runs, fails, frame_sync, frame_write, gate_sync, gate_write, holds, in_round, judged_runs, makes, marks, nothing, output_of_runs, round, send_fails, sends}
 
 -- ---- the journal
 
@@ -66,11 +66,11 @@ AreTaken results i (ran ∷ rans) = WasTaken results i ran × AreTaken results (
 -- Of the results from job 1 on, the epochs that the round has committed are the longest list of first ones in which each is an epoch
 -- that starts where the one before ended. While the round goes on all that were judged are committed; when it is closed one more was
 -- judged, and isn't.
-pub record IsRound (m : Machine) : Type 0 where
+pub record IsMachineRound (m : Machine) : Type 0 where
   pub results : List Ran
   pub are_taken : AreTaken m.results 1 results
   pub why : RoundEnd
-  pub judged : IsJudged m.began results m.round_runs m.core.committed why
+  pub judged : IsRoundJudged m.began results m.round_runs m.core.committed why
   pub goes_on : m.core.closed ≡ false → why ≡ used_up
   pub closed : m.core.closed ≡ true → why ≢ used_up
   pub counted : length m.round_runs ≡ m.core.judged
@@ -91,12 +91,12 @@ pub record IsKept (guest : List ℕ) (start : State) (before : History) (m : Mac
   pub left : (image : List ℕ) → m.left ≡ Some image → ReadsWith guest m.records (in_question m.hand m.stopped) image
   -- what was sent is a prefix of the output of the epochs whose records are acknowledged
   pub sent : IsPrefixOf m.released (output_of_runs m.written)
-  pub round : IsRound m
+  pub round : IsMachineRound m
 
 -- ---- what was read from the input
 
 -- what the rounds among these events read
-abbrev pub draws_in : List Event → List Draw
+abbrev pub draws_in : List MachineEvent → List Draw
 draws_in [] = []
 draws_in (round d jobs ∷ events) = d ∷ draws_in events
 draws_in (in_round e ∷ events) = draws_in events

@@ -18,8 +18,8 @@ abbrev pub epoch_steps : Options → State → ℕ
 epoch_steps options s = min options.epoch (options.limit - s.steps)
 
 -- how far an epoch that starts here may go, and which thread is tried first
-abbrev pub bounds_for : Options → (first : ℕ) → State → Bounds
-bounds_for options first s = record {
+abbrev pub job_bounds : Options → (first : ℕ) → State → Bounds
+job_bounds options first s = record {
   steps = epoch_steps options s;
   slice = options.slice;
   first = first;
@@ -48,9 +48,9 @@ plan_of options first s = record {
 -- offer. The hints of a job are those of the offer that ends it, and the last job has none. After job 1 the first thread is sought from 1 on.
 abbrev pub AreResults : Options → (first : ℕ) → State → List Offer → Supplied → List Ran → Type 0
 AreResults options first s offers w [] = ⊤
-AreResults options first s [] w (x ∷ []) = HasRun s no_hints w (bounds_for options first s) x
+AreResults options first s [] w (x ∷ []) = HasRun s no_hints w (job_bounds options first s) x
 AreResults options first s [] w (x ∷ y ∷ results) = ⊥
-AreResults options first s (o ∷ offers) w (x ∷ results) = HasRun s o.hints w (bounds_for options first s) x × AreResults options 1 o.next offers w results
+AreResults options first s (o ∷ offers) w (x ∷ results) = HasRun s o.hints w (job_bounds options first s) x × AreResults options 1 o.next offers w results
 
 -- These are the first results of a round from a state, with its supply and the thread that is tried first, by a racer that tells this. Where it tells
 -- its offers the round has the first of them, one for each job but job 1, and the racer tells the same afterwards.

@@ -23,14 +23,14 @@ use Rattle.epoch_runner.specs.Schedule.{IsScheduled}
 use Rattle.supply.specs.Supplied.{Supplied, empty}
 use Rattle.sync_hints.specs.NoHints.{no_hints}
 use Rattle.supply.specs.declared.TheConstants.{MAX_ROOM}
-use Rattle.recorder.specs.Drawing.{Draw, HasDrawn, Round, answers_in, draws_of, epochs_of, squashes_of, supply_behind, supply_of}
+use Rattle.recorder.specs.Drawing.{Draw, HasDrawn, Round, answers_in, draws_of, epochs_of_rounds, squashes_of, supply_behind, supply_of}
 use Rattle.recorder.specs.Machine.{epochs_of_runs}
 use Rattle.recorder.specs.Marking.{IsMarkDue, records_of, records_unmarked}
 use Rattle.recorder.specs.Racing.{IsRaced, epoch_steps}
 use Rattle.racing_runner.specs.declared.offer.Offer.{Offer}
 use Rattle.racing_runner.specs.declared.plan.Plan.{Plan}
 use Rattle.racing_runner.specs.Offers.{Tells}
-use Rattle.commit_core.specs.JudgedRound.{AreLinked, IsJudged, RoundEnd, over, squashed, used_up}
+use Rattle.commit_core.specs.JudgedRound.{AreLinked, IsRoundJudged, RoundEnd, over, squashed, used_up}
 use Rattle.epoch_record.specs.Epoch.{epoch_of}
 use Rattle.epoch_runner.specs.declared.epoch_run.EpochRun.{EpochRun}
 use Rattle.epoch_runner.specs.declared.epoch_run.Ran.{Ran}
@@ -70,7 +70,7 @@ pub record IsRound (tells : Tells) (options : Options) (first : ℕ) (s : State)
   pub raced : IsRaced tells options first s w results after
   pub runs : List EpochRun
   pub stop : RoundEnd
-  pub judged : IsJudged s results runs end stop
+  pub judged : IsRoundJudged s results runs end stop
   pub all : stop ≡ used_up → length results ≡ length raced.offers + 1
   pub some : 0 < length runs
   pub epochs_are : r.epochs ≡ epochs_of_runs runs
@@ -88,14 +88,14 @@ pub record Run (tells : Tells) (options : Options) (start : State) : Type 0 wher
   pub end : State
   pub racer : Tells
   pub output : List ℕ
-  pub chained : chain start (epochs_of rounds) ≡ Ok (end, output)
+  pub chained : chain start (epochs_of_rounds rounds) ≡ Ok (end, output)
   pub each : EachIsRound tells options 1 start (empty MAX_ROOM) rounds end racer
   pub counted : end.steps ≤ options.limit
 
 -- its epochs, how many results were squashed, what its rounds read from the input, the answers that its epochs took, and the supply after its
 -- last round
 abbrev pub epochs : {tells : Tells} {options : Options} {start : State} → Run tells options start → List Epoch
-epochs r = epochs_of r.rounds
+epochs r = epochs_of_rounds r.rounds
 
 -- its records, with all marks
 abbrev pub records : {tells : Tells} {options : Options} {start : State} → Run tells options start → List Record
@@ -133,7 +133,7 @@ pub record RunOn (tells : Tells) (options : Options) (start : State) : Type 0 wh
   pub end : State
   pub linked : AreLinked run.end runs end
   pub output : List ℕ
-  pub chained : chain start (epochs_of run.rounds ++ epochs_of_runs runs) ≡ Ok (end, output)
+  pub chained : chain start (epochs_of_rounds run.rounds ++ epochs_of_runs runs) ≡ Ok (end, output)
 
 -- its epochs, and what its rounds read
 abbrev pub epochs_on : {tells : Tells} {options : Options} {start : State} → RunOn tells options start → List Epoch
@@ -165,7 +165,7 @@ TellsAll tells = (s : State) (w : Supplied) (p : Plan) → (list : List Offer) �
 
 -- An epoch from one state to another, as the schedule runs it without hints and with a supply, within the options' bounds. This thread is tried
 -- first.
-pub record IsNext (options : Options) (first : ℕ) (s : State) (w : Supplied) (e : Epoch) (end : State) (output : List ℕ) : Type 0 where
+pub record IsNextEpoch (options : Options) (first : ℕ) (s : State) (w : Supplied) (e : Epoch) (end : State) (output : List ℕ) : Type 0 where
   pub bounds : Bounds
   pub steps : bounds.steps ≡ epoch_steps options s
   pub slice : bounds.slice ≡ options.slice
@@ -176,10 +176,10 @@ pub record IsNext (options : Options) (first : ℕ) (s : State) (w : Supplied) (
 
 -- Each round starts in the state in which the one before ends. It takes input exactly if some is due, and commits one epoch, the one
 -- that is next with what it has read. No result is squashed.
-abbrev pub EachIsNext : Options → ℕ → State → Supplied → List Round → Type 0
-EachIsNext options first s w [] = ⊤
-EachIsNext options first s w (r ∷ rounds) = (e : Epoch) × (end : State) × (output : List ℕ) × (r.epochs ≡ e ∷ []) × (r.squashed ≡ false) × (r.draw.due ≡ input_due s w)
-    × IsNext options first s (supply_of w r.draw) e end output × EachIsNext options (first_behind first e.slices) end (supply_of w r.draw) rounds
+abbrev pub EachIsNextEpoch : Options → ℕ → State → Supplied → List Round → Type 0
+EachIsNextEpoch options first s w [] = ⊤
+EachIsNextEpoch options first s w (r ∷ rounds) = (e : Epoch) × (end : State) × (output : List ℕ) × (r.epochs ≡ e ∷ []) × (r.squashed ≡ false) × (r.draw.due ≡ input_due s w)
+    × IsNextEpoch options first s (supply_of w r.draw) e end output × EachIsNextEpoch options (first_behind first e.slices) end (supply_of w r.draw) rounds
 
 -- ---- what was read from the input
 

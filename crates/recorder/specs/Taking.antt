@@ -10,8 +10,8 @@ use Rattle.racing_runner.specs.declared.offer.More.{More}
 use Rattle.racing_runner.specs.declared.offer.More.TheVariants.{Yes, Enough}
 use Rattle.recorder.specs.declared.record_fault.RecordFault.{RecordFault}
 use Rattle.recorder.specs.declared.record_fault.RecordFault.TheVariants as faults
-use Rattle.recorder.specs.declared.tally.Next.{Next}
-use Rattle.recorder.specs.declared.tally.Next.TheVariants.{Committed, Squashed, Over}
+use Rattle.recorder.specs.declared.tally.AfterJudging.{AfterJudging}
+use Rattle.recorder.specs.declared.tally.AfterJudging.TheVariants.{Committed, Squashed, Over}
 use Rattle.recorder.specs.declared.tally.Tally.{Tally}
 use Rattle.recorder.specs.Faults.{MetNoOther}
 use Rattle.recorder.specs.Keeping.{InRound, StepSays, Within}
@@ -28,14 +28,14 @@ pub record Holding : Type 0 where
   pub every : ℕ
 
 -- it takes more exactly if the result was committed
-abbrev pub more_after : Result Next RecordFault → More
+abbrev pub more_after : Result AfterJudging RecordFault → More
 more_after (Ok Committed) = Yes
 more_after (Ok Squashed) = Enough
 more_after (Ok Over) = Enough
 more_after (Err fault) = Enough
 
 -- A result was judged, and this came of it. If it is the next one of the round, this is what then stands.
-pub record HasTaken (h : Holding) (ran : Ran) (more : More) (there : Holding) (last : Result Next RecordFault) : Type 0 where
+pub record HasTaken (h : Holding) (ran : Ran) (more : More) (there : Holding) (last : Result AfterJudging RecordFault) : Type 0 where
   pub says : (a : InRound) → a.setting.options.mark ≡ h.every → Within true a h.history h.core h.journal h.tally → slice_get a.results (length h.core.jobs) ≡ Some ran
       → StepSays a there.history there.core there.journal there.tally last
   pub count : last ≡ Ok Committed → (length there.core.jobs ≡ length h.core.jobs + 1) × (there.core.judged ≡ length there.core.jobs)
@@ -49,7 +49,7 @@ pub record HasTaken (h : Holding) (ran : Ran) (more : More) (there : Holding) (l
   pub sink_count : h.sink ≤ there.sink
 
 -- how many results a round has squashed, or why the recording stops
-abbrev pub outcome : Result Next RecordFault → Result (Unit {0}) OutOfMemory → Result ℕ RecordFault
+abbrev pub outcome : Result AfterJudging RecordFault → Result (Unit {0}) OutOfMemory → Result ℕ RecordFault
 outcome (Ok Committed) (Ok done) = Ok 0
 outcome (Ok Committed) (Err error) = Err faults.OutOfMemory
 outcome (Ok Squashed) answer = Ok 1

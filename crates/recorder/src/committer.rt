@@ -4,7 +4,7 @@ ghost use Rattle.recorder.specs.Taking.{more_after};
 
 use crate::record_fault::RecordFault;
 use crate::results::commit_next;
-use crate::tally::{Next, Tally};
+use crate::tally::{AfterJudging, Tally};
 use commit_core::Core;
 use disk_model::World;
 use epoch_journal::Journal;
@@ -26,13 +26,13 @@ pub(crate) struct Committer<W: World + Drop> {
     /// How many results it has taken.
     pub taken: u32,
     /// What became of the last one. `Committed` if there is none.
-    pub last: Result<Next, RecordFault>,
+    pub last: Result<AfterJudging, RecordFault>,
 }
 
 impl<W: World + Drop> Taker for Committer<W> {
     ghost use Rattle.std.specs.Prelude.{◌≡◌, length};
     ghost use Rattle.checkpoint.specs.State.{IsEncodable};
-    ghost use Rattle.recorder.specs.Keeping.{IsReady};
+    ghost use Rattle.recorder.specs.Keeping.{CanCommit};
     ghost use Rattle.recorder.specs.Taking.{HasTaken};
 
     ghost takes = { λ c ran more d. HasTaken
@@ -41,7 +41,7 @@ impl<W: World + Drop> Taker for Committer<W> {
         (record { history = W.history d.world; disk = W.disk_faults d.world; sink = W.sink_faults d.world; core = d.core; journal = d.journal; tally = d.tally; every = d.every })
         d.last };
 
-    ghost ready = { λ c. IsReady c.core c.journal × (length c.core.jobs ≡ c.taken) × IsEncodable c.tally.base };
+    ghost ready = { λ c. CanCommit c.core c.journal × (length c.core.jobs ≡ c.taken) × IsEncodable c.tally.base };
 
     ghost expects = { λ c start. start ≡ c.core.committed };
 
@@ -81,13 +81,13 @@ impl<W: World + Drop> Taker for Committer<W> {
 }
 
 // More results are taken exactly if this one was committed.
-fn more_after(last: &Result<Next, RecordFault>) -> More
+fn more_after(last: &Result<AfterJudging, RecordFault>) -> More
     ensures { result ≡ more_after last.now }
 {
     match last {
-        Ok(Next::Committed) => More::Yes,
-        Ok(Next::Squashed) => More::Enough,
-        Ok(Next::Over) => More::Enough,
+        Ok(AfterJudging::Committed) => More::Yes,
+        Ok(AfterJudging::Squashed) => More::Enough,
+        Ok(AfterJudging::Over) => More::Enough,
         Err(_) => More::Enough,
     }
 }

@@ -25,11 +25,11 @@ ghost use Rattle.recorder.specs.declared.commit.CommitFault.{CommitFault};
 ghost use Rattle.recorder.specs.Drawing.{Draw, HasDrawn};
 ghost use Rattle.journal_text.specs.Reading.{journal_of};
 ghost use Rattle.recorder.specs.CallEvents.{AppendIsEvents, AppliedIsEvent, BegunIsFirst, CommitIsEvents, CommitIsInHand, DrawIsRound, SendIsEvents};
-ghost use Rattle.recorder.specs.Machine.{Event, IsTakeable, Machine, Reaches, first_machine, judged_runs};
+ghost use Rattle.recorder.specs.Machine.{MachineEvent, IsTakeable, Machine, Reaches, first_machine, judged_runs};
 ghost use Rattle.recorder.specs.MachineKept.{IsKept, answers_of_runs, draws_in};
 ghost use Rattle.racing_runner.specs.declared.plan.Plan.{Plan};
 ghost use Rattle.racing_runner.specs.Offers.{Tells};
-ghost use Rattle.recorder.specs.Recording.{BeginsWith, EachIsNext, IsNext, NextEpoch, Run, RunOn, TellsAll, draws, draws_on, epochs, epochs_on, next_epoch, squashes};
+ghost use Rattle.recorder.specs.Recording.{BeginsWith, EachIsNextEpoch, IsNextEpoch, NextEpoch, Run, RunOn, TellsAll, draws, draws_on, epochs, epochs_on, next_epoch, squashes};
 ghost use Rattle.supply.specs.declared.TheConstants.{MAX_ROOM};
 ghost use Rattle.supply.specs.Supplied.{Supplied, empty};
 ghost use Rattle.sync_hints.specs.declared.hints.Hints.{Hints};
@@ -39,7 +39,7 @@ ghost use Rattle.supply.specs.Windows.{bytes_left};
 /// and one output: whoever records it again gets the same.
 pub fn an_epoch_is_determined()
     ensures { (options : Options) (first : ℕ) (s : State) (w : Supplied) (e f : Epoch) (end other : State) (output written : List ℕ) →
-        IsNext options first s w e end output → IsNext options first s w f other written →
+        IsNextEpoch options first s w e end output → IsNextEpoch options first s w f other written →
         (e ≡ f) × (end ≡ other) × (output ≡ written) }
 {
     epoch_runner::laws::a_schedule_is_determined();
@@ -70,7 +70,7 @@ pub fn a_told_racer_gives_the_first_epochs()
 /// If a racer offers nothing, each round of a recording commits one epoch, the one that is next, and no result is squashed.
 pub fn an_idle_racer_runs_one_job()
     ensures { (tells : Tells) → ((s : State) (w : Supplied) (p : Plan) → tells s w p ≡ Some []) → (options : Options) (start : State) (r : Run tells options start) →
-        EachIsNext options 1 start (empty MAX_ROOM) r.rounds }
+        EachIsNextEpoch options 1 start (empty MAX_ROOM) r.rounds }
 {}
 
 /// Each round commits an epoch, so no more results are squashed than epochs are committed.
@@ -94,7 +94,7 @@ pub fn reads_take_the_input()
 /// Whatever happens after a journal was begun keeps what `specs/MachineKept.antt` says: in any order, whatever jobs, hints and results
 /// are offered, whichever calls of the devices fail, and whenever the machine stops.
 pub fn every_event_keeps()
-    ensures { (guest : List ℕ) (start : State) (h : History) (i : Input) (supplied : Bool) (events : List Event) (m : Machine) →
+    ensures { (guest : List ℕ) (start : State) (h : History) (i : Input) (supplied : Bool) (events : List MachineEvent) (m : Machine) →
         IsGuest guest → length (journal_of guest []) ≤ MAX_JOURNAL_BYTES → Stands guest [] h →
         Reaches guest supplied (first_machine start h i) events m → IsKept guest start h m }
 {}
@@ -102,7 +102,7 @@ pub fn every_event_keeps()
 /// If every result that was taken was answered by the supply of its round, the answers of all committed epochs are faithful to the
 /// input that the rounds read.
 pub fn answers_are_honest()
-    ensures { (guest : List ℕ) (start : State) (h : History) (i : Input) (events : List Event) (m : Machine) →
+    ensures { (guest : List ℕ) (start : State) (h : History) (i : Input) (events : List MachineEvent) (m : Machine) →
         IsGuest guest → length (journal_of guest []) ≤ MAX_JOURNAL_BYTES → Stands guest [] h → start.input ≡ 0 →
         Reaches guest true (first_machine start h i) events m →
         HasDrawn (draws_in events) (answers_of_runs (judged_runs m)) i m.input }

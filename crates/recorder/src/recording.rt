@@ -2,7 +2,7 @@
 ghost use Rattle.std.specs.Prelude.{◌≡◌, ◌<◌, ◌≤◌, ℕ, false, Option, Err, IfErr, IfOk, IsErrOf};
 ghost use Rattle.disk_model.specs.Input.{Input};
 ghost use Rattle.racing_runner.specs.Offers.{Tells};
-ghost use Rattle.commit_core.specs.Judging.{fresh};
+ghost use Rattle.commit_core.specs.Judging.{new_core};
 ghost use Rattle.disk_model.specs.Counts.{Rose};
 ghost use Rattle.dp_base.specs.declared.limits.TheConstants.{MAX_JOBS};
 ghost use Rattle.guest_kernel.specs.Start.{IsGuestFile, start_state};
@@ -15,12 +15,12 @@ ghost use Rattle.recorder.specs.Taking.{outcome};
 ghost use Rattle.recorder.specs.declared.record_fault.RecordFault.TheVariants as faults;
 
 use crate::committer::Committer;
-use crate::round_input::draw;
 use crate::options::Options;
 use crate::plan::plan_of;
 use crate::record_fault::RecordFault;
-use crate::tally::{Next, Tally};
-use crate::report::tell;
+use crate::report::send_report;
+use crate::round_input::draw;
+use crate::tally::{AfterJudging, Tally};
 use commit_core::Core;
 use disk_model::{Gate, Inlet, World};
 use dp_base::OutOfMemory;
@@ -117,7 +117,7 @@ pub fn record_<
             Err(fault) => return (world, Err(fault)),
         }
     }
-    let answer = tell(
+    let answer = send_report(
         alloc,
         &mut world,
         &recording.state,
@@ -238,7 +238,7 @@ fn round<
         tally,
         every: options.mark,
         taken: 0,
-        last: Ok(Next::Committed),
+        last: Ok(AfterJudging::Committed),
     };
     let (committer, racer, answer) = stream(
         rt,
@@ -279,25 +279,25 @@ fn round<
 // How many results a round has squashed, or why the recording stops: by what became of the last result that was taken, and by the round's answer.
 // Where the committer took no more, memory that ran out behind it stops nothing.
 fn outcome(
-    last: Result<Next, RecordFault>,
+    last: Result<AfterJudging, RecordFault>,
     answer: Result<(), OutOfMemory>,
 ) -> Result<u32, RecordFault>
     ensures { result ≡ outcome last answer }
 {
     match last {
-        Ok(Next::Committed) => match answer {
+        Ok(AfterJudging::Committed) => match answer {
             Ok(()) => Ok(0),
             Err(_) => Err(RecordFault::OutOfMemory),
         },
-        Ok(Next::Squashed) => Ok(1),
-        Ok(Next::Over) => Ok(0),
+        Ok(AfterJudging::Squashed) => Ok(1),
+        Ok(AfterJudging::Over) => Ok(0),
         Err(fault) => Err(fault),
     }
 }
 
 // A core over this committed state.
 fn core_over(alloc: Global, committed: &State) -> Result<Core, OutOfMemory>
-    ensures { IfOk result (λ core. core ≡ fresh committed.now MAX_JOBS) }
+    ensures { IfOk result (λ core. core ≡ new_core committed.now MAX_JOBS) }
 {
     Core::round(alloc, committed.share(alloc)?, MAX_JOBS)
 }

@@ -16,7 +16,7 @@ use std::alloc::Global;
 
 // Sends the line of the report of a guest that has ended in this state, after this many epochs, squashed results and
 // bytes sent.
-pub(crate) fn tell<W: World>(
+pub(crate) fn send_report<W: World>(
     alloc: Global,
     world: &mut W,
     state: &State,

@@ -11,13 +11,13 @@ ghost use Rattle.checkpoint.specs.State.{IsEncodable};
 ghost use Rattle.commit_core.specs.Judging.{Core, HasApplied};
 ghost use Rattle.epoch_runner.specs.declared.epoch_run.EpochRun.{EpochRun};
 ghost use Rattle.epoch_runner.specs.declared.epoch_run.Ran.TheVariants as rans;
-ghost use Rattle.recorder.specs.Keeping.{InRound, IsDueMark, IsReady, MarkSays, StepSays, Within, next_base};
+ghost use Rattle.recorder.specs.Keeping.{InRound, IsDueMark, CanCommit, MarkSays, StepSays, Within, next_base};
 
 use crate::commit::commit_epoch;
 use crate::due_mark::DueMark;
 use crate::ready::Ready;
 use crate::record_fault::RecordFault;
-use crate::tally::{Next, Tally};
+use crate::tally::{AfterJudging, Tally};
 use checkpoint::encode_partial;
 use commit_core::{Core, Event, Verdict};
 use disk_model::World;
@@ -53,15 +53,15 @@ pub(crate) fn commit_next<W: World>(
     number: u32,
     ran: Ran,
     is_known: bool,
-) -> Result<Next, RecordFault>
-    requires ready { IsReady core.old journal.old }
+) -> Result<AfterJudging, RecordFault>
+    requires ready { CanCommit core.old journal.old }
     requires number { number ≡ length core.old.jobs + 1 }
     requires room { number ≤ MAX_JOBS }
     requires base { IsEncodable tally.old.base }
     requires known { is_known ≡ true → (run : EpochRun) → ran ≡ rans.Epoch run → run.start ≡ core.old.committed }
     ensures says { (a : InRound) → a.setting.options.mark ≡ every → Within true a (W.history world.old) core.old journal.old tally.old →
         slice_get a.results (length core.old.jobs) ≡ Some ran → StepSays a (W.history world.new) core.new journal.new tally.new result }
-    ensures goes { IfOk result (λ next. next ≡ Next.Committed → IsReady core.new journal.new × (length core.new.jobs ≡ number) × IsEncodable tally.new.base) }
+    ensures goes { IfOk result (λ next. next ≡ AfterJudging.Committed → CanCommit core.new journal.new × (length core.new.jobs ≡ number) × IsEncodable tally.new.base) }
     ensures others { (input : ℕ) → MetNoOther result (W.disk_faults world.old) (W.disk_faults world.new)
         (W.sink_faults world.old) (W.sink_faults world.new) input input }
     ensures no_input { IsErrOf result RecordFault.InputFault → ⊥ }
@@ -84,10 +84,10 @@ pub(crate) fn commit_next<W: World>(
             commit_epoch(journal, world, &ready)?;
             tally.count(epoch.slices.as_slice(), ready.out.len() as u64);
             append_mark(journal, world, tally, mark)?;
-            Ok(Next::Committed)
+            Ok(AfterJudging::Committed)
         }
-        Verdict::Squash { .. } => Ok(Next::Squashed),
-        Verdict::Over { .. } => Ok(Next::Over),
+        Verdict::Squash { .. } => Ok(AfterJudging::Squashed),
+        Verdict::Over { .. } => Ok(AfterJudging::Over),
         // A result that was taken just now has no other verdict.
         _ => unreachable!(),
     }

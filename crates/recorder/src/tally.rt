@@ -19,7 +19,7 @@ pub(crate) struct Tally {
 
 /// What became of the next result of a round.
 #[derive(Clone, Copy)]
-pub(crate) enum Next {
+pub(crate) enum AfterJudging {
     /// It was committed. More may follow.
     Committed,
     /// It was squashed, and the round is over.

@@ -10,7 +10,7 @@ use Rattle.std.proofs.lemmas.Bool.{cases_eq, cases_lt}
 use Rattle.dp_base.specs.Memory.{bytes_with, put_bytes}
 use Rattle.dp_base.specs.declared.limits.TheConstants.{PAGE_BYTES}
 use Rattle.dp_base.specs.declared.page.Page.{Page}
-use Rattle.shared_words.specs.Copied.{AreCopied, AreMarked, Differs, HasChanges, HasChangesIn, HasEachWord, HasWord, IsStoredIn, IsWordOf, OnlyLoads, OnlyStores, block_address, block_of, bytes_at, is_marked, marked_below, overwritten}
+use Rattle.shared_words.specs.Copied.{AreCopied, AreMarked, Differs, HasChanges, HasChangesIn, HasEachWord, HasWord, IsStoredIn, IsWordOf, OnlyLoads, OnlyStores, block_address, block_of, page_bytes_at, is_marked, marked_below, pages_overwritten}
 use Rattle.shared_words.specs.Rule.{after_load, after_store}
 use Rattle.shared_words.specs.declared.layout.TheConstants.{BLOCK_WORDS, FIRST_WORD, PAGE_BLOCKS, PAGE_WORDS}
 use Rattle.shared_words.specs.declared.mapped_page.MappedPage.{MappedPage}
@@ -103,9 +103,9 @@ below_more block page before bytes xs ys below here offset off lt differs = ⊎_
 
 -- the changes of the pages before one
 abbrev pub HasPagesBelow : (end : ℕ) (before pages : List Page) → List Stored → Type 0
-HasPagesBelow end before pages stored = (index : ℕ) → index < end → HasChanges index (bytes_at before index) (bytes_at pages index) stored
+HasPagesBelow end before pages stored = (index : ℕ) → index < end → HasChanges index (page_bytes_at before index) (page_bytes_at pages index) stored
 
-pub pages_more : (end : ℕ) (before pages : List Page) (old bytes : List ℕ) (xs ys : List Stored) → old ≡ bytes_at before end → bytes ≡ bytes_at pages end
+pub pages_more : (end : ℕ) (before pages : List Page) (old bytes : List ℕ) (xs ys : List Stored) → old ≡ page_bytes_at before end → bytes ≡ page_bytes_at pages end
     → HasPagesBelow end before pages xs → HasChanges end old bytes ys → HasPagesBelow (end + 1) before pages (xs ++ ys)
 pages_more end before pages old bytes xs ys old_is bytes_are below here index lt offset off differs = ⊎_elim
     (λ (low : index < end). has_left ((FIRST_WORD + PAGE_WORDS * index) + offset / 4) xs ys (below index low offset off differs))
@@ -113,8 +113,8 @@ pages_more end before pages old bytes xs ys old_is bytes_are below here index lt
     let is : end ≡ index = omega arith in
     has_at ((FIRST_WORD + PAGE_WORDS * index) + offset / 4) ((FIRST_WORD + PAGE_WORDS * end) + offset / 4) (xs ++ ys) (omega arith)
     (has_right ((FIRST_WORD + PAGE_WORDS * end) + offset / 4) xs ys
-    (here offset off (λ same. differs (subst (λ (bs : List ℕ). (offset < length bs) × (get_or bs offset 0 ≡ get_or (bytes_at pages index) offset 0)) (old_is ∙ ap (bytes_at before) is)
-    (same.0, same.1 ∙ ap (λ (bs : List ℕ). get_or bs offset 0) (bytes_are ∙ ap (bytes_at pages) is)))))))
+    (here offset off (λ same. differs (subst (λ (bs : List ℕ). (offset < length bs) × (get_or bs offset 0 ≡ get_or (page_bytes_at pages index) offset 0)) (old_is ∙ ap (page_bytes_at before) is)
+    (same.0, same.1 ∙ ap (λ (bs : List ℕ). get_or bs offset 0) (bytes_are ∙ ap (page_bytes_at pages) is)))))))
     (cases_lt index end)
 
 -- ---- words of blocks and pages
@@ -177,16 +177,16 @@ pub copied_skip : (mapped : List MappedPage) (marked : List Bool) (block : ℕ) 
 copied_skip mapped marked block before after unset here = record { blocks = here.blocks; are_marked = here.are_marked ∙ sym (skip_below marked block unset); whole = here.whole; after_is = here.after_is }
 
 pub copied_more : (mapped : List MappedPage) (marked : List Bool) (block : ℕ) (before after new : List Page) (bytes : List ℕ) → is_marked marked block ≡ true → length bytes ≡ 4 * BLOCK_WORDS
-    → AreCopied mapped marked block before after → new ≡ overwritten (block_address mapped block) bytes after → AreCopied mapped marked (block + 1) before new
+    → AreCopied mapped marked block before after → new ≡ pages_overwritten (block_address mapped block) bytes after → AreCopied mapped marked (block + 1) before new
 copied_more mapped marked block before after new bytes set_here whole here is = record {
   blocks = (block, bytes) ∷ here.blocks;
   are_marked = ap (λ (bs : List ℕ). block ∷ bs) here.are_marked ∙ sym (more_below marked block set_here);
   whole = All-cons (λ (b : ℕ × List ℕ). length b.1 ≡ 4 * BLOCK_WORDS) (block, bytes) here.blocks whole here.whole;
-  after_is = is ∙ ap (overwritten (block_address mapped block) bytes) here.after_is;
+  after_is = is ∙ ap (pages_overwritten (block_address mapped block) bytes) here.after_is;
 }
 
 -- what writing a range leaves
 pub overwritten_is : (start address : ℕ) (bytes : List ℕ) (old new : List Page) (done : Bool) → address ≡ start → done ≡ is_some (bytes_with 2 old address (length bytes))
-    → new ≡ (if done then put_bytes address bytes old else old) → new ≡ overwritten start bytes old
+    → new ≡ (if done then put_bytes address bytes old else old) → new ≡ pages_overwritten start bytes old
 overwritten_is start address bytes old new done at answer is =
-    is ∙ (ap (λ (b : Bool). if b then put_bytes address bytes old else old) answer ∙ ap (λ (a : ℕ). overwritten a bytes old) at)
+    is ∙ (ap (λ (b : Bool). if b then put_bytes address bytes old else old) answer ∙ ap (λ (a : ℕ). pages_overwritten a bytes old) at)

@@ -7,7 +7,7 @@ use Rattle.std.proofs.lemmas.List.Elements.{All-append, All-cons, All-nil}
 use Rattle.std.proofs.Math.Seq.{get_or-append_seam}
 use Rattle.std.proofs.Math.ListN.{get_or-append}
 use Rattle.sync_hints.specs.declared.hints.Sc.{Sc}
-use Rattle.shared_words.specs.Logged.{AreBelow, AreInOrder, IsLog, IsNext}
+use Rattle.shared_words.specs.Logged.{AreBelow, AreInOrder, IsLog, IsNextTicket}
 
 all_first : (ts : List ℕ) (t n : ℕ) → All (λ k. k < n) (ts ++ t ∷ []) → All (λ k. k < n) ts
 all_first ts t n h k d lt = let e = get_or-append ts (t ∷ []) d k lt in let b = h k d (omega (arith, length-append ts (t ∷ []))) in omega (arith, e, b)
@@ -21,7 +21,7 @@ log_none ts = record { in_order = λ i j d le lt. absurd (omega arith); bounded 
 pub log_ticket : (ts : List ℕ) (t : ℕ) (es : List (ℕ × Sc)) → IsLog ts es → IsLog (ts ++ t ∷ []) es
 log_ticket ts t es log = record { in_order = log.in_order; bounded = λ n h. log.bounded n (all_first ts t n h) }
 
-pub next_ticket : (ts : List ℕ) (t : ℕ) (es : List (ℕ × Sc)) → IsLog ts es → All (λ k. k < t) ts → IsNext t (ts ++ t ∷ []) es
+pub next_ticket : (ts : List ℕ) (t : ℕ) (es : List (ℕ × Sc)) → IsLog ts es → All (λ k. k < t) ts → IsNextTicket t (ts ++ t ∷ []) es
 next_ticket ts t es log above = record { above = log.bounded t above; taken = λ n h. last_of ts t n h }
 
 in_order_more : (es : List (ℕ × Sc)) (e : ℕ × Sc) → AreInOrder es → AreBelow (e.0 + 1) es → AreInOrder (es ++ e ∷ [])
@@ -40,14 +40,14 @@ in_order_more es e up below i j d le lt =
 below_more : (es : List (ℕ × Sc)) (e : ℕ × Sc) (n : ℕ) → AreBelow n es → e.0 < n → AreBelow n (es ++ e ∷ [])
 below_more es e n below lt = All-append (λ (x : ℕ × Sc). x.0 < n) es (e ∷ []) below (All-cons (λ (x : ℕ × Sc). x.0 < n) e [] lt (All-nil (λ (x : ℕ × Sc). x.0 < n)))
 
-pub log_more : (ts : List ℕ) (es : List (ℕ × Sc)) (t : ℕ) (sc : Sc) → IsLog ts es → IsNext t ts es → IsLog ts (es ++ (t, sc) ∷ [])
+pub log_more : (ts : List ℕ) (es : List (ℕ × Sc)) (t : ℕ) (sc : Sc) → IsLog ts es → IsNextTicket t ts es → IsLog ts (es ++ (t, sc) ∷ [])
 log_more ts es t sc log next = record {
   in_order = in_order_more es (t, sc) log.in_order (λ k d lt. (let b = next.above k d lt in omega arith));
   bounded = λ n h. below_more es (t, sc) n (log.bounded n h) (next.taken n h);
 }
 
 -- an entry more, after others may have got its ticket
-pub log_won : (ts : List ℕ) (es moved : List (ℕ × Sc)) (t : ℕ) (sc : Sc) → IsLog ts es → IsNext t ts es → AreInOrder moved
+pub log_won : (ts : List ℕ) (es moved : List (ℕ × Sc)) (t : ℕ) (sc : Sc) → IsLog ts es → IsNextTicket t ts es → AreInOrder moved
     → ((n : ℕ) → AreBelow n es → t < n → AreBelow n moved) → IsLog ts (moved ++ (t, sc) ∷ [])
 log_won ts es moved t sc log next up below = record {
   in_order = in_order_more moved (t, sc) up (below (t + 1) (λ k d lt. (let b = next.above k d lt in omega arith)) (omega arith));

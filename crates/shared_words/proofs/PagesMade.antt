@@ -7,13 +7,13 @@ use Rattle.std.proofs.lemmas.List.{get_or-map, get_or-take, length-map, length-t
 use Rattle.std.proofs.Math.Seq.{get_or-append_seam}
 use Rattle.std.proofs.Math.ListN.{get_or-append}
 use Rattle.dp_base.specs.declared.page.Page.{Page}
-use Rattle.shared_words.specs.Layout.{AreMapped, HasWords, byte_at, mapped_page}
+use Rattle.shared_words.specs.Layout.{AreMapped, HasPageWords, byte_at, mapped_page}
 use Rattle.shared_words.specs.declared.mapped_page.MappedPage.{MappedPage}
 
-pub none_yet : (mapped : List MappedPage) (words : List ℕ) → HasWords (take 0 mapped) words []
+pub none_yet : (mapped : List MappedPage) (words : List ℕ) → HasPageWords (take 0 mapped) words []
 none_yet mapped words = record { mapped_same = refl; bytes = λ index offset d lt _. absurd (omega arith) }
 
-pages_so_far : (mapped : List MappedPage) (words : List ℕ) (pages : List Page) (index : ℕ) → index ≤ length mapped → HasWords (take index mapped) words pages → length pages ≡ index
+pages_so_far : (mapped : List MappedPage) (words : List ℕ) (pages : List Page) (index : ℕ) → index ≤ length mapped → HasPageWords (take index mapped) words pages → length pages ≡ index
 pages_so_far mapped words pages index within has =
     let a = length-map pages mapped_page in let b = length-take-le index mapped within in let c : length (map mapped_page pages) ≡ length (take index mapped) = ap length has.mapped_same in omega arith
 
@@ -26,7 +26,7 @@ rises ns rising k (suc d) lt =
     omega (arith, before, last, ap (λ n. get_or ns n 0) next)
 
 pub above : (mapped : List MappedPage) (words : List ℕ) (pages : List Page) (index : ℕ) (s z : MappedPage) → AreMapped mapped → index < length mapped → get_or mapped index z ≡ s
-    → HasWords (take index mapped) words pages → All (λ p. p.number < s.number) pages
+    → HasPageWords (take index mapped) words pages → All (λ p. p.number < s.number) pages
 above mapped words pages index s z are within here has k d lt =
     let n = pages_so_far mapped words pages index (omega arith) has in
     let x : MappedPage = mapped_page d in
@@ -42,13 +42,13 @@ above mapped words pages index s z are within here has k d lt =
     let less = rises ns are.rising k (index - k - 1) (omega arith) in
     omega (arith, less, ap (λ i. get_or ns i 0) far)
 
-pub room : (mapped : List MappedPage) (words : List ℕ) (pages : List Page) (index : ℕ) → AreMapped mapped → index < length mapped → HasWords (take index mapped) words pages → length pages < 1024
+pub room : (mapped : List MappedPage) (words : List ℕ) (pages : List Page) (index : ℕ) → AreMapped mapped → index < length mapped → HasPageWords (take index mapped) words pages → length pages < 1024
 room mapped words pages index are within has = let n = pages_so_far mapped words pages index (omega arith) has in let few = are.few in omega arith
 
 pub has_more : (mapped : List MappedPage) (words : List ℕ) (pages : List Page) (index : ℕ) (s z : MappedPage) (bytes rest : List ℕ) → length bytes ≡ 4096 → index < length mapped → get_or mapped index z ≡ s
-    → HasWords (take index mapped) words pages
+    → HasPageWords (take index mapped) words pages
     → ((k : ℕ) → k < 4096 → get_or bytes k 0 ≡ byte_at words index k)
-    → HasWords (take (index + 1) mapped) words (pages ++ record { number = s.number; flags = s.flags; bytes = bytes ++ rest } ∷ [])
+    → HasPageWords (take (index + 1) mapped) words (pages ++ record { number = s.number; flags = s.flags; bytes = bytes ++ rest } ∷ [])
 has_more mapped words pages index s z bytes rest whole within here has are_bytes =
     let n = pages_so_far mapped words pages index (omega arith) has in
     let p : Page = record { number = s.number; flags = s.flags; bytes = bytes ++ rest } in

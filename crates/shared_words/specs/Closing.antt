@@ -3,7 +3,7 @@ use Rattle.std.specs.Prelude.{◌≡◌, ℕ, List, length}
 use mathlib.Core.Option.{some}
 use lib.ListN.{get_elem?}
 use Rattle.dp_base.specs.declared.page.Page.{Page}
-use Rattle.shared_words.specs.Layout.{HasWords}
+use Rattle.shared_words.specs.Layout.{HasPageWords}
 use Rattle.shared_words.specs.Rule.{AreRuled}
 use Rattle.shared_words.specs.declared.mapped_page.MappedPage.{MappedPage}
 use Rattle.shared_words.specs.declared.view.View.{View}
@@ -16,4 +16,4 @@ pub record ClosesTo (mapped : List MappedPage) (start : List ℕ) (count : ℕ) 
   pub seat : ℕ
   pub known : get_elem? views seat ≡ some v
   pub sized : length words ≡ count
-  pub pages_are : HasWords mapped words pages
+  pub pages_are : HasPageWords mapped words pages

@@ -42,13 +42,13 @@ abbrev pub block_address : List MappedPage → (block : ℕ) → ℕ
 block_address mapped block = PAGE_BYTES * (slice_index_or mapped (block / PAGE_BLOCKS) (record { number = 0; flags = 0 })).number + 4 * BLOCK_WORDS * (block % PAGE_BLOCKS)
 
 -- bytes written over those of a range, if each of them may be written
-abbrev pub overwritten : (address : ℕ) → List ℕ → List Page → List Page
-overwritten address bytes pages = if is_some (bytes_with 2 pages address (length bytes)) then put_bytes address bytes pages else pages
+abbrev pub pages_overwritten : (address : ℕ) → List ℕ → List Page → List Page
+pages_overwritten address bytes pages = if is_some (bytes_with 2 pages address (length bytes)) then put_bytes address bytes pages else pages
 
 -- blocks and their bytes, written over those of pages, the last one first in the list
 abbrev pub with_blocks : List MappedPage → List (ℕ × List ℕ) → List Page → List Page
 with_blocks mapped [] pages = pages
-with_blocks mapped (b ∷ blocks) pages = overwritten (block_address mapped b.0) b.1 (with_blocks mapped blocks pages)
+with_blocks mapped (b ∷ blocks) pages = pages_overwritten (block_address mapped b.0) b.1 (with_blocks mapped blocks pages)
 
 -- Pages, and the same after the marked blocks were written to: each once, in order, 256 bytes of it.
 pub record AreCopied (mapped : List MappedPage) (marked : List Bool) (end : ℕ) (before after : List Page) : Type 0 where
@@ -83,8 +83,8 @@ pub record HasWord (word : ℕ) (stored : List Stored) : Type 0 where
   pub is : (d : Stored) → (slice_index_or stored index d).word ≡ word
 
 -- the bytes of the page at an index
-abbrev pub bytes_at : List Page → (index : ℕ) → List ℕ
-bytes_at pages index = unwrap_or (option_map (λ p. p.bytes) (slice_get pages index)) []
+abbrev pub page_bytes_at : List Page → (index : ℕ) → List ℕ
+page_bytes_at pages index = unwrap_or (option_map (λ p. p.bytes) (slice_get pages index)) []
 
 -- an offset at which these bytes aren't as they were before
 abbrev pub Differs : (before bytes : List ℕ) (offset : ℕ) → Type 0
@@ -105,7 +105,7 @@ HasEachWord first count stored = (i : ℕ) → i < count → HasWord (first + i)
 
 -- each word of these pages in which a byte differs was stored
 abbrev pub HasAllChanges : (before pages : List Page) → List Stored → Type 0
-HasAllChanges before pages stored = (index : ℕ) → index < length pages → HasChanges index (bytes_at before index) (bytes_at pages index) stored
+HasAllChanges before pages stored = (index : ℕ) → index < length pages → HasChanges index (page_bytes_at before index) (page_bytes_at pages index) stored
 
 -- a seat that has stored words: this holds of each, and that of all of them. It has the same tickets and the same budget
 pub record OnlyStores (P : Stored → Type 0) (Q : List Stored → Type 0) (before after : View) : Type 0 where

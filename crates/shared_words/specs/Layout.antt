@@ -63,10 +63,10 @@ abbrev pub byte_at : List ℕ → (index offset : ℕ) → ℕ
 byte_at words index offset = word_byte (slice_index words ((FIRST_WORD + PAGE_WORDS * index) + offset / 4)) (offset % 4)
 
 -- the bytes of the first pages are those of these words
-abbrev pub HasBytes : (words : List ℕ) (count : ℕ) (pages : List Page) → Type 0
-HasBytes words count pages = (index offset : ℕ) (d : Page) → index < count → offset < PAGE_BYTES → slice_index (slice_index_or pages index d).bytes offset ≡ byte_at words index offset
+abbrev pub HasPageBytes : (words : List ℕ) (count : ℕ) (pages : List Page) → Type 0
+HasPageBytes words count pages = (index offset : ℕ) (d : Page) → index < count → offset < PAGE_BYTES → slice_index (slice_index_or pages index d).bytes offset ≡ byte_at words index offset
 
 -- pages with these numbers and flags, whose bytes are those of these words
-pub record HasWords (mapped : List MappedPage) (words : List ℕ) (pages : List Page) : Type 0 where
+pub record HasPageWords (mapped : List MappedPage) (words : List ℕ) (pages : List Page) : Type 0 where
   pub mapped_same : map mapped_page pages ≡ mapped
-  pub bytes : HasBytes words (length pages) pages
+  pub bytes : HasPageBytes words (length pages) pages

@@ -15,6 +15,6 @@ pub record IsLog (tickets : List ℕ) (entries : List (ℕ × Sc)) : Type 0 wher
   pub bounded : (n : ℕ) → All (λ t. t < n) tickets → AreBelow n entries
 
 -- a ticket of the seat that is above those of the entries
-pub record IsNext (ticket : ℕ) (tickets : List ℕ) (entries : List (ℕ × Sc)) : Type 0 where
+pub record IsNextTicket (ticket : ℕ) (tickets : List ℕ) (entries : List (ℕ × Sc)) : Type 0 where
   pub above : AreBelow ticket entries
   pub taken : (n : ℕ) → All (λ t. t < n) tickets → ticket < n

@@ -2,7 +2,7 @@
 ghost use Rattle.std.specs.Prelude.{◌≡◌, ℕ, ◌+◌, ◌*◌, ◌/◌, ◌%◌, ◌<◌, ◌≤◌, IfOk, length, slice_index};
 ghost use Rattle.core.specs.Mem.Slots.{slots_items, slots_len, IsFull};
 ghost use Rattle.shared_words.specs.Closing.{ClosesTo};
-ghost use Rattle.shared_words.specs.Layout.{AreMapped, HasWords, word_byte};
+ghost use Rattle.shared_words.specs.Layout.{AreMapped, HasPageWords, word_byte};
 ghost use Rattle.shared_words.specs.Rule.{view_of};
 ghost use Rattle.shared_words.specs.Words.{IsSeatOf, pages_of, start_of, table_of};
 ghost use Rattle.shared_words.specs.declared.layout.TheConstants.{FIRST_WORD, PAGE_WORDS};
@@ -46,7 +46,7 @@ fn make_pages(
     requires sized { slots_len closed.now.words ≡ FIRST_WORD + PAGE_WORDS * length mapped.now }
     requires full { IsFull closed.now.words }
     requires mapped { AreMapped mapped.now }
-    ensures { IfOk result (λ pages. HasWords mapped.now (slots_items closed.now.words) pages) }
+    ensures { IfOk result (λ pages. HasPageWords mapped.now (slots_items closed.now.words) pages) }
 {
     let mut pages = Pages::new(alloc)?;
     let mut bytes = [0; 4096];

@@ -2,7 +2,7 @@
 ghost use Rattle.std.specs.Prelude.{◌≡◌, ◌↔◌, ◌+◌, ◌*◌, ◌<◌, ◌≤◌, All, IfOk, IsTrue, List, OnOk, false, length, map, vec_len};
 ghost use Rattle.dp_base.specs.declared.limits.TheConstants.{PAGE_BYTES};
 ghost use Rattle.dp_base.specs.declared.page.Page.{Page};
-ghost use Rattle.shared_words.specs.Copied.{AreCopied, AreMarksOf, HasAllChanges, HasChanges, HasChangesIn, HasEachWord, IsStoredIn, IsWordOf, OnlyLoads, OnlyStores, block_address, bytes_at};
+ghost use Rattle.shared_words.specs.Copied.{AreCopied, AreMarksOf, HasAllChanges, HasChanges, HasChangesIn, HasEachWord, IsStoredIn, IsWordOf, OnlyLoads, OnlyStores, block_address, page_bytes_at};
 ghost use Rattle.shared_words.specs.Layout.{mapped_page};
 ghost use Rattle.shared_words.specs.Rule.{view_of};
 ghost use Rattle.shared_words.specs.Words.{IsSeatOf, pages_of, table_of};
@@ -128,7 +128,7 @@ impl SharedWords {
             let Some(page) = pages.at(index) else {
                 return;
             };
-            self.store_changes(seat, index, bytes_at(before, index), page.bytes);
+            self.store_changes(seat, index, page_bytes_at(before, index), page.bytes);
         }
     }
 
@@ -185,8 +185,8 @@ impl SharedWords {
 }
 
 // The bytes of the page at an index. None if there is no such page.
-fn bytes_at(pages: &Pages, index: usize) -> &[u8]
-    ensures { result.now ≡ bytes_at pages.now index }
+fn page_bytes_at(pages: &Pages, index: usize) -> &[u8]
+    ensures { result.now ≡ page_bytes_at pages.now index }
 {
     match pages.at(index) {
         Some(page) => page.bytes,

@@ -1,6 +1,6 @@
 // Words made of pages.
 ghost use Rattle.std.specs.Prelude.{◌≡◌, ℕ, ◌+◌, ◌*◌, ◌/◌, ◌%◌, ◌<◌, ◌≤◌, ◌^◌, All, IfOk, length, map, slice_index, vec_len};
-ghost use Rattle.shared_words.specs.Layout.{HasBytes, HasWords, mapped_page, word_byte};
+ghost use Rattle.shared_words.specs.Layout.{HasPageBytes, HasPageWords, mapped_page, word_byte};
 ghost use Rattle.shared_words.specs.Rule.{all_tickets, view_of};
 ghost use Rattle.shared_words.specs.Words.{IsSeatOf, pages_of, start_of};
 ghost use Rattle.shared_words.specs.declared.layout.TheConstants.{FIRST_WORD, PAGE_WORDS};
@@ -24,7 +24,7 @@ impl SharedWords {
         ensures seat { IfOk result (λ r. IsSeatOf r.0 r.1) }
         ensures view { IfOk result (λ r. view_of r.1 ≡ all_tickets) }
         ensures mapped { IfOk result (λ r. pages_of r.0 ≡ map mapped_page pages.now) }
-        ensures words { IfOk result (λ r. HasWords (pages_of r.0) (start_of r.0) pages.now) }
+        ensures words { IfOk result (λ r. HasPageWords (pages_of r.0) (start_of r.0) pages.now) }
     {
         let mapped = read_mapped(alloc, pages)?;
         // Its clause bounds the number of pages.
@@ -66,7 +66,7 @@ fn read_words(alloc: Global, pages: &Pages, count: usize) -> Result<Vec<u64>, Ou
     ensures small { IfOk result (λ words. All (λ w. w < 2 ^ 32) words.items) }
     ensures sized { IfOk result (λ words. length words.items ≡ FIRST_WORD + PAGE_WORDS * count) }
     ensures no_tickets { IfOk result (λ words. slice_index words.items 0 ≡ 0) }
-    ensures words { IfOk result (λ words. HasBytes words.items count pages.now) }
+    ensures words { IfOk result (λ words. HasPageBytes words.items count pages.now) }
 {
     let mut words = vec![in alloc; 0; FIRST_WORD + PAGE_WORDS * count]?;
     fill_pages(&mut words, pages, count);
@@ -79,7 +79,7 @@ fn fill_pages(words: &mut [u64], pages: &Pages, count: usize)
     requires small { All (λ w. w < 2 ^ 32) words.old }
     ensures small { All (λ w. w < 2 ^ 32) words.new }
     ensures ticket_word { slice_index words.new 0 ≡ slice_index words.old 0 }
-    ensures words { HasBytes words.new count pages.now }
+    ensures words { HasPageBytes words.new count pages.now }
 {
     for index in 0..count {
         match pages.at(index) {

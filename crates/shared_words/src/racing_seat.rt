@@ -1,7 +1,7 @@
 // A seat of a racing thread, and its log.
 ghost use Rattle.std.specs.Prelude.{◌≡◌, ◌+◌, ◌*◌, ◌<◌, ◌≤◌, ◌^◌, ℕ, [], IfSome, OnOk, vec_capacity, vec_len};
 ghost use Rattle.shared_words.specs.Copied.{AreMarked};
-ghost use Rattle.shared_words.specs.Logged.{AreBelow, AreInOrder, IsLog, IsNext};
+ghost use Rattle.shared_words.specs.Logged.{AreBelow, AreInOrder, IsLog, IsNextTicket};
 ghost use Rattle.shared_words.specs.Rule.{view_of};
 ghost use Rattle.shared_words.specs.Words.{IsGuestWord, IsPageStart, IsSeatAt, table_of};
 ghost use Rattle.shared_words.specs.declared.layout.TheConstants.{BLOCK_WORDS, FIRST_WORD};
@@ -135,7 +135,7 @@ impl<'a, J: Naming> RacingSeat<'a, J> {
     #[tactic(auto, using(crate::proofs::Logs::log_ticket, crate::proofs::Logs::next_ticket))]
     pub(crate) fn ticket(&mut self) -> Option<u64>
         ensures entries { self.new.entries ≡ self.old.entries }
-        ensures next { IfSome result (λ ticket. IsNext ticket (view_of self.new.seat).tickets self.new.entries.items) }
+        ensures next { IfSome result (λ ticket. IsNextTicket ticket (view_of self.new.seat).tickets self.new.entries.items) }
     {
         if self.tickets_left == 0 {
             return None;
@@ -162,7 +162,7 @@ impl<'a, J: Naming> RacingSeat<'a, J> {
     #[tactic(auto, using(crate::proofs::Logs::log_more))]
     pub(crate) fn note(&mut self, ticket: u64, sc: Sc)
         requires room { vec_len self.old.entries < vec_capacity self.old.entries }
-        requires next { IsNext ticket (view_of self.old.seat).tickets self.old.entries.items }
+        requires next { IsNextTicket ticket (view_of self.old.seat).tickets self.old.entries.items }
     {
         self.entries.push_reserved((ticket, sc));
     }
@@ -172,7 +172,7 @@ impl<'a, J: Naming> RacingSeat<'a, J> {
     #[tactic(auto, using(crate::proofs::Logs::log_won))]
     pub(crate) fn note_won(&mut self, ticket: u64, reserved: usize)
         requires room { vec_len self.old.entries < vec_capacity self.old.entries }
-        requires next { IsNext ticket (view_of self.old.seat).tickets self.old.entries.items }
+        requires next { IsNextTicket ticket (view_of self.old.seat).tickets self.old.entries.items }
     {
         move_entry(&mut self.entries, reserved, ticket);
         self.entries.push_reserved((ticket, Sc::Won));

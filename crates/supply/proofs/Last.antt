@@ -2,7 +2,7 @@
 use Rattle.std.proofs.Common.{◌≡◌, ◌≤◌, ◌+◌, ◌-◌, ◌∙◌, ℕ, List, ◌++◌, length, take, drop, Some, ap, sym, arith, length-append}
 use Rattle.std.proofs.lemmas.List.{drop-drop, drop_all, drop-append-le}
 use Rattle.std.proofs.lemmas.Bool.Decides.{nat_tests}
-use Rattle.supply.specs.Supplied.{Supplied, HasByte, IsLastOf, answer_at, end_of, refilled, unfilled}
+use Rattle.supply.specs.Supplied.{Supplied, HasByte, IsLastOf, window_answer, end_of, refilled, unfilled}
 
 pub last-refill : (s : Supplied) (given bytes : List ℕ) → IsLastOf s given → IsLastOf (refilled bytes s) (given ++ bytes)
 last-refill s given bytes is =
@@ -25,8 +25,8 @@ from-place s given place is behind =
     let sum : s.place + (place - s.place) ≡ place = omega arith in
     ap (drop (place - s.place)) (sym is.last) ∙ drop-drop (place - s.place) s.place given ∙ ap (λ (n : ℕ). drop n given) sum
 
-in-window : (place max : ℕ) (s : Supplied) → HasByte s place → answer_at place max s ≡ Some (take max (drop (place - s.place) s.window))
+in-window : (place max : ℕ) (s : Supplied) → HasByte s place → window_answer place max s ≡ Some (take max (drop (place - s.place) s.window))
 in-window place max s has = grind (arith, nat_tests)
 
-pub last-bytes : (place max : ℕ) (s : Supplied) (given : List ℕ) → IsLastOf s given → HasByte s place → answer_at place max s ≡ Some (take max (drop place given))
+pub last-bytes : (place max : ℕ) (s : Supplied) (given : List ℕ) → IsLastOf s given → HasByte s place → window_answer place max s ≡ Some (take max (drop place given))
 last-bytes place max s given is has = in-window place max s has ∙ ap (λ (l : List ℕ). Some (take max l)) (from-place s given place is has.0)

@@ -52,12 +52,12 @@ abbrev pub HasByte : Supplied → ℕ → Type 0
 HasByte s place = (s.place ≤ place) × (place < end_of s)
 
 -- the end of the input was seen at this place
-abbrev pub IsEnd : Supplied → ℕ → Type 0
-IsEnd s place = (s.ended ≡ true) × (place ≡ end_of s)
+abbrev pub IsInputEnd : Supplied → ℕ → Type 0
+IsInputEnd s place = (s.ended ≡ true) × (place ≡ end_of s)
 
 -- what a read of at most so many bytes at this place gets, if it is known
-abbrev pub answer_at : (place max : ℕ) → Supplied → Option (List ℕ)
-answer_at place max s =
+abbrev pub window_answer : (place max : ℕ) → Supplied → Option (List ℕ)
+window_answer place max s =
     if nat_le s.place place && nat_lt place (end_of s) then Some (take max (drop (place - s.place) s.window))
     else if s.ended && place == end_of s then Some []
     else None

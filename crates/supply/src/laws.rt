@@ -4,7 +4,7 @@
 ghost use Rattle.std.specs.Prelude.{◌≡◌, ◌<◌, ◌≤◌, ◌⊎◌, ◌↔◌, ◌-◌, ◌++◌, ℕ, List, [], true, false, Some, None, length, take, drop};
 ghost use Rattle.std.specs.List.{concat};
 ghost use Rattle.disk_model.specs.Input.{Input, is_at_end, taken, took};
-ghost use Rattle.supply.specs.Supplied.{Supplied, HasByte, IsEnd, IsLastOf, answer_at, empty, refilled, unfilled};
+ghost use Rattle.supply.specs.Supplied.{Supplied, HasByte, IsInputEnd, IsLastOf, window_answer, empty, refilled, unfilled};
 ghost use Rattle.supply.specs.Windows.{behind_takes, bytes_left, windows};
 
 /// The windows that takes give, one after another and joined, are what the input gave. With what is left behind them they
@@ -26,13 +26,13 @@ pub fn the_windows_are_the_input()
 /// asked for. It has at most as many bytes as were asked for.
 pub fn an_answer_is_of_the_window()
     ensures bytes { (place max : ℕ) (s : Supplied) → HasByte s place →
-        answer_at place max s ≡ Some (take max (drop (place - s.place) s.window)) }
+        window_answer place max s ≡ Some (take max (drop (place - s.place) s.window)) }
     ensures none { (place max : ℕ) (s : Supplied) →
-        (answer_at place max s ≡ None) ↔ ((¬ HasByte s place) × (¬ IsEnd s place)) }
+        (window_answer place max s ≡ None) ↔ ((¬ HasByte s place) × (¬ IsInputEnd s place)) }
     ensures empty { (place max : ℕ) (s : Supplied) →
-        (answer_at place max s ≡ Some []) ↔ (IsEnd s place ⊎ (HasByte s place × (max ≡ 0))) }
+        (window_answer place max s ≡ Some []) ↔ (IsInputEnd s place ⊎ (HasByte s place × (max ≡ 0))) }
     ensures few { (place max : ℕ) (s : Supplied) (bytes : List ℕ) →
-        answer_at place max s ≡ Some bytes → length bytes ≤ max }
+        window_answer place max s ≡ Some bytes → length bytes ≤ max }
 {}
 
 /// The window is always the last of the bytes that the input gave, so an answer is what the input has at that place: as many
@@ -43,7 +43,7 @@ pub fn an_answer_is_of_the_input()
         IsLastOf s given → IsLastOf (refilled bytes s) (given ++ bytes) }
     ensures fault { (s : Supplied) (given : List ℕ) → IsLastOf s given → IsLastOf (unfilled s) given }
     ensures bytes { (place max : ℕ) (s : Supplied) (given : List ℕ) → IsLastOf s given → HasByte s place →
-        answer_at place max s ≡ Some (take max (drop place given)) }
-    ensures end { (place : ℕ) (s : Supplied) (given : List ℕ) → IsLastOf s given → IsEnd s place →
+        window_answer place max s ≡ Some (take max (drop place given)) }
+    ensures end { (place : ℕ) (s : Supplied) (given : List ℕ) → IsLastOf s given → IsInputEnd s place →
         place ≡ length given }
 {}

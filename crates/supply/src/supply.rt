@@ -3,7 +3,7 @@ ghost use Rattle.std.specs.Prelude.{◌≡◌, ◌<◌, ◌≤◌, ◌^◌, ◌�
 ghost use Rattle.std.specs.Option.{option_copied};
 ghost use Rattle.disk_model.specs.Counts.{Rose};
 ghost use Rattle.disk_model.specs.Input.{IfInput, Took, Gave};
-ghost use Rattle.supply.specs.Supplied.{IsSame, IsSupply, answer_at, empty, end_of, refilled, unfilled};
+ghost use Rattle.supply.specs.Supplied.{IsSame, IsSupply, window_answer, empty, end_of, refilled, unfilled};
 
 use crate::MAX_ROOM;
 use disk_model::{Failed, Inlet};
@@ -89,7 +89,7 @@ impl Supply {
     /// Returns what a read of at most `max` bytes at a place of the input gets: as many bytes of the window as there are, none
     /// of them at the end of the input. Returns `None` if the window has no byte at this place and the end wasn't seen there.
     pub fn answer(&self, place: u64, max: u32) -> Option<&[u8]>
-        ensures answer { option_copied result ≡ answer_at place max self.now }
+        ensures answer { option_copied result ≡ window_answer place max self.now }
         ensures is_supply { IsSupply self.now }
     {
         let end = self.place + self.count as u64;

@@ -2,7 +2,7 @@
 ghost use Rattle.std.specs.Prelude.{◌≡◌};
 ghost use Rattle.journal_text.specs.declared.record.Rec.{Rec};
 ghost use Rattle.journal_text.specs.Reading.{first_bytes};
-ghost use Rattle.journal_text.specs.View.{IsNext};
+ghost use Rattle.journal_text.specs.View.{IsNextRecord};
 ghost use Rattle.test_journals.specs.Gate.{seen_as};
 
 use journal_text::{Rec, next_record};
@@ -25,7 +25,7 @@ pub enum Kind {
 /// What stands at the place `at`, where a record's gate is; the place of the next gate or of the end, 0 where the body is bad; and how
 /// many bytes the body has, 0 where there is none.
 pub fn seen(file: &[u8], at: u64) -> (Kind, u64, usize)
-    ensures { (found : Rec) × IsNext (first_bytes file.now) at found × (result ≡ seen_as found) }
+    ensures { (found : Rec) × IsNextRecord (first_bytes file.now) at found × (result ≡ seen_as found) }
 {
     match next_record(file, at) {
         Rec::Epoch { body, next } => (Kind::Epoch, next, body.len()),

@@ -31,7 +31,7 @@ struct Raced {
 
 // Runs a guest's threads for this many steps. Returns hints of what they did, or `None` if no epoch ends there: the guest has ended, or
 // none of its threads can go on.
-pub(crate) fn run_stretch<R: Threads + Sync, G: Gate + Sync>(
+pub(crate) fn race_stretch<R: Threads + Sync, G: Gate + Sync>(
     rt: &R,
     alloc: Global,
     gate: &G,

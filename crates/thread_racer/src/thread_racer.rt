@@ -5,8 +5,8 @@ ghost use Rattle.dp_base.specs.declared.limits.TheConstants.{MAX_WORKERS};
 use crate::gated::Gated;
 use crate::kept_words::KeptWords;
 use crate::pace::Pace;
-use crate::stretch::run_stretch;
-use crate::turns::can_step;
+use crate::stretch::race_stretch;
+use crate::turns::is_step_possible;
 use disk_model::{Gate, OpenGate};
 use dp_base::OutOfMemory;
 use guest_kernel::State;
@@ -116,7 +116,7 @@ impl<G: Gate + Sync> ThreadRacer<G> {
             return Ok(None);
         }
         let workers = self.workers;
-        let Some(hints) = run_stretch(
+        let Some(hints) = race_stretch(
             rt,
             alloc,
             &self.gate,
@@ -140,7 +140,7 @@ impl<G: Gate + Sync> ThreadRacer<G> {
 // with more input. Where a job was squashed the round ends at an offered state's number of steps, this one's at most. All else that
 // ends a round early ends the recording too.
 fn least_start_after(state: &State, supply: &Supply) -> u64 {
-    if can_step(state, supply) {
+    if is_step_possible(state, supply) {
         state.steps.saturating_add(1)
     } else {
         state.steps

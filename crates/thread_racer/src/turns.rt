@@ -48,7 +48,7 @@ fn answer_to(
 }
 
 // Whether a thread can take a step, as far as the input is known.
-pub(crate) fn can_step(state: &State, supply: &Supply) -> bool {
+pub(crate) fn is_step_possible(state: &State, supply: &Supply) -> bool {
     for index in 0..state.threads.len() {
         let can = match state.peek(Tid(index as u16 + 1)) {
             Peek::NotRunnable => false,

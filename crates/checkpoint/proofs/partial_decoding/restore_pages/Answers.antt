@@ -7,7 +7,7 @@ use Rattle.dp_base.specs.View.{page_of}
 use Rattle.guest_state.proofs.Many.{given, not_given}
 use Rattle.partial_mark.specs.Base.{bytes_over}
 use Rattle.partial_mark.specs.Partial.{PartialPage}
-use Rattle.partial_mark.specs.View.{IsRead, partial_page_of}
+use Rattle.partial_mark.specs.View.{IsPageRead, partial_page_of}
 use Rattle.checkpoint.proofs.Restoring.{Restoring, all_below, content_size, has_room, kept_page, lacking, look_from_here, next_page, page_is_there, restored_all, restoring_more}
 use Rattle.checkpoint.proofs.partial_decoding.restore_pages.Goals as goal
 
@@ -45,7 +45,7 @@ map_above-requires-clause-room c =
     let next = next_page c.args.count l.counter c.args.bytes.now c.args.base.now l.pages l.base_place l.rest.now l.invariant p c.in-Some.behind.now (omega arith) (given _ _ _ _ c.in-Some.is c.read_partial_page.ensures.page) in
     has_room c.args.count l.counter c.args.bytes.now c.args.base.now l.pages l.base_place l.rest.now l.invariant p c.in-Some.behind.now next
 
-read_content : (p : PartialPage) → IsRead p → IfSome p.content (λ bytes. length bytes ≡ PAGE_BYTES)
+read_content : (p : PartialPage) → IsPageRead p → IfSome p.content (λ bytes. length bytes ≡ PAGE_BYTES)
 read_content p is = is.content
 
 pub pages-preserved : goal.pages-preserved

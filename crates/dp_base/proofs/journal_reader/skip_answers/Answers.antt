@@ -1,6 +1,6 @@
 use Rattle.std.proofs.Common.{◌≡◌, None, rules}
 use Rattle.dp_base.specs.Journal.{answer_at}
-use Rattle.dp_base.specs.View.{answer_of}
+use Rattle.dp_base.specs.View.{answer_of_view}
 use Rattle.dp_base.proofs.Many.{no_answer, answer_more, none_further}
 use Rattle.dp_base.proofs.journal_reader.skip_answers.Goals as goal
 
@@ -14,4 +14,4 @@ returns-in_err-behind c =
     rw none (search rules)
 
 pub answers-preserved : goal.answers-preserved
-answers-preserved c = answer_more c.answers._index c.args.bytes.now c.answers.rest.now c.in_ok-behind.behind.now (answer_of c.in_ok-behind.field-0-0) c.answers.invariant (search rules)
+answers-preserved c = answer_more c.answers._index c.args.bytes.now c.answers.rest.now c.in_ok-behind.behind.now (answer_of_view c.in_ok-behind.field-0-0) c.answers.invariant (search rules)

@@ -1,7 +1,7 @@
 use Rattle.std.proofs.Common.{Err, ap, arith, ◌∙◌}
 use Rattle.std.proofs.lemmas.List.Elements.{recursion_from_All}
 use Rattle.std.proofs.lemmas.Result.{err_from_is_err_and}
-use Rattle.epoch_replay.specs.Stretches.{IsResult}
+use Rattle.epoch_replay.specs.Stretches.{IsPartResult}
 use Rattle.epoch_replay.proofs.Going.{so_far_moments}
 use Rattle.epoch_replay.proofs.window.play_window.Goals as goal
 
@@ -25,4 +25,4 @@ returns-in_default-run_jobs-clause-moments g c = λ reading first so_far. so_far
 pub take_all-requires-clause-results : goal.take_all-requires-clause-results
 take_all-requires-clause-results g c =
     let e = c.in-Ok-run_jobs.ensures in
-    recursion_from_All (IsResult c.args.file.now) c.in-Ok-run_jobs.results.items (λ i d small. e.each i d (omega (arith, small, e.len)))
+    recursion_from_All (IsPartResult c.args.file.now) c.in-Ok-run_jobs.results.items (λ i d small. e.each i d (omega (arith, small, e.len)))

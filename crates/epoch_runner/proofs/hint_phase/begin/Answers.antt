@@ -1,7 +1,7 @@
 use Rattle.std.proofs.Common.{◌≡◌, ◌+◌, ◌<◌, Bool, true, false, List, [], None, sym, ap, subst, ◌∙◌, cond}
 use Rattle.sync_hints.specs.declared.hints.SyncHint.{SyncHint}
 use Rattle.epoch_runner.specs.Hinted.{Following, any_left, at_entry, lefts}
-use Rattle.epoch_runner.specs.HintRun.{HintedSoFar, IsStopped, following_of, with_hand, without_hand}
+use Rattle.epoch_runner.specs.HintRun.{HintedSoFar, AreHintsOver, following_of, with_hand, without_hand}
 use Rattle.epoch_runner.specs.Trace.{traced}
 use Rattle.epoch_runner.proofs.Epochs.{nothing_done, untraced}
 use Rattle.epoch_runner.proofs.HintHands.{at_entry-left, followed_less, followed_so_far, followed_stops, hinted_start, so_far_by}
@@ -68,7 +68,7 @@ turns-preserved c =
     (subst (λ (o : List SyncHint). HintedSoFar start hints w bounds l.course.state l.course.slices (traced l.course.trace) l.course.left l.course.hand (following_of l.following o)) (sym c.as_slice-order.ensures) l.invariant.0) in (
       subst (λ (o : List SyncHint). HintedSoFar start hints w bounds n.state n.slices (traced n.trace) n.left n.hand (following_of g o)) c.as_slice-order.ensures
           (followed_so_far more start hints w bounds n.state n.slices (traced n.trace) l.course.left n.left n.hand (following_of g order) followed),
-      λ none. subst (λ (o : List SyncHint). IsStopped w n.state (traced n.trace) n.left (following_of g o)) c.as_slice-order.ensures
+      λ none. subst (λ (o : List SyncHint). AreHintsOver w n.state (traced n.trace) n.left (following_of g o)) c.as_slice-order.ensures
           (followed_stops more start hints w bounds n.state n.slices (traced n.trace) l.course.left n.left n.hand (following_of g order) followed none),
     )
 

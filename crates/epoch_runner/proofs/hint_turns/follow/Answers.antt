@@ -2,7 +2,7 @@ use Rattle.std.proofs.Common.{◌≡◌, ◌-◌, ◌≤◌, ℕ, List, length, 
 use Rattle.guest_kernel.specs.Answers.{bytes_read}
 use Rattle.guest_kernel.specs.State.{has_ended}
 use Rattle.epoch_runner.specs.Hinted.{HintedTurn, left_of, less}
-use Rattle.epoch_runner.specs.HintRun.{HasTaken, begins_by, following_of, with_steps}
+use Rattle.epoch_runner.specs.HintRun.{HasTakenHinted, begins_by, following_of, with_steps}
 use Rattle.epoch_runner.specs.SliceRun.{Traced}
 use Rattle.epoch_runner.specs.Trace.{traced}
 use Rattle.epoch_runner.proofs.HintHands.{not_over, so_far_by}
@@ -48,8 +48,8 @@ returns c = λ start hints bounds so_far.
     let begun = c.begin_slice.new.self in
     let within : steps ≤ course.left = omega (arith, c.in_ok-steps.ensures.within, c.min-limit.ensures, c.begin_slice.ensures.left) in
     let own : steps ≤ left_of f1.left turn.tid = omega (arith, c.in_ok-steps.ensures.within, c.min-limit.ensures, c.left_of.ensures) in
-    let taken : HasTaken w turn.tid turn.is_plain begun.state (traced course.trace) steps c.take.new.state (traced c.take.new.trace) =
-    subst (λ (t : Traced). HasTaken w turn.tid turn.is_plain begun.state t steps c.take.new.state (traced c.take.new.trace)) c.begin_slice.ensures.trace c.in_ok-steps.ensures.taken in
+    let taken : HasTakenHinted w turn.tid turn.is_plain begun.state (traced course.trace) steps c.take.new.state (traced c.take.new.trace) =
+    subst (λ (t : Traced). HasTakenHinted w turn.tid turn.is_plain begun.state t steps c.take.new.state (traced c.take.new.trace)) c.begin_slice.ensures.trace c.in_ok-steps.ensures.taken in
     let more = hinted_more c.turn_laws.ensures c.a_reservation_asks_for_nothing.ensures start hints w bounds course.state course.slices (traced course.trace) course.left course.hand f f1 so_far goes turn c.in-Some.ensures.some
     (omega arith) begun.state begun.slices begun.hand c.in_ok-begin_slice.ensures.hand steps c.take.new.state (traced c.take.new.trace) taken within own in
     let last = c.take-2.new.self in

@@ -13,40 +13,40 @@ use Rattle.epoch_runner.proofs.run.run_from.Goals as goal
 pub slices-init : goal.slices-init
 slices-init c = c.in_ok-course.ensures
 
-pub run_slice-requires-clause-alive : goal.run_slice-requires-clause-alive
-run_slice-requires-clause-alive c =
+pub take_slice-requires-clause-alive : goal.take_slice-requires-clause-alive
+take_slice-requires-clause-alive c =
     let l = c.slices in
     let w = c.args.supply.now in
     let so_far : EpochSoFar c.args.start c.args.hints.now w c.args.bounds l.slices l.left l.state (traced l.trace) (Some c.in-Some.tid) =
     subst (λ (o : Option Tid). EpochSoFar c.args.start c.args.hints.now w c.args.bounds l.slices l.left l.state (traced l.trace) o) c.in-Some.is l.invariant in
     (opens c.turn_laws.ensures c.run_laws.ensures c.a_reservation_asks_for_nothing.ensures c.args.start c.args.hints.now w c.args.bounds l.slices l.left l.state (traced l.trace) c.in-Some.tid so_far).is_open.alive
 
-pub run_slice-requires-clause-ready : goal.run_slice-requires-clause-ready
-run_slice-requires-clause-ready c =
+pub take_slice-requires-clause-ready : goal.take_slice-requires-clause-ready
+take_slice-requires-clause-ready c =
     let l = c.slices in
     let w = c.args.supply.now in
     let so_far : EpochSoFar c.args.start c.args.hints.now w c.args.bounds l.slices l.left l.state (traced l.trace) (Some c.in-Some.tid) =
     subst (λ (o : Option Tid). EpochSoFar c.args.start c.args.hints.now w c.args.bounds l.slices l.left l.state (traced l.trace) o) c.in-Some.is l.invariant in
     (opens c.turn_laws.ensures c.run_laws.ensures c.a_reservation_asks_for_nothing.ensures c.args.start c.args.hints.now w c.args.bounds l.slices l.left l.state (traced l.trace) c.in-Some.tid so_far).is_open.ready
 
-pub run_slice-requires-clause-little : goal.run_slice-requires-clause-little
-run_slice-requires-clause-little c =
+pub take_slice-requires-clause-little : goal.take_slice-requires-clause-little
+take_slice-requires-clause-little c =
     let l = c.slices in
     let w = c.args.supply.now in
     let so_far : EpochSoFar c.args.start c.args.hints.now w c.args.bounds l.slices l.left l.state (traced l.trace) (Some c.in-Some.tid) =
     subst (λ (o : Option Tid). EpochSoFar c.args.start c.args.hints.now w c.args.bounds l.slices l.left l.state (traced l.trace) o) c.in-Some.is l.invariant in
     (opens c.turn_laws.ensures c.run_laws.ensures c.a_reservation_asks_for_nothing.ensures c.args.start c.args.hints.now w c.args.bounds l.slices l.left l.state (traced l.trace) c.in-Some.tid so_far).is_open.little
 
-pub run_slice-requires-clause-little_read : goal.run_slice-requires-clause-little_read
-run_slice-requires-clause-little_read c =
+pub take_slice-requires-clause-little_read : goal.take_slice-requires-clause-little_read
+take_slice-requires-clause-little_read c =
     let l = c.slices in
     let w = c.args.supply.now in
     let so_far : EpochSoFar c.args.start c.args.hints.now w c.args.bounds l.slices l.left l.state (traced l.trace) (Some c.in-Some.tid) =
     subst (λ (o : Option Tid). EpochSoFar c.args.start c.args.hints.now w c.args.bounds l.slices l.left l.state (traced l.trace) o) c.in-Some.is l.invariant in
     (opens c.turn_laws.ensures c.run_laws.ensures c.a_reservation_asks_for_nothing.ensures c.args.start c.args.hints.now w c.args.bounds l.slices l.left l.state (traced l.trace) c.in-Some.tid so_far).is_open.little_read
 
-pub run_slice-requires-clause-some : goal.run_slice-requires-clause-some
-run_slice-requires-clause-some c =
+pub take_slice-requires-clause-some : goal.take_slice-requires-clause-some
+take_slice-requires-clause-some c =
     let l = c.slices in
     let w = c.args.supply.now in
     let so_far : EpochSoFar c.args.start c.args.hints.now w c.args.bounds l.slices l.left l.state (traced l.trace) (Some c.in-Some.tid) =
@@ -61,13 +61,13 @@ slices-preserved c =
     subst (λ (o : Option Tid). EpochSoFar c.args.start c.args.hints.now w c.args.bounds l.slices l.left l.state (traced l.trace) o) c.in-Some.is l.invariant in
     let tid = c.in-Some.tid in
     let steps = c.in_ok-steps.steps in
-    let after = c.run_slice.new.state in
-    let behind = traced c.run_slice.new.trace in
+    let after = c.take_slice.new.state in
+    let behind = traced c.take_slice.new.trace in
     let next = c.next_thread-next.result in
     let size : c.len.result ≡ length behind.output = omega (arith, c.len.ensures) in
     let next_is : begins_with next ≡ next_slice after w (length behind.output) (length (bytes_read behind.answers)) (l.left - steps) (tid.0 + 1) =
-    c.next_thread-next.ensures ∙ ap (λ n. next_slice after w n c.run_slice.new.trace.read (l.left - steps) (tid.0 + 1)) size
-    ∙ ap (λ n. next_slice after w (length behind.output) n (l.left - steps) (tid.0 + 1)) c.run_slice.new.trace.counted in
+    c.next_thread-next.ensures ∙ ap (λ n. next_slice after w n c.take_slice.new.trace.read (l.left - steps) (tid.0 + 1)) size
+    ∙ ap (λ n. next_slice after w (length behind.output) n (l.left - steps) (tid.0 + 1)) c.take_slice.new.trace.counted in
     let numbered : tid.0 < 2 ^ 16 = omega arith in
     let more = slice_more c.turn_laws.ensures c.run_laws.ensures c.a_reservation_asks_for_nothing.ensures c.args.start c.args.hints.now w c.args.bounds l.slices l.left l.state (traced l.trace) tid steps after behind next
     so_far c.in_ok-steps.ensures next_is numbered in

@@ -2,7 +2,7 @@ use Rattle.std.proofs.Common.{arith, refl, ◌∙◌, ◌<◌, sym}
 use Rattle.dp_base.specs.declared.limits.TheConstants.{PAGE_NUMBERS}
 use Rattle.guest_state.proofs.Many.{given, not_given}
 use Rattle.partial_mark.specs.Partial.{PartialPage}
-use Rattle.partial_mark.specs.View.{IsRead, partial_page_of}
+use Rattle.partial_mark.specs.View.{IsPageRead, partial_page_of}
 use Rattle.partial_mark.proofs.Skipping.{page_more, page_none, pages_all}
 use Rattle.partial_mark.proofs.scan.skip_pages.Goals as goal
 
@@ -11,7 +11,7 @@ returns-in_default c =
     let l = c.pages in
     sym (l.invariant ∙ page_none c.args.count l.counter l.all_rise l.least l.rest.now (omega arith) (not_given _ _ _ c.in_default.is c.read_partial_page.ensures.page))
 
-read_number : (p : PartialPage) → IsRead p → p.number < PAGE_NUMBERS
+read_number : (p : PartialPage) → IsPageRead p → p.number < PAGE_NUMBERS
 read_number p is = is.number
 
 pub overflow_add-least : goal.overflow_add-least

@@ -49,9 +49,9 @@ returns-in-Err-next-clause-moments g c = (if_err _ c.round-back.result.1 c.in-Er
 pub returns-clause-recorded : goal.returns-clause-recorded
 returns-clause-recorded g c =
     let l = c.rounds in
-    ended_so (record { guest = c.args.guest.now; tells = g.Q.Racer.tells c.args.racer; options = c.args.options; start = c.args.start; given = g.I.Inlet.input c.args.inlet.now; before = g.W.World.history c.args.world }) (g.I.Inlet.input l.inlet) (g.W.World.history l.world) (g.Q.Racer.tells l.recording.racer) l.recording.state l.supply l.recording.journal l.recording.tally l.recording.squashes l.invariant.so_far _ (sym c.ended.ensures ∙ c.rounds-test.false) c.tell-answer.result c.tell-answer.ensures.told c.tell-answer.ensures.history
+    ended_so (record { guest = c.args.guest.now; tells = g.Q.Racer.tells c.args.racer; options = c.args.options; start = c.args.start; given = g.I.Inlet.input c.args.inlet.now; before = g.W.World.history c.args.world }) (g.I.Inlet.input l.inlet) (g.W.World.history l.world) (g.Q.Racer.tells l.recording.racer) l.recording.state l.supply l.recording.journal l.recording.tally l.recording.squashes l.invariant.so_far _ (sym c.ended.ensures ∙ c.rounds-test.false) c.send_report-answer.result c.send_report-answer.ensures.told c.send_report-answer.ensures.history
 
 pub returns-clause-moments : goal.returns-clause-moments
 returns-clause-moments g c =
     let l = c.rounds in
-    ended_moments (record { guest = c.args.guest.now; tells = g.Q.Racer.tells c.args.racer; options = c.args.options; start = c.args.start; given = g.I.Inlet.input c.args.inlet.now; before = g.W.World.history c.args.world }) (g.I.Inlet.input l.inlet) (g.W.World.history l.world) (g.Q.Racer.tells l.recording.racer) l.recording.state l.supply l.recording.journal l.recording.tally l.recording.squashes l.invariant.so_far _ c.tell-answer.result c.tell-answer.ensures.told c.tell-answer.ensures.history
+    ended_moments (record { guest = c.args.guest.now; tells = g.Q.Racer.tells c.args.racer; options = c.args.options; start = c.args.start; given = g.I.Inlet.input c.args.inlet.now; before = g.W.World.history c.args.world }) (g.I.Inlet.input l.inlet) (g.W.World.history l.world) (g.Q.Racer.tells l.recording.racer) l.recording.state l.supply l.recording.journal l.recording.tally l.recording.squashes l.invariant.so_far _ c.send_report-answer.result c.send_report-answer.ensures.told c.send_report-answer.ensures.history

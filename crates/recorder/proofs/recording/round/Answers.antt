@@ -6,7 +6,7 @@ use Rattle.recorder.specs.declared.options.Options.{Options}
 use Rattle.recorder.specs.declared.record_fault.RecordFault.{RecordFault}
 use Rattle.recorder.specs.declared.record_fault.RecordFault.TheVariants as faults
 use Rattle.recorder.specs.declared.recording.Recording.{Recording}
-use Rattle.recorder.specs.declared.tally.Next.{Next}
+use Rattle.recorder.specs.declared.tally.AfterJudging.{AfterJudging}
 use Rattle.recorder.specs.Keeping.{SoFar}
 use Rattle.recorder.specs.Racing.{plan_of}
 use Rattle.recorder.specs.Taking.{Holding, outcome}
@@ -28,15 +28,15 @@ same_fault : {A : Type 0} (f g : RecordFault) → ◌≡◌ {A = Result A Record
 same_fault f g is = cc
 
 -- a device's fault isn't out of memory, so it is that of the last result
-by_input : {last : Result Next RecordFault} {f : RecordFault} → (f ≡ faults.OutOfMemory) ⊎ (last ≡ Err f) → f ≡ faults.InputFault → (last ≡ Err faults.InputFault → ⊥) → ⊥
+by_input : {last : Result AfterJudging RecordFault} {f : RecordFault} → (f ≡ faults.OutOfMemory) ⊎ (last ≡ Err f) → f ≡ faults.InputFault → (last ≡ Err faults.InputFault → ⊥) → ⊥
 by_input (inl memory) fault never = let bad : faults.OutOfMemory ≡ faults.InputFault = sym memory ∙ fault in absurd cc
 by_input (inr same) fault never = never (same ∙ ap (λ f. Err f) fault)
 
-by_disk : {last : Result Next RecordFault} {f : RecordFault} {P : Type 0} → (f ≡ faults.OutOfMemory) ⊎ (last ≡ Err f) → f ≡ faults.DiskFault → (last ≡ Err faults.DiskFault → P) → P
+by_disk : {last : Result AfterJudging RecordFault} {f : RecordFault} {P : Type 0} → (f ≡ faults.OutOfMemory) ⊎ (last ≡ Err f) → f ≡ faults.DiskFault → (last ≡ Err faults.DiskFault → P) → P
 by_disk (inl memory) fault rose = let bad : faults.OutOfMemory ≡ faults.DiskFault = sym memory ∙ fault in absurd cc
 by_disk (inr same) fault rose = rose (same ∙ ap (λ f. Err f) fault)
 
-by_sink : {last : Result Next RecordFault} {f : RecordFault} {P : Type 0} → (f ≡ faults.OutOfMemory) ⊎ (last ≡ Err f) → f ≡ faults.OutputFault → (last ≡ Err faults.OutputFault → P) → P
+by_sink : {last : Result AfterJudging RecordFault} {f : RecordFault} {P : Type 0} → (f ≡ faults.OutOfMemory) ⊎ (last ≡ Err f) → f ≡ faults.OutputFault → (last ≡ Err faults.OutputFault → P) → P
 by_sink (inl memory) fault rose = let bad : faults.OutOfMemory ≡ faults.OutputFault = sym memory ∙ fault in absurd cc
 by_sink (inr same) fault rose = rose (same ∙ ap (λ f. Err f) fault)
 
@@ -71,7 +71,7 @@ overflow_add-squashes g c =
 pub returns-in-Ok-outcome-clause-went : goal.returns-in-Ok-outcome-clause-went
 returns-in-Ok-outcome-clause-went g c = λ a is so_far.
     let hold : Committer g.row.W.Denot → Holding = λ k. record { history = g.W.World.history k.world; disk = g.W.World.disk_faults k.world; sink = g.W.World.sink_faults k.world; core = k.core; journal = k.journal; tally = k.tally; every = k.every } in
-    let last_of : Committer g.row.W.Denot → Result Next RecordFault = λ k. k.last in
+    let last_of : Committer g.row.W.Denot → Result AfterJudging RecordFault = λ k. k.last in
     let takes = take_laws c.an_answer_is_of_the_input.ensures.refill c.the_windows_are_the_input.ensures.left c.the_windows_are_the_input.ensures.end in
     let steps : StepLaws = record { ready = c.a_supply_lets_a_guest_step.ensures.ready; used_up = c.a_supply_lets_a_guest_step.ensures.used_up; refilled_ = c.a_supply_lets_a_guest_step.ensures.refilled; stamped = c.a_supply_lets_a_guest_step.ensures.stamped } in
     let went : is_err c.draw.result ≡ false = sym c.is_err.ensures.value ∙ c.if-is_err.false in
@@ -87,7 +87,7 @@ returns-in-Ok-outcome-clause-went g c = λ a is so_far.
 pub returns-in-Ok-outcome-clause-others : goal.returns-in-Ok-outcome-clause-others
 returns-in-Ok-outcome-clause-others g c =
     let hold : Committer g.row.W.Denot → Holding = λ k. record { history = g.W.World.history k.world; disk = g.W.World.disk_faults k.world; sink = g.W.World.sink_faults k.world; core = k.core; journal = k.journal; tally = k.tally; every = k.every } in
-    let last_of : Committer g.row.W.Denot → Result Next RecordFault = λ k. k.last in
+    let last_of : Committer g.row.W.Denot → Result AfterJudging RecordFault = λ k. k.last in
     let takes = take_laws c.an_answer_is_of_the_input.ensures.refill c.the_windows_are_the_input.ensures.left c.the_windows_are_the_input.ensures.end in
     let steps : StepLaws = record { ready = c.a_supply_lets_a_guest_step.ensures.ready; used_up = c.a_supply_lets_a_guest_step.ensures.used_up; refilled_ = c.a_supply_lets_a_guest_step.ensures.refilled; stamped = c.a_supply_lets_a_guest_step.ensures.stamped } in
     let went : is_err c.draw.result ≡ false = sym c.is_err.ensures.value ∙ c.if-is_err.false in
@@ -98,7 +98,7 @@ returns-in-Ok-outcome-clause-others g c =
 pub returns-in-Ok-outcome-clause-disk_count : goal.returns-in-Ok-outcome-clause-disk_count
 returns-in-Ok-outcome-clause-disk_count g c =
     let hold : Committer g.row.W.Denot → Holding = λ k. record { history = g.W.World.history k.world; disk = g.W.World.disk_faults k.world; sink = g.W.World.sink_faults k.world; core = k.core; journal = k.journal; tally = k.tally; every = k.every } in
-    let last_of : Committer g.row.W.Denot → Result Next RecordFault = λ k. k.last in
+    let last_of : Committer g.row.W.Denot → Result AfterJudging RecordFault = λ k. k.last in
     let takes = take_laws c.an_answer_is_of_the_input.ensures.refill c.the_windows_are_the_input.ensures.left c.the_windows_are_the_input.ensures.end in
     let steps : StepLaws = record { ready = c.a_supply_lets_a_guest_step.ensures.ready; used_up = c.a_supply_lets_a_guest_step.ensures.used_up; refilled_ = c.a_supply_lets_a_guest_step.ensures.refilled; stamped = c.a_supply_lets_a_guest_step.ensures.stamped } in
     let leaves = round_leaves g.Q.Racer.tells hold last_of steps takes c.a_round_commits_what_joins_on.ensures.starts c.requires.so_far.0 (g.I.Inlet.input c.args.inlet.now) (g.I.Inlet.input c.draw.new.inlet) c.args.recording.racer c.stream-committer.result.1 c.args.recording.state c.args.supply.now c.draw.new.supply c.args.recording.squashes c.plan_of-plan.result c.stream-committer.result.2 _ c.stream-committer.result.0 c.stream-committer.ensures refl c.in-Ok.ensures in
@@ -107,7 +107,7 @@ returns-in-Ok-outcome-clause-disk_count g c =
 pub returns-in-Ok-outcome-clause-sink_count : goal.returns-in-Ok-outcome-clause-sink_count
 returns-in-Ok-outcome-clause-sink_count g c =
     let hold : Committer g.row.W.Denot → Holding = λ k. record { history = g.W.World.history k.world; disk = g.W.World.disk_faults k.world; sink = g.W.World.sink_faults k.world; core = k.core; journal = k.journal; tally = k.tally; every = k.every } in
-    let last_of : Committer g.row.W.Denot → Result Next RecordFault = λ k. k.last in
+    let last_of : Committer g.row.W.Denot → Result AfterJudging RecordFault = λ k. k.last in
     let takes = take_laws c.an_answer_is_of_the_input.ensures.refill c.the_windows_are_the_input.ensures.left c.the_windows_are_the_input.ensures.end in
     let steps : StepLaws = record { ready = c.a_supply_lets_a_guest_step.ensures.ready; used_up = c.a_supply_lets_a_guest_step.ensures.used_up; refilled_ = c.a_supply_lets_a_guest_step.ensures.refilled; stamped = c.a_supply_lets_a_guest_step.ensures.stamped } in
     let leaves = round_leaves g.Q.Racer.tells hold last_of steps takes c.a_round_commits_what_joins_on.ensures.starts c.requires.so_far.0 (g.I.Inlet.input c.args.inlet.now) (g.I.Inlet.input c.draw.new.inlet) c.args.recording.racer c.stream-committer.result.1 c.args.recording.state c.args.supply.now c.draw.new.supply c.args.recording.squashes c.plan_of-plan.result c.stream-committer.result.2 _ c.stream-committer.result.0 c.stream-committer.ensures refl c.in-Ok.ensures in
@@ -116,7 +116,7 @@ returns-in-Ok-outcome-clause-sink_count g c =
 pub returns-in-Err-outcome-clause-stopped : goal.returns-in-Err-outcome-clause-stopped
 returns-in-Err-outcome-clause-stopped g c = λ a is so_far.
     let hold : Committer g.row.W.Denot → Holding = λ k. record { history = g.W.World.history k.world; disk = g.W.World.disk_faults k.world; sink = g.W.World.sink_faults k.world; core = k.core; journal = k.journal; tally = k.tally; every = k.every } in
-    let last_of : Committer g.row.W.Denot → Result Next RecordFault = λ k. k.last in
+    let last_of : Committer g.row.W.Denot → Result AfterJudging RecordFault = λ k. k.last in
     let takes = take_laws c.an_answer_is_of_the_input.ensures.refill c.the_windows_are_the_input.ensures.left c.the_windows_are_the_input.ensures.end in
     let steps : StepLaws = record { ready = c.a_supply_lets_a_guest_step.ensures.ready; used_up = c.a_supply_lets_a_guest_step.ensures.used_up; refilled_ = c.a_supply_lets_a_guest_step.ensures.refilled; stamped = c.a_supply_lets_a_guest_step.ensures.stamped } in
     let went : is_err c.draw.result ≡ false = sym c.is_err.ensures.value ∙ c.if-is_err.false in
@@ -130,7 +130,7 @@ returns-in-Err-outcome-clause-stopped g c = λ a is so_far.
 pub returns-in-Err-outcome-clause-others : goal.returns-in-Err-outcome-clause-others
 returns-in-Err-outcome-clause-others g c =
     let hold : Committer g.row.W.Denot → Holding = λ k. record { history = g.W.World.history k.world; disk = g.W.World.disk_faults k.world; sink = g.W.World.sink_faults k.world; core = k.core; journal = k.journal; tally = k.tally; every = k.every } in
-    let last_of : Committer g.row.W.Denot → Result Next RecordFault = λ k. k.last in
+    let last_of : Committer g.row.W.Denot → Result AfterJudging RecordFault = λ k. k.last in
     let takes = take_laws c.an_answer_is_of_the_input.ensures.refill c.the_windows_are_the_input.ensures.left c.the_windows_are_the_input.ensures.end in
     let steps : StepLaws = record { ready = c.a_supply_lets_a_guest_step.ensures.ready; used_up = c.a_supply_lets_a_guest_step.ensures.used_up; refilled_ = c.a_supply_lets_a_guest_step.ensures.refilled; stamped = c.a_supply_lets_a_guest_step.ensures.stamped } in
     let went : is_err c.draw.result ≡ false = sym c.is_err.ensures.value ∙ c.if-is_err.false in
@@ -141,7 +141,7 @@ returns-in-Err-outcome-clause-others g c =
 pub returns-in-Err-outcome-clause-input_cause : goal.returns-in-Err-outcome-clause-input_cause
 returns-in-Err-outcome-clause-input_cause g c = λ bad.
     let hold : Committer g.row.W.Denot → Holding = λ k. record { history = g.W.World.history k.world; disk = g.W.World.disk_faults k.world; sink = g.W.World.sink_faults k.world; core = k.core; journal = k.journal; tally = k.tally; every = k.every } in
-    let last_of : Committer g.row.W.Denot → Result Next RecordFault = λ k. k.last in
+    let last_of : Committer g.row.W.Denot → Result AfterJudging RecordFault = λ k. k.last in
     let takes = take_laws c.an_answer_is_of_the_input.ensures.refill c.the_windows_are_the_input.ensures.left c.the_windows_are_the_input.ensures.end in
     let steps : StepLaws = record { ready = c.a_supply_lets_a_guest_step.ensures.ready; used_up = c.a_supply_lets_a_guest_step.ensures.used_up; refilled_ = c.a_supply_lets_a_guest_step.ensures.refilled; stamped = c.a_supply_lets_a_guest_step.ensures.stamped } in
     let leaves = round_leaves g.Q.Racer.tells hold last_of steps takes c.a_round_commits_what_joins_on.ensures.starts c.requires.so_far.0 (g.I.Inlet.input c.args.inlet.now) (g.I.Inlet.input c.draw.new.inlet) c.args.recording.racer c.stream-committer.result.1 c.args.recording.state c.args.supply.now c.draw.new.supply c.args.recording.squashes c.plan_of-plan.result c.stream-committer.result.2 _ c.stream-committer.result.0 c.stream-committer.ensures refl c.in-Ok.ensures in
@@ -152,7 +152,7 @@ returns-in-Err-outcome-clause-input_cause g c = λ bad.
 pub returns-in-Err-outcome-clause-disk_cause : goal.returns-in-Err-outcome-clause-disk_cause
 returns-in-Err-outcome-clause-disk_cause g c = λ bad.
     let hold : Committer g.row.W.Denot → Holding = λ k. record { history = g.W.World.history k.world; disk = g.W.World.disk_faults k.world; sink = g.W.World.sink_faults k.world; core = k.core; journal = k.journal; tally = k.tally; every = k.every } in
-    let last_of : Committer g.row.W.Denot → Result Next RecordFault = λ k. k.last in
+    let last_of : Committer g.row.W.Denot → Result AfterJudging RecordFault = λ k. k.last in
     let takes = take_laws c.an_answer_is_of_the_input.ensures.refill c.the_windows_are_the_input.ensures.left c.the_windows_are_the_input.ensures.end in
     let steps : StepLaws = record { ready = c.a_supply_lets_a_guest_step.ensures.ready; used_up = c.a_supply_lets_a_guest_step.ensures.used_up; refilled_ = c.a_supply_lets_a_guest_step.ensures.refilled; stamped = c.a_supply_lets_a_guest_step.ensures.stamped } in
     let leaves = round_leaves g.Q.Racer.tells hold last_of steps takes c.a_round_commits_what_joins_on.ensures.starts c.requires.so_far.0 (g.I.Inlet.input c.args.inlet.now) (g.I.Inlet.input c.draw.new.inlet) c.args.recording.racer c.stream-committer.result.1 c.args.recording.state c.args.supply.now c.draw.new.supply c.args.recording.squashes c.plan_of-plan.result c.stream-committer.result.2 _ c.stream-committer.result.0 c.stream-committer.ensures refl c.in-Ok.ensures in
@@ -163,7 +163,7 @@ returns-in-Err-outcome-clause-disk_cause g c = λ bad.
 pub returns-in-Err-outcome-clause-sink_cause : goal.returns-in-Err-outcome-clause-sink_cause
 returns-in-Err-outcome-clause-sink_cause g c = λ bad.
     let hold : Committer g.row.W.Denot → Holding = λ k. record { history = g.W.World.history k.world; disk = g.W.World.disk_faults k.world; sink = g.W.World.sink_faults k.world; core = k.core; journal = k.journal; tally = k.tally; every = k.every } in
-    let last_of : Committer g.row.W.Denot → Result Next RecordFault = λ k. k.last in
+    let last_of : Committer g.row.W.Denot → Result AfterJudging RecordFault = λ k. k.last in
     let takes = take_laws c.an_answer_is_of_the_input.ensures.refill c.the_windows_are_the_input.ensures.left c.the_windows_are_the_input.ensures.end in
     let steps : StepLaws = record { ready = c.a_supply_lets_a_guest_step.ensures.ready; used_up = c.a_supply_lets_a_guest_step.ensures.used_up; refilled_ = c.a_supply_lets_a_guest_step.ensures.refilled; stamped = c.a_supply_lets_a_guest_step.ensures.stamped } in
     let leaves = round_leaves g.Q.Racer.tells hold last_of steps takes c.a_round_commits_what_joins_on.ensures.starts c.requires.so_far.0 (g.I.Inlet.input c.args.inlet.now) (g.I.Inlet.input c.draw.new.inlet) c.args.recording.racer c.stream-committer.result.1 c.args.recording.state c.args.supply.now c.draw.new.supply c.args.recording.squashes c.plan_of-plan.result c.stream-committer.result.2 _ c.stream-committer.result.0 c.stream-committer.ensures refl c.in-Ok.ensures in
@@ -174,7 +174,7 @@ returns-in-Err-outcome-clause-sink_cause g c = λ bad.
 pub returns-in-Err-outcome-clause-disk_count : goal.returns-in-Err-outcome-clause-disk_count
 returns-in-Err-outcome-clause-disk_count g c =
     let hold : Committer g.row.W.Denot → Holding = λ k. record { history = g.W.World.history k.world; disk = g.W.World.disk_faults k.world; sink = g.W.World.sink_faults k.world; core = k.core; journal = k.journal; tally = k.tally; every = k.every } in
-    let last_of : Committer g.row.W.Denot → Result Next RecordFault = λ k. k.last in
+    let last_of : Committer g.row.W.Denot → Result AfterJudging RecordFault = λ k. k.last in
     let takes = take_laws c.an_answer_is_of_the_input.ensures.refill c.the_windows_are_the_input.ensures.left c.the_windows_are_the_input.ensures.end in
     let steps : StepLaws = record { ready = c.a_supply_lets_a_guest_step.ensures.ready; used_up = c.a_supply_lets_a_guest_step.ensures.used_up; refilled_ = c.a_supply_lets_a_guest_step.ensures.refilled; stamped = c.a_supply_lets_a_guest_step.ensures.stamped } in
     let leaves = round_leaves g.Q.Racer.tells hold last_of steps takes c.a_round_commits_what_joins_on.ensures.starts c.requires.so_far.0 (g.I.Inlet.input c.args.inlet.now) (g.I.Inlet.input c.draw.new.inlet) c.args.recording.racer c.stream-committer.result.1 c.args.recording.state c.args.supply.now c.draw.new.supply c.args.recording.squashes c.plan_of-plan.result c.stream-committer.result.2 _ c.stream-committer.result.0 c.stream-committer.ensures refl c.in-Ok.ensures in
@@ -183,7 +183,7 @@ returns-in-Err-outcome-clause-disk_count g c =
 pub returns-in-Err-outcome-clause-sink_count : goal.returns-in-Err-outcome-clause-sink_count
 returns-in-Err-outcome-clause-sink_count g c =
     let hold : Committer g.row.W.Denot → Holding = λ k. record { history = g.W.World.history k.world; disk = g.W.World.disk_faults k.world; sink = g.W.World.sink_faults k.world; core = k.core; journal = k.journal; tally = k.tally; every = k.every } in
-    let last_of : Committer g.row.W.Denot → Result Next RecordFault = λ k. k.last in
+    let last_of : Committer g.row.W.Denot → Result AfterJudging RecordFault = λ k. k.last in
     let takes = take_laws c.an_answer_is_of_the_input.ensures.refill c.the_windows_are_the_input.ensures.left c.the_windows_are_the_input.ensures.end in
     let steps : StepLaws = record { ready = c.a_supply_lets_a_guest_step.ensures.ready; used_up = c.a_supply_lets_a_guest_step.ensures.used_up; refilled_ = c.a_supply_lets_a_guest_step.ensures.refilled; stamped = c.a_supply_lets_a_guest_step.ensures.stamped } in
     let leaves = round_leaves g.Q.Racer.tells hold last_of steps takes c.a_round_commits_what_joins_on.ensures.starts c.requires.so_far.0 (g.I.Inlet.input c.args.inlet.now) (g.I.Inlet.input c.draw.new.inlet) c.args.recording.racer c.stream-committer.result.1 c.args.recording.state c.args.supply.now c.draw.new.supply c.args.recording.squashes c.plan_of-plan.result c.stream-committer.result.2 _ c.stream-committer.result.0 c.stream-committer.ensures refl c.in-Ok.ensures in

@@ -1,6 +1,6 @@
 use Rattle.std.proofs.Common.{Some, refl, sym, ◌∙◌}
 use Rattle.epoch_runner.specs.Schedule.{progress}
-use Rattle.epoch_runner.specs.Walking.{next_of}
+use Rattle.epoch_runner.specs.Walking.{next_step_of}
 use Rattle.epoch_runner.proofs.Nexts.{ends_now}
 use Rattle.epoch_runner.proofs.Walks.{goes_by, goes_first}
 use Rattle.epoch_runner.proofs.walk.Walk.next.Goals as goal
@@ -12,8 +12,8 @@ returns-then-is_over-clause-next c =
 
 pub returns-in-None-clause-next : goal.returns-in-None-clause-next
 returns-in-None-clause-next c =
-    goes_first c.args.supply.now c.args.bounds _ c.args.self.now (next_of c.begin_from.result) c.self.view_is refl c.in-None.is (sym c.is_over.ensures ∙ c.if-is_over.false) c.begin_from.ensures
+    goes_first c.args.supply.now c.args.bounds _ c.args.self.now (next_step_of c.begin_from.result) c.self.view_is refl c.in-None.is (sym c.is_over.ensures ∙ c.if-is_over.false) c.begin_from.ensures
 
 pub returns-in-Some-clause-next : goal.returns-in-Some-clause-next
 returns-in-Some-clause-next c =
-    goes_by c.args.supply.now c.args.bounds _ c.args.self.now (Some c.in-Some.tid) (next_of c.next_after.result) c.self.view_is refl c.in-Some.is (sym c.is_over.ensures ∙ c.if-is_over.false) c.next_after.ensures
+    goes_by c.args.supply.now c.args.bounds _ c.args.self.now (Some c.in-Some.tid) (next_step_of c.next_after.result) c.self.view_is refl c.in-Some.is (sym c.is_over.ensures ∙ c.if-is_over.false) c.next_after.ensures

@@ -1,7 +1,7 @@
 use Rattle.std.proofs.Common.{◌<◌, inl, inr, false, sym, ◌∙◌, subst, arith}
 use Rattle.epoch_runner.specs.Trace.{traced}
 use Rattle.epoch_runner.proofs.Slicing.{IsOpen, SliceSoFar, goes_on_is, lesser, more_steps, no_step, slice_over}
-use Rattle.epoch_runner.proofs.slice.run_slice.Goals as goal
+use Rattle.epoch_runner.proofs.slice.take_slice.Goals as goal
 
 pub turns-init : goal.turns-init
 turns-init c = (no_step c.args.supply.now c.args.bounds c.args.tid c.args.left c.min-most.result c.args.state.now (traced c.args.trace.now), λ below going. c.peek-peek.ensures)

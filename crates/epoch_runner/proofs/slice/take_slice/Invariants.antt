@@ -2,7 +2,7 @@ use Rattle.std.proofs.Common.{◌≡◌, ◌<◌, ◌-◌, false}
 use Rattle.guest_kernel.specs.Peek.{peeked}
 use Rattle.epoch_runner.specs.Trace.{traced}
 use Rattle.epoch_runner.proofs.Slicing.{SliceSoFar}
-use Rattle.epoch_runner.proofs.slice.run_slice.Given as goal
+use Rattle.epoch_runner.proofs.slice.take_slice.Given as goal
 
 abbrev pub invariant-turns : goal.invariant-turns
 invariant-turns l =
