@@ -20,6 +20,12 @@ pub const CLOSED_GATE: u8 = 0;
 /// The first byte of an epoch's body.
 pub const EPOCH_KIND: u8 = 0;
 
+/// The first byte of a full mark's body.
+pub const MARK_KIND: u8 = 1;
+
+/// The first byte of a partial mark's body.
+pub const PARTIAL_KIND: u8 = 2;
+
 /// The first byte of an answer to a read.
 pub const READ_KIND: u8 = 0;
 

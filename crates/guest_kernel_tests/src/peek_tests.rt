@@ -6,7 +6,7 @@ use dp_base::OutOfMemory;
 use guest_kernel::{Hart, Pages, Thread};
 use std::alloc::Global;
 use std::test::Fail;
-use turn_peek::arguments::{A0, A1, A2, A7, CLOCK, EBADF, EFAULT, READ};
+use turn_peek::calls::{A0, A1, A2, A7, CLOCK, EBADF, EFAULT, READ};
 use turn_peek::{Peek, peek_thread, read_at_once};
 
 const CODE: u32 = 0x0001_0000;

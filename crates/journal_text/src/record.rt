@@ -6,14 +6,11 @@ ghost use Rattle.journal_text.specs.View.{IsNextRecord};
 
 use crate::read_limit::first_bytes;
 use dp_base::field::{read_bytes, read_u8, read_u32};
-use dp_base::journal::OPEN_GATE;
+use dp_base::journal::{MARK_KIND, OPEN_GATE};
 use dp_base::journal_reader::is_epoch_body;
 use dp_base::limits::MAX_BODY_BYTES;
 use guest_state::is_checkpoint;
 use partial_mark::is_partial;
-
-/// The first byte of a full mark's body.
-pub const MARK_KIND: u8 = 1;
 
 /// What stands at a record's gate.
 #[derive(Clone, Copy, Debug, PartialEq, Eq)]

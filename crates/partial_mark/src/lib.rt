@@ -21,6 +21,7 @@ pub mod laws;
 mod page;
 mod scan;
 
+pub use dp_base::journal::PARTIAL_KIND;
 pub use fields::{Fields, read_fields};
 pub use page::{PartialPageView, read_partial_page};
-pub use scan::{PARTIAL_KIND, is_partial, skip_partial};
+pub use scan::{is_partial, skip_partial};

@@ -10,10 +10,8 @@ ghost use Rattle.partial_mark.specs.View.{outlines};
 use crate::fields::read_fields;
 use crate::page::read_partial_page;
 use dp_base::field::{read_u8, read_u16};
+use dp_base::journal::PARTIAL_KIND;
 use guest_state::{CheckpointBounds, alive_count, read_thread};
-
-/// The first byte of a partial mark's body.
-pub const PARTIAL_KIND: u8 = 2;
 
 /// Returns whether the bytes are one partial mark, and nothing follows it. Takes no memory.
 pub fn is_partial(bytes: &[u8]) -> bool

@@ -1,6 +1,6 @@
 // The mark of a guest's start.
 ghost use Rattle.std.specs.Prelude.{◌≡◌, ◌⊎◌, ◌∷◌, IfErr, IfOk};
-ghost use Rattle.journal_text.specs.declared.record.TheConstants.{MARK_KIND};
+ghost use Rattle.dp_base.specs.declared.journal.TheConstants.{MARK_KIND};
 ghost use Rattle.elf_image.specs.Faults.{image_fault, number_of};
 ghost use Rattle.guest_kernel.specs.Start.{IsGuestFile, start_state};
 ghost use Rattle.checkpoint.specs.State.{state_bytes};

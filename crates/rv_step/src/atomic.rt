@@ -7,16 +7,9 @@ ghost use Rattle.rv_step.specs.Step.{answer_for, hart_after, memory_after};
 
 use crate::control::write;
 use crate::stepped::Stepped;
+use crate::trap_cause::{LOAD_DENIED, LOAD_MISALIGNED, STORE_DENIED, STORE_MISALIGNED};
 use dp_base::{Access, AmoOp, Mem, OutOfMemory};
 use guest_state::Hart;
-
-const LOAD_MISALIGNED: u8 = 4;
-
-const LOAD_DENIED: u8 = 5;
-
-const STORE_MISALIGNED: u8 = 6;
-
-const STORE_DENIED: u8 = 7;
 
 /// How an instruction of the A extension ends. A trap's value is the address of the access.
 #[derive(Clone, Copy)]

@@ -8,9 +8,8 @@ ghost use Rattle.guest_state.specs.Register.{next, with_register, wrapped};
 ghost use Rattle.rv_step.specs.Step.{answer_for, hart_after};
 
 use crate::stepped::Stepped;
+use crate::trap_cause::INSTRUCTION_MISALIGNED;
 use guest_state::Hart;
-
-const INSTRUCTION_MISALIGNED: u8 = 0;
 
 /// Writes a register and goes on behind the instruction.
 #[inline(always)]

@@ -11,10 +11,9 @@ use crate::instr::Instr;
 use crate::integer::{one_if, shift_amount, shifted_left, shifted_right, shifted_right_arithmetic};
 use crate::load_store::{Extension, load, store};
 use crate::stepped::Stepped;
+use crate::trap_cause::BREAKPOINT;
 use dp_base::{AmoOp, Mem, OutOfMemory, Width, is_below_signed};
 use guest_state::Hart;
-
-const BREAKPOINT: u8 = 3;
 
 /// Does an instruction. After all but `Went` the hart is unchanged, and so is a memory whose pages are known.
 #[inline(always)]

@@ -29,10 +29,12 @@ pub mod laws;
 mod load_store;
 mod step;
 mod stepped;
+mod trap_cause;
 
 pub use control::address;
 pub use decoding::decode;
 pub use dp_base::is_below_signed;
 pub use instr::Instr;
-pub use step::{INSTRUCTION_DENIED, INSTRUCTION_MISALIGNED, exec, exec_word};
+pub use step::{exec, exec_word};
 pub use stepped::Stepped;
+pub use trap_cause::{INSTRUCTION_DENIED, INSTRUCTION_MISALIGNED};

@@ -7,12 +7,9 @@ ghost use Rattle.rv_step.specs.Step.{answer_for, hart_after, memory_after};
 
 use crate::control::write;
 use crate::stepped::Stepped;
+use crate::trap_cause::{LOAD_DENIED, STORE_DENIED};
 use dp_base::{Access, Mem, OutOfMemory, Width};
 use guest_state::Hart;
-
-const LOAD_DENIED: u8 = 5;
-
-const STORE_DENIED: u8 = 7;
 
 /// What a load makes of the bytes that it has got.
 #[derive(Clone, Copy, Debug, PartialEq, Eq)]

@@ -7,16 +7,9 @@ ghost use Rattle.rv_step.specs.Step.{answer_for, effect, hart_after, memory_afte
 use crate::decoding::decode;
 use crate::execution::execute;
 use crate::stepped::Stepped;
+use crate::trap_cause::{ILLEGAL_INSTRUCTION, INSTRUCTION_DENIED, INSTRUCTION_MISALIGNED};
 use dp_base::{Access, Mem, OutOfMemory};
 use guest_state::Hart;
-
-/// The cause of the trap at a pc that isn't a multiple of 4.
-pub const INSTRUCTION_MISALIGNED: u8 = 0;
-
-/// The cause of the trap at a pc whose word may not be executed.
-pub const INSTRUCTION_DENIED: u8 = 1;
-
-const ILLEGAL_INSTRUCTION: u8 = 2;
 
 /// Takes one step of a hart. After all but `Went`, and after an `Err`, the hart is unchanged, and so is a memory whose pages are
 /// known; over such a memory `Busy` is never returned. Over any memory, by what it counts, `Busy` is returned if an access answered it,

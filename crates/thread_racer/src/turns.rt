@@ -9,6 +9,7 @@ use std::alloc::Global;
 use std::mem;
 use supply::Supply;
 use sync_hints::Sc;
+use turn_peek::calls::{A7, EXIT_THREAD};
 
 // No turn is taken once the steps or the bytes of input are so many.
 const MOST: u64 = u64::MAX - 8192;
@@ -84,15 +85,10 @@ fn turn(
     Ok(matches!(turned, Turn::Stepped { .. }))
 }
 
-// The register of a call's number, and the number by which a thread exits.
-const CALL: u8 = 17;
-
-const EXIT_THREAD: u32 = 0;
-
 // Whether a thread that stopped at a call exits by it.
 fn exits(state: &State, tid: Tid) -> bool {
     match running(state, tid) {
-        Some(hart) => hart.register(CALL) == EXIT_THREAD,
+        Some(hart) => hart.register(A7) == EXIT_THREAD,
         None => false,
     }
 }

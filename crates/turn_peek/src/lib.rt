@@ -18,7 +18,7 @@
 //! ```
 #![tactic(auto)]
 
-pub mod arguments;
+pub mod calls;
 pub mod laws;
 mod peek;
 mod plain_word;

@@ -12,7 +12,7 @@ ghost use Rattle.turn_peek.specs.Arguments.{a2, moved};
 ghost use Rattle.turn_peek.specs.Peek.{call_peeked, effect_peeked, hart_peeked, instruction_peeked, read_peeked, thread_peeked, word_peeked};
 ghost use Rattle.turn_peek.specs.ReadCall.{read_at_once};
 
-use crate::arguments::{A2, A7, CLOCK, READ};
+use crate::calls::{A2, A7, CLOCK, READ};
 use crate::read_call::read_at_once;
 use cow_pages::Pages;
 use dp_base::Width;

@@ -2,7 +2,7 @@
 ghost use Rattle.std.specs.Prelude.{◌≡◌};
 ghost use Rattle.turn_peek.specs.ReadCall.{read_at_once};
 
-use crate::arguments::{A0, A1, A2, EBADF, EFAULT};
+use crate::calls::{A0, A1, A2, EBADF, EFAULT};
 use cow_pages::Pages;
 use dp_base::limits::MAX_CALL_BYTES;
 use guest_state::Hart;
