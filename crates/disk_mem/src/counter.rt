@@ -1,6 +1,6 @@
 // Counts of calls of one kind.
 ghost use Rattle.std.specs.Prelude.{◌≡◌, ◌≤◌, not};
-ghost use Rattle.disk_model.specs.Counts.{Rose};
+ghost use Rattle.dp_base.specs.Counts.{Rose};
 ghost use Rattle.disk_mem.specs.Fails.{fails_at};
 ghost use Rattle.disk_mem.specs.Counted.{counted};
 

@@ -3,7 +3,7 @@ ghost use Rattle.std.specs.Prelude.{◌≡◌, ◌≤◌, ◌⊎◌, Some, None,
 ghost use Rattle.std.specs.List.{find};
 ghost use Rattle.std.specs.Option.{option_copied, option_map};
 ghost use Rattle.disk_model.specs.declared.files.TheConstants.{MAX_FETCH_BYTES};
-ghost use Rattle.disk_model.specs.Counts.{Rose};
+ghost use Rattle.dp_base.specs.Counts.{Rose};
 ghost use Rattle.disk_model.specs.Directory.{file_named, IsFetched};
 ghost use Rattle.disk_mem.specs.declared.fails.Fails.TheVariants.{Never};
 ghost use Rattle.disk_mem.specs.MemoryFiles.{as_file, as_files, of_files, fetch_fails_next, did_fetch, failed_fetch};

@@ -1,7 +1,8 @@
 // An input in memory, for tests and for the program.
 ghost use Rattle.std.specs.Prelude.{◌≡◌, ◌≤◌, Some, IfOk, OnOk, OnErr, IsErr, IsOk, IsTrue, length, map, take, drop, true};
-ghost use Rattle.disk_model.specs.Counts.{Rose};
-ghost use Rattle.disk_model.specs.Input.{IfInput, Took, Gave, ReadClock};
+ghost use Rattle.dp_base.specs.Counts.{Rose};
+ghost use Rattle.disk_model.specs.Input.{Took, Gave, ReadClock};
+ghost use Rattle.disk_model.specs.Known.{IfKnown};
 ghost use Rattle.disk_mem.specs.declared.fails.Fails.TheVariants.{Never};
 ghost use Rattle.disk_mem.specs.MemoryInput.{of_pieces, take_fails_next, did_take, failed_take, did_read_clock, reading_at};
 
@@ -72,8 +73,8 @@ impl Inlet for MemInlet {
     fn take(&mut self, buf: &mut [u8]) -> Result<usize, Failed>
         ensures within { IfOk result (λ n. n ≤ length buf.old) }
         ensures rest { IfOk result (λ n. drop n buf.new ≡ drop n buf.old) }
-        ensures taken { IfOk result (λ n. IfInput (Took (length buf.old) (take n buf.new)) (Some self.old.input) (Some self.new.input)) }
-        ensures given { IfOk result (λ n. IfInput (Gave (take n buf.new)) (Some self.old.input) (Some self.new.input)) }
+        ensures taken { IfOk result (λ n. IfKnown (Took (length buf.old) (take n buf.new)) (Some self.old.input) (Some self.new.input)) }
+        ensures given { IfOk result (λ n. IfKnown (Gave (take n buf.new)) (Some self.old.input) (Some self.new.input)) }
         ensures kept { OnErr result (Some self.new.input ≡ Some self.old.input) }
         ensures buffer { OnErr result (buf.new ≡ buf.old) }
         ensures cause { IsErr result → Rose self.old.faults self.new.faults }
@@ -95,7 +96,7 @@ impl Inlet for MemInlet {
     }
 
     fn clock(&mut self) -> u64
-        ensures reading { IfInput (ReadClock result) (Some self.old.input) (Some self.new.input) }
+        ensures reading { IfKnown (ReadClock result) (Some self.old.input) (Some self.new.input) }
         ensures count { self.new.faults ≡ self.old.faults }
         ensures which { result ≡ reading_at self.old.clocks (length self.old.input.readings) }
         ensures after { self.new ≡ did_read_clock result self.old }

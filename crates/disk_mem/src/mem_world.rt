@@ -1,6 +1,6 @@
 // A world in memory, for tests and for the program.
 ghost use Rattle.std.specs.Prelude.{◌≡◌, ◌<◌, ◌≤◌, ◌⊎◌, length, min, is_ok, Some, IsErr, IfOk, OnOk, OnErr, IsTrue, true, false};
-ghost use Rattle.disk_model.specs.Counts.{Rose};
+ghost use Rattle.dp_base.specs.Counts.{Rose};
 ghost use Rattle.disk_model.specs.History.{IsImage};
 ghost use Rattle.disk_model.specs.Known.{IfKnown, IsWritten};
 ghost use Rattle.disk_model.specs.Steps.{IsRead, Wrote, Truncated, Synced, Emitted, stream_of};

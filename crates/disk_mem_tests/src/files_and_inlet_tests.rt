@@ -1,7 +1,7 @@
 // Files by name, and an input in pieces, in memory.
 ghost use Rattle.std.specs.Prelude.{◌≤◌, IsErrOf, IfOk};
 ghost use Rattle.disk_model.specs.declared.files.TheConstants.{MAX_FETCH_BYTES};
-ghost use Rattle.disk_model.specs.Counts.{Rose};
+ghost use Rattle.dp_base.specs.Counts.{Rose};
 
 use disk_mem::{Fails, MemFiles, NamedFile};
 use disk_model::{FetchFault, Files, Inlet, MAX_FETCH_BYTES};

@@ -1,6 +1,6 @@
 // A disk and two streams in memory: which calls fail, what is written, read, cut and sent, and the record of it.
 ghost use Rattle.std.specs.Prelude.{◌≡◌, ◌≤◌, ◌++◌, List, ℕ, Some, IsErr, OnOk};
-ghost use Rattle.disk_model.specs.Counts.{Rose};
+ghost use Rattle.dp_base.specs.Counts.{Rose};
 ghost use Rattle.disk_model.specs.Known.{known_disk};
 
 use crate::step::{Step, take_step};

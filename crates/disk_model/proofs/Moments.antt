@@ -2,17 +2,18 @@
 use Rattle.std.proofs.Common.{◌≡◌, ℕ, zero, suc, take, List, [], ◌∷◌, ◌++◌, sym, ◌∙◌, ap, append_assoc}
 use Rattle.std.proofs.lemmas.List.{append-nil}
 use Rattle.disk_model.specs.History.{History, Moment, now}
-use Rattle.disk_model.specs.Moments.{Always, Then, ThenEach}
+use Rattle.std.specs.List.{AllByRecursion}
+use Rattle.disk_model.specs.Moments.{Always, Then}
 
 -- what is said of an image and of what was sent
 abbrev Claim : Type 1
 Claim = List ℕ → List ℕ → Type 0
 
-pub each-append : (P : Claim) (xs ys : List Moment) → ThenEach P xs → ThenEach P ys → ThenEach P (xs ++ ys)
+pub each-append : (P : Claim) (xs ys : List Moment) → AllByRecursion (Then P) xs → AllByRecursion (Then P) ys → AllByRecursion (Then P) (xs ++ ys)
 each-append P [] ys a b = b
 each-append P (x ∷ xs) ys a b = (a.0, each-append P xs ys a.1 b)
 
-pub each-weaker : (P Q : Claim) → ((image sent : List ℕ) → P image sent → Q image sent) → (xs : List Moment) → ThenEach P xs → ThenEach Q xs
+pub each-weaker : (P Q : Claim) → ((image sent : List ℕ) → P image sent → Q image sent) → (xs : List Moment) → AllByRecursion (Then P) xs → AllByRecursion (Then Q) xs
 each-weaker P Q f [] a = tt
 each-weaker P Q f (x ∷ xs) a = (λ image sent may. f image sent (a.0 image sent may), each-weaker P Q f xs a.1)
 

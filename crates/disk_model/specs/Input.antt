@@ -1,7 +1,6 @@
 -- What may be known of an input: the bytes that it has given, the pieces that it has left, whether its end was seen, and the
 -- readings of its clock. This project's own.
 use Rattle.std.specs.Prelude.{◌≡◌, ◌⊎◌, ℕ, Bool, true, false, ◌||◌, ◌&&◌, nat_lt, ◌-◌, ◌^◌, List, [], ◌∷◌, ◌++◌, length, take, drop, Option}
-use Rattle.disk_model.specs.Known.{IfKnown}
 
 pub record Input : Type 0 where
   -- all bytes given so far
@@ -67,8 +66,3 @@ IsNoted reading before after =
 -- The clock was read.
 abbrev pub ReadClock : ℕ → Input → Input → Type 0
 ReadClock reading i there = (after : List ℕ) × IsNoted reading i.readings after × (there ≡ record i { readings = after })
-
--- ---- inputs that may be known or not
-
-abbrev pub IfInput : (Input → Input → Type 0) → Option Input → Option Input → Type 0
-IfInput step before after = IfKnown step before after

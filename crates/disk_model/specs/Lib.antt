@@ -1,4 +1,3 @@
-pub mod Counts
 pub mod History
 pub mod Known
 pub mod Steps

@@ -1,15 +1,11 @@
 -- What holds at every moment of one call or of many, and so of a crash within them. This project's own.
-use Rattle.std.specs.Prelude.{◌≡◌, ℕ, List, [], ◌∷◌, ◌++◌, ⊤}
+use Rattle.std.specs.Prelude.{◌≡◌, ℕ, List, ◌++◌}
+use Rattle.std.specs.List.{AllByRecursion}
 use Rattle.disk_model.specs.History.{History, MayLeave, Moment, now}
 
 -- whatever a crash at this moment may leave on the disk, and whatever was sent by then
 abbrev pub Then : (List ℕ → List ℕ → Type 0) → Moment → Type 0
 Then P m = (image sent : List ℕ) → MayLeave m image sent → P image sent
-
--- the same at each of these moments
-abbrev pub ThenEach : (List ℕ → List ℕ → Type 0) → List Moment → Type 0
-ThenEach P [] = ⊤
-ThenEach P (m ∷ rest) = Then P m × ThenEach P rest
 
 -- At every moment from one history to a later one, within each call, between the calls and behind the last, all that a
 -- crash may leave has P.
@@ -17,5 +13,5 @@ pub record Always (P : List ℕ → List ℕ → Type 0) (before after : History
   -- those within the calls
   pub moments : List Moment
   pub past : after.past ≡ before.past ++ moments
-  pub each : ThenEach P moments
+  pub each : AllByRecursion (Then P) moments
   pub last : Then P (now after)

@@ -1,7 +1,8 @@
 // The input of a guest, and a clock.
 ghost use Rattle.std.specs.Prelude.{◌≡◌, ◌≤◌, ℕ, Option, IsErr, IfOk, OnErr, OnOk, length, take, drop};
-ghost use Rattle.disk_model.specs.Counts.{Rose};
-ghost use Rattle.disk_model.specs.Input.{Input, IfInput, Took, Gave, ReadClock};
+ghost use Rattle.dp_base.specs.Counts.{Rose};
+ghost use Rattle.disk_model.specs.Input.{Input, Took, Gave, ReadClock};
+ghost use Rattle.disk_model.specs.Known.{IfKnown};
 
 use crate::Failed;
 
@@ -22,8 +23,8 @@ pub trait Inlet {
     fn take(&mut self, buf: &mut [u8]) -> Result<usize, Failed>
         ensures within { IfOk result (λ n. n ≤ length buf.old) }
         ensures rest { IfOk result (λ n. drop n buf.new ≡ drop n buf.old) }
-        ensures taken { IfOk result (λ n. IfInput (Took (length buf.old) (take n buf.new)) (input self.old) (input self.new)) }
-        ensures given { IfOk result (λ n. IfInput (Gave (take n buf.new)) (input self.old) (input self.new)) }
+        ensures taken { IfOk result (λ n. IfKnown (Took (length buf.old) (take n buf.new)) (input self.old) (input self.new)) }
+        ensures given { IfOk result (λ n. IfKnown (Gave (take n buf.new)) (input self.old) (input self.new)) }
         ensures kept { OnErr result (input self.new ≡ input self.old) }
         ensures none { OnOk result (input_faults self.new ≡ input_faults self.old) }
         ensures cause { IsErr result → Rose (input_faults self.old) (input_faults self.new) }
@@ -31,6 +32,6 @@ pub trait Inlet {
 
     /// Reads the clock, in nanoseconds.
     fn clock(&mut self) -> u64
-        ensures reading { IfInput (ReadClock result) (input self.old) (input self.new) }
+        ensures reading { IfKnown (ReadClock result) (input self.old) (input self.new) }
         ensures count { input_faults self.new ≡ input_faults self.old };
 }

@@ -1,6 +1,6 @@
 // The outside of a recorder and of a replayer: a disk and two output streams.
 ghost use Rattle.std.specs.Prelude.{◌≡◌, ◌<◌, ◌≤◌, ℕ, Option, IsErr, IfOk, OnOk, is_ok, length};
-ghost use Rattle.disk_model.specs.Counts.{Rose};
+ghost use Rattle.dp_base.specs.Counts.{Rose};
 ghost use Rattle.disk_model.specs.History.{History};
 ghost use Rattle.disk_model.specs.Known.{known_disk, IfKnown, IsLength, IsWritten};
 ghost use Rattle.disk_model.specs.Steps.{IsRead, Wrote, Truncated, Synced, Emitted};

@@ -1,6 +1,6 @@
 // A count of faults of one kind.
 ghost use Rattle.std.specs.Prelude.{◌≡◌, ◌≤◌, ◌+◌, ◌-◌, ◌^◌, min, IfOk, IsErr, OnErr, OnOk, Ok, Some};
-ghost use Rattle.disk_model.specs.Counts.{Rose};
+ghost use Rattle.dp_base.specs.Counts.{Rose};
 
 use crate::refusal::Refusal;
 use disk_model::Failed;

@@ -2,7 +2,7 @@
 ghost use Rattle.std.specs.Prelude.{◌≡◌, ◌≤◌, ◌-◌, ◌^◌, ◌<◌, ◌⊎◌, Ok, IfOk, IsErr, IsTrue, OnErr, OnOk, false, length, drop, min, take};
 ghost use Rattle.std.specs.Io.KnownBytes.{Consumes, IsAtEnd, Keeps};
 ghost use Rattle.std.specs.Duration.{as_nanos};
-ghost use Rattle.disk_model.specs.Counts.{Rose};
+ghost use Rattle.dp_base.specs.Counts.{Rose};
 
 use crate::fault_count::FaultCount;
 use crate::refusal::Refusal;

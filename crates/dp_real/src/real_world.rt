@@ -1,6 +1,6 @@
 // A journal's file, standard output and standard error.
 ghost use Rattle.std.specs.Prelude.{◌≡◌, ◌≤◌, IsErr, OnErr, OnOk};
-ghost use Rattle.disk_model.specs.Counts.{Rose};
+ghost use Rattle.dp_base.specs.Counts.{Rose};
 
 use crate::fault_count::FaultCount;
 use crate::journal_file::JournalFile;

@@ -1,5 +1,5 @@
 ghost use Rattle.std.specs.Prelude.{◌≡◌, ◌≤◌, ◌++◌, IsErr, codes, decimal, is_ok};
-ghost use Rattle.disk_model.specs.Counts.{Rose};
+ghost use Rattle.dp_base.specs.Counts.{Rose};
 ghost use Rattle.disk_model.specs.Known.{IfKnown};
 ghost use Rattle.disk_model.specs.declared.world.Stream.TheVariants.{Note};
 ghost use Rattle.device.specs.Sending.{Sent, joined_pieces};

@@ -5,7 +5,7 @@ use Rattle.std.proofs.lemmas.Option.{none-some, same_Some}
 use Rattle.std.specs.Prelude.{Bool, true, false, is_ok, IsErr, ◌⊎◌}
 use Rattle.std.specs.declared.alloc.Global.{Global}
 use Rattle.dp_base.specs.Field.{AreBytes}
-use Rattle.disk_model.specs.Counts.{Rose}
+use Rattle.dp_base.specs.Counts.{Rose}
 use Rattle.disk_model.specs.declared.files.TheConstants.{MAX_FETCH_BYTES}
 use Rattle.disk_model.specs.Directory.{File, IsFetched}
 use Rattle.disk_model.specs.History.{History}

@@ -1,6 +1,6 @@
 // An inspection of a journal that is attached first.
 ghost use Rattle.std.specs.Prelude.{◌≡◌, ◌≤◌};
-ghost use Rattle.disk_model.specs.Counts.{Rose};
+ghost use Rattle.dp_base.specs.Counts.{Rose};
 ghost use Rattle.dp_top.specs.Running.{InspectedTo};
 
 use crate::command_status::status_of_inspected;

@@ -1,7 +1,7 @@
 // A recording into a journal that is attached first.
 ghost use Rattle.std.specs.Prelude.{◌≡◌, ◌≤◌, Result};
 ghost use Rattle.dp_base.specs.Field.{AreBytes};
-ghost use Rattle.disk_model.specs.Counts.{Rose};
+ghost use Rattle.dp_base.specs.Counts.{Rose};
 ghost use Rattle.dp_report.specs.declared.report.Report.{Report};
 ghost use Rattle.guest_kernel.specs.Start.{IsGuestFile, start_state};
 ghost use Rattle.recorder.specs.declared.record_fault.RecordFault.{RecordFault};

@@ -1,6 +1,6 @@
 // A replay of a journal that is attached first.
 ghost use Rattle.std.specs.Prelude.{◌≡◌, ◌≤◌, ◌⊎◌};
-ghost use Rattle.disk_model.specs.Counts.{Rose};
+ghost use Rattle.dp_base.specs.Counts.{Rose};
 ghost use Rattle.disk_model.specs.Known.{known_disk};
 ghost use Rattle.epoch_replay.specs.Replaying.{EachReplayMoment, IsKnownToEnd, OnDisk};
 ghost use Rattle.journal_text.specs.Reading.{reads};

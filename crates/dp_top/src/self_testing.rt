@@ -1,6 +1,6 @@
 // A made guest is recorded and replayed in memory.
 ghost use Rattle.std.specs.Prelude.{◌≡◌, ◌≤◌, ℕ, Err, IfErr, IfOk, None, Ok};
-ghost use Rattle.disk_model.specs.Counts.{Rose};
+ghost use Rattle.dp_base.specs.Counts.{Rose};
 ghost use Rattle.dp_base.specs.Field.{AreBytes};
 ghost use Rattle.dp_report.specs.declared.report.Report.{Report};
 ghost use Rattle.elf_image.specs.Faults.{image_fault};

@@ -1,7 +1,7 @@
 // Worked examples of the outside's definitions, and what they exclude.
 ghost use Rattle.std.specs.Prelude.{◌≡◌, ◌+◌, ◌∷◌, [], Some, None};
 ghost use Rattle.dp_base.specs.declared.limits.TheConstants.{MAX_GUEST_BYTES};
-ghost use Rattle.disk_model.specs.Counts.{Rose};
+ghost use Rattle.dp_base.specs.Counts.{Rose};
 ghost use Rattle.disk_model.specs.declared.files.TheConstants.{MAX_FETCH_BYTES};
 ghost use Rattle.disk_model.specs.Known.{IsLength, IsWritten};
 ghost use Rattle.disk_model.specs.Steps.{IsRead};

@@ -1,7 +1,7 @@
 // A record is appended to a journal.
 ghost use Rattle.std.specs.Prelude.{◌≡◌, ◌+◌, ◌<◌, ◌≤◌, IsErr, IsErrOf, OnOk, is_ok, length};
 ghost use Rattle.dp_base.specs.declared.limits.TheConstants.{MAX_JOURNAL_BYTES};
-ghost use Rattle.disk_model.specs.Counts.{Rose};
+ghost use Rattle.dp_base.specs.Counts.{Rose};
 ghost use Rattle.disk_model.specs.Known.{IfKnown};
 ghost use Rattle.epoch_journal.specs.Appending.{AppendCalls, Appended, HasAppended, MakesNoCall, RecordCalls, RecordWritten};
 

@@ -1,6 +1,6 @@
 // A journal is begun on an empty disk.
 ghost use Rattle.std.specs.Prelude.{◌≡◌, ◌<◌, ◌≤◌, ◌^◌, IsErrOf, length};
-ghost use Rattle.disk_model.specs.Counts.{Rose};
+ghost use Rattle.dp_base.specs.Counts.{Rose};
 ghost use Rattle.disk_model.specs.Known.{IfKnown};
 ghost use Rattle.epoch_journal.specs.Beginning.{Begun, HasBegun, MetNoFault};
 ghost use Rattle.epoch_journal.specs.declared.begin.BeginFault.TheVariants as begins;

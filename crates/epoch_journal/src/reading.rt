@@ -1,7 +1,7 @@
 // A whole journal is read.
 ghost use Rattle.std.specs.Prelude.{◌≡◌, ◌<◌, ◌≤◌, IfOk, IsErrOf, IsTrue, length};
 ghost use Rattle.dp_base.specs.declared.limits.TheConstants.{MAX_JOURNAL_BYTES};
-ghost use Rattle.disk_model.specs.Counts.{Rose};
+ghost use Rattle.dp_base.specs.Counts.{Rose};
 ghost use Rattle.disk_model.specs.Known.{known_disk};
 ghost use Rattle.epoch_journal.specs.ReadWhole.{IsReadOn, IsReadSoFar, IsReadWhole, MetNoOther};
 ghost use Rattle.epoch_journal.specs.declared.reading.ReadFault.TheVariants as reads;

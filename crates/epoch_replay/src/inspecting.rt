@@ -1,7 +1,7 @@
 // A journal is read whole, and its records are listed.
 ghost use Rattle.std.specs.Prelude.{◌≡◌, ◌<◌, ◌≤◌, Err, IfOk, IsErr, IsErrOf, IsTrue, OnOk, is_ok, length, Option};
 ghost use Rattle.dp_base.specs.declared.limits.TheConstants.{MAX_JOURNAL_BYTES};
-ghost use Rattle.disk_model.specs.Counts.{Rose};
+ghost use Rattle.dp_base.specs.Counts.{Rose};
 ghost use Rattle.disk_model.specs.History.{History};
 ghost use Rattle.disk_model.specs.Known.{IfKnown, known_disk};
 ghost use Rattle.disk_model.specs.declared.world.Stream.TheVariants.{Out};

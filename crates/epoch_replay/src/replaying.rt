@@ -1,7 +1,7 @@
 // A journal is read whole, and played record by record.
 ghost use Rattle.std.specs.Prelude.{◌≡◌, ◌<◌, ◌≤◌, ◌+◌, ◌-◌, ◌^◌, Err, IfOk, IsErrOf, IsTrue, length, Option, Some};
 ghost use Rattle.dp_base.specs.declared.limits.TheConstants.{MAX_JOURNAL_BYTES};
-ghost use Rattle.disk_model.specs.Counts.{Rose};
+ghost use Rattle.dp_base.specs.Counts.{Rose};
 ghost use Rattle.disk_model.specs.History.{History};
 ghost use Rattle.disk_model.specs.Known.{known_disk};
 ghost use Rattle.journal_text.specs.Reading.{Reading, reads};

@@ -7,7 +7,8 @@ use Rattle.std.proofs.Math.Seq.{take-add}
 use Rattle.std.proofs.lemmas.List.{append-nil, drop-append-le, drop-drop, drop_all, length-append, length-take-le, take-append-drop, take-append-le, take-take, take_all}
 use Rattle.dp_base.specs.declared.answer.Answer.{Answer}
 use Rattle.dp_base.specs.declared.answer.Answer.TheVariants.{Read}
-use Rattle.disk_model.specs.Input.{IfInput, Input, IsLast, IsNoted, ReadClock, Took, is_at_end, left_after, taken, took}
+use Rattle.disk_model.specs.Input.{Input, IsLast, IsNoted, ReadClock, Took, is_at_end, left_after, taken, took}
+use Rattle.disk_model.specs.Known.{IfKnown}
 use Rattle.disk_model.proofs.Knowing.{known-map, known-then}
 use Rattle.epoch_runner.specs.Supplying.{IsSuppliedBy}
 use Rattle.epoch_runner.proofs.AnswerLists.{clocks_append, read_append}
@@ -309,13 +310,13 @@ has_drawn w place draws answers i j is = (
 -- ---- a draw by its steps
 
 -- where input was due
-pub drew_due : (bytes : List ℕ) (reading : ℕ) (i mid j : Option Input) → IfInput (Took MAX_ROOM bytes) i mid → IfInput (ReadClock reading) mid j
-    → IfInput (Drew (record { due = true; taken = bytes; reading = reading })) i j
+pub drew_due : (bytes : List ℕ) (reading : ℕ) (i mid j : Option Input) → IfKnown (Took MAX_ROOM bytes) i mid → IfKnown (ReadClock reading) mid j
+    → IfKnown (Drew (record { due = true; taken = bytes; reading = reading })) i j
 drew_due bytes reading i mid j first second =
     known-then (Took MAX_ROOM bytes) (ReadClock reading) (Drew (record { due = true; taken = bytes; reading = reading })) i mid j (λ s t u a b. (t, a, b)) first second
 
 -- and where it wasn't
-pub drew_none : (reading : ℕ) (i j : Option Input) → IfInput (ReadClock reading) i j → IfInput (Drew (record { due = false; taken = []; reading = reading })) i j
+pub drew_none : (reading : ℕ) (i j : Option Input) → IfKnown (ReadClock reading) i j → IfKnown (Drew (record { due = false; taken = []; reading = reading })) i j
 drew_none reading i j read = known-map (ReadClock reading) (Drew (record { due = false; taken = []; reading = reading })) i j (λ s t a. (s, refl, a)) read
 
 -- ---- the laws of one take, from those of many

@@ -10,7 +10,7 @@ use Rattle.dp_base.specs.Encoding.{IsPrefixOf}
 use Rattle.dp_base.specs.Journal.{Epoch, epoch_body, frame, steps_of}
 use Rattle.dp_base.proofs.Lists.{all_append}
 use Rattle.disk_model.specs.History.{History}
-use Rattle.disk_model.specs.Input.{IfInput, Input, IsLast}
+use Rattle.disk_model.specs.Input.{Input, IsLast}
 use Rattle.disk_model.specs.Known.{IfKnown}
 use Rattle.disk_model.specs.Moments.{Always}
 use Rattle.disk_model.proofs.Knowing.{known-both, known-map, known-then}
@@ -59,7 +59,7 @@ pub record HasDrawnRound (w : Supplied) (state : State) (there later : Option In
   pub draw : Draw
   pub due : draw.due ≡ input_due state w
   pub is : with_ ≡ supply_of w draw
-  pub drew : IfInput (Drew draw) there later
+  pub drew : IfKnown (Drew draw) there later
   pub used : draw.due ≡ true → (state.input ≡ end_of w) × (w.ended ≡ false)
   pub is_supply : IsSupply with_
 
@@ -73,7 +73,7 @@ still_placed w place true bytes reading placed inside used = let at_end = used r
 still_placed w place false bytes reading placed inside used = (placed, inside)
 
 pub round_of : (w : Supplied) (state : State) (there later : Option Input) (with_ : Supplied)
-    → (d : Draw) × (d.due ≡ input_due state w) × (with_ ≡ supply_of w d) × IfInput (Drew d) there later
+    → (d : Draw) × (d.due ≡ input_due state w) × (with_ ≡ supply_of w d) × IfKnown (Drew d) there later
     → (input_due state w ≡ true → (state.input ≡ end_of w) × (w.ended ≡ false)) → IsSupply with_ → HasDrawnRound w state there later with_
 round_of w state there later with_ drew used is_supply =
     record { draw = drew.0; due = drew.1; is = drew.2; drew = drew.3; used = λ e. used (sym drew.1 ∙ e); is_supply = is_supply }
@@ -98,19 +98,19 @@ module _ (a : Setting) (there : Option Input) (now : Option History) (K : List R
   pub fits_still : HasRoom a.guest a.options K
   fits_still = omega (arith, kept.fits, kept.place_is, kept.room_is)
 
-  pub drawn_still : IfInput (HasDrawn D (answers_in E)) a.given there
+  pub drawn_still : IfKnown (HasDrawn D (answers_in E)) a.given there
   drawn_still = known-map (IsDrawn w state.input D (answers_in E)) (HasDrawn D (answers_in E)) a.given there
       (λ s t is. has_drawn w state.input D (answers_in E) s t is)
       kept.drawn
 
-  honest_of : (later : Option Input) (draws : List Draw) → IfInput (HasDrawn draws (answers_in E)) a.given later → IfInput (IsHonestSince (answers_in E)) a.given later
+  honest_of : (later : Option Input) (draws : List Draw) → IfKnown (HasDrawn draws (answers_in E)) a.given later → IfKnown (IsHonestSince (answers_in E)) a.given later
   honest_of later draws drawn = known-map (HasDrawn draws (answers_in E)) (IsHonestSince (answers_in E)) a.given later (λ s t h. h.1) drawn
 
   -- every moment so far
   pub moments_now : (later : Option Input) → later ≡ there → EachMoment a.guest a.options.mark a.start a.given later a.before now
   moments_now later same =
       let honest = honest_of there D drawn_still in
-      each_moment a.guest a.options.mark a.start E a.given later (subst (λ (o : Option Input). IfInput (IsHonestSince (answers_in E)) a.given o) (sym same) honest) a.before now kept.moments
+      each_moment a.guest a.options.mark a.start E a.given later (subst (λ (o : Option Input). IfKnown (IsHonestSince (answers_in E)) a.given o) (sym same) honest) a.before now kept.moments
 
   -- ---- a round draws
 
@@ -122,7 +122,7 @@ module _ (a : Setting) (there : Option Input) (now : Option History) (K : List R
     abbrev DrawnSo : Input → Input → Type 0
     DrawnSo s t = IsDrawn (supply_of w round.draw) state.input (D ++ round.draw ∷ []) (answers_in E) s t × IsLast round.draw.reading (readings_since s t)
 
-    with_round : IfInput DrawnSo a.given later
+    with_round : IfKnown DrawnSo a.given later
     with_round = known-then (IsDrawn w state.input D (answers_in E)) (Drew round.draw) DrawnSo a.given there later
         (λ s t u d b. drawn_more laws w state.input D (answers_in E) round.draw s t u d (λ e. (round.used e).1) b)
         kept.drawn round.drew
@@ -159,7 +159,7 @@ module _ (a : Setting) (there : Option Input) (now : Option History) (K : List R
       base_encodable = kept.base_encodable;
     }
 
-    pub last_drawn : IfInput (λ s t. IsLast with_.stamp (readings_since s t)) a.given later
+    pub last_drawn : IfKnown (λ s t. IsLast with_.stamp (readings_since s t)) a.given later
     last_drawn = known-map DrawnSo (λ s t. IsLast with_.stamp (readings_since s t)) a.given later
         (λ s t d. subst (λ (n : ℕ). IsLast n (readings_since s t)) (sym (ap (λ (x : Supplied). x.stamp) round.is)) d.1)
         with_round
@@ -170,7 +170,7 @@ module _ (a : Setting) (there : Option Input) (now : Option History) (E : List E
   abbrev K : List Record
   K = records_of a.options a.start E
 
-  module _ (laws : EpochLaws) (last : IfInput (λ s t. IsLast w.stamp (readings_since s t)) a.given there) (first : ℕ) (hints : Hints) (r : EpochRun) (is : HasRunEpoch state hints w (job_bounds a.options first state) r) where
+  module _ (laws : EpochLaws) (last : IfKnown (λ s t. IsLast w.stamp (readings_since s t)) a.given there) (first : ℕ) (hints : Hints) (r : EpochRun) (is : HasRunEpoch state hints w (job_bounds a.options first state) r) where
     abbrev e : Epoch
     e = epoch_of r.epoch
 
@@ -216,16 +216,16 @@ module _ (a : Setting) (there : Option Input) (now : Option History) (E : List E
     pub may_go_on : GoesOn a.options state
     may_go_on = (not_ended (has_ended state.end) (list_any (is_ready state w) state.threads) is.could_step, left)
 
-    drawn_more_ : IfInput (IsDrawn w r.end.input D (answers_in (E ++ e ∷ []))) a.given there
+    drawn_more_ : IfKnown (IsDrawn w r.end.input D (answers_in (E ++ e ∷ []))) a.given there
     drawn_more_ = known-map _ _ a.given there
         (λ s t d. subst (λ (l : List Answer). IsDrawn w r.end.input D l s t) (sym (answers_in-push E e))
         (taken_more w state.input r.end.input D (answers_in E) e.answers s t d.0 kept.placed supplied d.1))
         (known-both (IsDrawn w state.input D (answers_in E)) (λ s t. IsLast w.stamp (readings_since s t)) a.given there kept.drawn last)
 
-    pub drawn_epoch : IfInput (HasDrawn D (answers_in (E ++ e ∷ []))) a.given there
+    pub drawn_epoch : IfKnown (HasDrawn D (answers_in (E ++ e ∷ []))) a.given there
     drawn_epoch = known-map _ _ a.given there (λ s t d. has_drawn w r.end.input D (answers_in (E ++ e ∷ [])) s t d) drawn_more_
 
-    honest_there : IfInput (IsHonestSince (answers_in (E ++ e ∷ []))) a.given there
+    honest_there : IfKnown (IsHonestSince (answers_in (E ++ e ∷ []))) a.given there
     honest_there = known-map (HasDrawn D (answers_in (E ++ e ∷ []))) (IsHonestSince (answers_in (E ++ e ∷ []))) a.given there (λ s t h. h.1) drawn_epoch
 
     push : records_unmarked a.options a.start (E ++ e ∷ []) ≡ K ++ epoch e ∷ []

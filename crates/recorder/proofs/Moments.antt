@@ -6,7 +6,7 @@ use Rattle.dp_base.specs.declared.answer.Answer.TheVariants.{Read}
 use Rattle.dp_base.specs.Encoding.{IsPrefixOf}
 use Rattle.dp_base.specs.Journal.{Epoch}
 use Rattle.disk_model.specs.History.{History, IsImage, IsSynced, Pending, now, nothing_pending}
-use Rattle.disk_model.specs.Input.{IfInput, Input}
+use Rattle.disk_model.specs.Input.{Input}
 use Rattle.disk_model.specs.Known.{IfKnown}
 use Rattle.disk_model.specs.Moments.{Always, Then}
 use Rattle.disk_model.proofs.Images.{image-synced}
@@ -140,7 +140,7 @@ module _ (guest : List ℕ) (every : ℕ) (start : State) where
 
   -- ---- it is over
 
-  module _ (epochs : List Epoch) (i j : Option Input) (honest : IfInput (IsHonestSince (answers_in epochs)) i j) where
+  module _ (epochs : List Epoch) (i j : Option Input) (honest : IfKnown (IsHonestSince (answers_in epochs)) i j) where
     front_recorded : (image said : List ℕ) → IsFront guest every start epochs image said → IsRecording guest every start i j image said
     front_recorded image said f = record {
       epochs = f.front;

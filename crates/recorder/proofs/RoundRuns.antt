@@ -7,7 +7,7 @@ use Rattle.commit_core.specs.declared.stage.Stage.TheVariants.{Judged, Taken}
 use Rattle.commit_core.specs.JudgedRound.{IsRoundJudged, IsWithin, RoundEnd, used_up}
 use Rattle.commit_core.specs.Judging.{Core, new_core}
 use Rattle.disk_model.specs.History.{History}
-use Rattle.disk_model.specs.Input.{IfInput, Input}
+use Rattle.disk_model.specs.Input.{Input}
 use Rattle.disk_model.specs.Known.{IfKnown}
 use Rattle.dp_base.specs.declared.slice.Slice.{Slice}
 use Rattle.dp_base.specs.Journal as journals
@@ -143,7 +143,7 @@ begins a there later now racer after state w with_ j tally count so_far laws rou
     }
 
 module _ (laws : StepLaws) (a : Setting) (there later : Option Input) (now : Option History) (racer : Tells) (state : State) (w with_ : Supplied) (j : Journal) (tally : Tally) (count : ℕ) (so_far : SoFar a there now racer state w j tally count)
-    (drew : (d : Draw) × (d.due ≡ input_due state w) × (with_ ≡ supply_of w d) × IfInput (Drew d) there later) (is_supply : IsSupply with_) where
+    (drew : (d : Draw) × (d.due ≡ input_due state w) × (with_ ≡ supply_of w d) × IfKnown (Drew d) there later) (is_supply : IsSupply with_) where
   abbrev pub drawn_by : HasDrawnRound w state there later with_
   drawn_by = round_of w state there later with_ drew (laws.used_up state w so_far.kept.is_supply so_far.kept.placed so_far.kept.inside) is_supply
 
@@ -410,7 +410,7 @@ module _ (a : InRound) (now : Option History) (core : Core) (j : Journal) (tally
     marked_size : length (journal_of a.setting.guest (records_of a.setting.options a.setting.start committed_epochs)) ≡ length (journal_of a.setting.guest bare) + length (frame (body_of (mark_of tally.base core.committed)))
     marked_size = size_marked a.setting a.later now committed_epochs drawn within.output core.committed a.supply j tally within.kept within.since_is due added framed short behind
 
-    drawn_there : IfInput (HasDrawn drawn (answers_in committed_epochs)) a.setting.given a.later
+    drawn_there : IfKnown (HasDrawn drawn (answers_in committed_epochs)) a.setting.given a.later
     drawn_there = drawn_still a.setting a.later now bare committed_epochs drawn within.output core.committed a.supply j tally within.kept
 
     pub mark_lost : (j' : Journal) → HasAppended j (length added) j' (Err appends.DiskFault) → IfKnown (RecordWritten j.end added false) now behind → IsStopped a behind faults.DiskFault

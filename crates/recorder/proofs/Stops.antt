@@ -5,7 +5,7 @@ use Rattle.device.specs.Sending.{Sent}
 use Rattle.device.proofs.Notes.{noted-too}
 use Rattle.disk_model.specs.declared.world.Stream.TheVariants.{Note}
 use Rattle.disk_model.specs.History.{History}
-use Rattle.disk_model.specs.Input.{IfInput, Input}
+use Rattle.disk_model.specs.Input.{Input}
 use Rattle.disk_model.specs.Known.{IfKnown}
 use Rattle.disk_model.specs.Moments.{Always}
 use Rattle.disk_model.proofs.Knowing.{known-then}
@@ -52,7 +52,7 @@ module _ (a : Setting) (there : Option Input) (now : Option History) (racer : Te
   fits : HasRoom a.guest a.options K
   fits = fits_still a there now K E (draws_of so_far.rounds) so_far.output state w j tally so_far.kept
 
-  drawn : IfInput (HasDrawn (draws_of so_far.rounds) (answers_in E)) a.given there
+  drawn : IfKnown (HasDrawn (draws_of so_far.rounds) (answers_in E)) a.given there
   drawn = drawn_still a there now K E (draws_of so_far.rounds) so_far.output state w j tally so_far.kept
 
   no_more : HasDrawnOn run_so_far a.given there
@@ -72,7 +72,7 @@ module _ (a : Setting) (there : Option Input) (now : Option History) (racer : Te
     (going, left),
     ap (input_due state) (sym so_far.supply_is) ∙ due,
     fits,
-    subst (λ (o : Option Input). IfInput (HasDrawn (draws_of so_far.rounds) (answers_in E)) a.given o) (sym same) drawn,
+    subst (λ (o : Option Input). IfKnown (HasDrawn (draws_of so_far.rounds) (answers_in E)) a.given o) (sym same) drawn,
     so_far.kept.history,
   )
 

@@ -10,7 +10,7 @@ use Rattle.dp_base.specs.declared.limits.TheConstants.{EPOCH_END_BYTES, MAX_CALL
 use Rattle.dp_base.specs.Encoding.{IsPrefixOf}
 use Rattle.dp_base.specs.Journal.{Epoch, IsAnswer, IsGuest, frame}
 use Rattle.disk_model.specs.History.{History, IsSynced}
-use Rattle.disk_model.specs.Input.{IfInput, Input, IsLast, is_at_end}
+use Rattle.disk_model.specs.Input.{Input, IsLast, is_at_end}
 use Rattle.disk_model.specs.Known.{IfKnown}
 use Rattle.disk_model.specs.Moments.{Always}
 use Rattle.epoch_journal.specs.Images.{Reads}
@@ -114,7 +114,7 @@ pub record Kept (a : Setting) (there : Option Input) (now : Option History) (rec
   pub are_answers : AreAnswers epochs
   pub are_records : AllByRecursion IsRecord records
   pub encodable : IsEncodable state
-  pub drawn : IfInput (IsDrawn w state.input draws (answers_in epochs)) a.given there
+  pub drawn : IfKnown (IsDrawn w state.input draws (answers_in epochs)) a.given there
   pub history : IfKnown (IsRecorded a.guest records output []) a.before now
   pub moments : IfKnown (AlwaysPartly a.guest a.options.mark a.start epochs) a.before now
   pub place_is : j.end ≡ length (journal_of a.guest records)
@@ -182,7 +182,7 @@ pub record Within (marked : Bool) (a : InRound) (now : Option History) (core : C
   pub output : List ℕ
   pub since_is : IsSince marked a.setting (epochs run ++ epochs_of_runs runs) core.committed tally.since tally.base
   pub kept : Kept a.setting a.later now (records_with marked a.setting.options.mark a.setting.start (epochs run ++ epochs_of_runs runs)) (epochs run ++ epochs_of_runs runs) (draws run ++ draw ∷ []) output core.committed a.supply j tally
-  pub last : IfInput (λ s t. IsLast a.supply.stamp (readings_since s t)) a.setting.given a.later
+  pub last : IfKnown (λ s t. IsLast a.supply.stamp (readings_since s t)) a.setting.given a.later
   pub longer : run.end.steps + length runs ≤ core.committed.steps
 
 -- What a committer's code stands on: all results that it took were committed, the counts of the committed state have room for those of the

@@ -3,7 +3,7 @@ use Rattle.std.specs.Prelude.{◌≡◌, ◌⊎◌, ℕ, Bool, List, [], ◌++�
 use Rattle.dp_base.specs.Encoding.{IsPrefixOf}
 use Rattle.dp_base.specs.Journal.{Epoch}
 use Rattle.disk_model.specs.History.{History, IsSynced}
-use Rattle.disk_model.specs.Input.{IfInput, Input}
+use Rattle.disk_model.specs.Input.{Input}
 use Rattle.disk_model.specs.Known.{IfKnown}
 use Rattle.disk_model.specs.Moments.{Always}
 use Rattle.epoch_journal.specs.Images.{Reads}
@@ -22,7 +22,7 @@ pub record IsRecording (guest : List ℕ) (every : ℕ) (start : State) (i j : O
   pub end : State
   pub output : List ℕ
   pub chained : chain start epochs ≡ Ok (end, output)
-  pub honest : IfInput (IsHonestSince (answers_in epochs)) i j
+  pub honest : IfKnown (IsHonestSince (answers_in epochs)) i j
   pub sent : IsPrefixOf said output
 
 -- No journal yet, and nothing was said; or a recording.

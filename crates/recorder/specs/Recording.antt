@@ -6,7 +6,7 @@ use Rattle.dp_base.specs.declared.answer.Answer.{Answer}
 use Rattle.dp_base.specs.declared.slice.Slice.{Slice}
 use Rattle.dp_base.specs.Journal.{Epoch, IsBody, IsEpoch, epoch_body, frame}
 use Rattle.disk_model.specs.History.{History, IsSynced, now}
-use Rattle.disk_model.specs.Input.{IfInput, Input}
+use Rattle.disk_model.specs.Input.{Input}
 use Rattle.disk_model.specs.Known.{IfKnown}
 use Rattle.disk_model.specs.Moments.{Then}
 use Rattle.guest_kernel.specs.declared.state.State.{State}
@@ -185,11 +185,11 @@ EachIsNextEpoch options first s w (r ∷ rounds) = (e : Epoch) × (end : State) 
 
 -- what the rounds of a run read, and the answers that their epochs took
 abbrev pub RunDrawn : {tells : Tells} {options : Options} {start : State} → Run tells options start → (i j : Option Input) → Type 0
-RunDrawn r i j = IfInput (HasDrawn (draws r) (answers r)) i j
+RunDrawn r i j = IfKnown (HasDrawn (draws r) (answers r)) i j
 
 -- the same, and then one round read this
 abbrev pub DrawnOn : {tells : Tells} {options : Options} {start : State} → Run tells options start → Draw → (i j : Option Input) → Type 0
-DrawnOn r d i j = IfInput (HasDrawn (draws r ++ d ∷ []) (answers r)) i j
+DrawnOn r d i j = IfKnown (HasDrawn (draws r ++ d ∷ []) (answers r)) i j
 
 -- The same, and maybe one round read more: it took from the input exactly if some was due.
 abbrev pub HasDrawnOn : {tells : Tells} {options : Options} {start : State} → Run tells options start → (i j : Option Input) → Type 0
@@ -197,7 +197,7 @@ HasDrawnOn r i j = RunDrawn r i j ⊎ ((d : Draw) × (d.due ≡ input_due r.end 
 
 -- What the rounds read by then, and the answers that these epochs took, all of a round's that were committed by then among them.
 abbrev pub DrawnWithin : {tells : Tells} {options : Options} {start : State} → RunOn tells options start → List Epoch → (i j : Option Input) → Type 0
-DrawnWithin on epochs i j = IfInput (HasDrawn (draws_on on) (answers_in epochs)) i j
+DrawnWithin on epochs i j = IfKnown (HasDrawn (draws_on on) (answers_in epochs)) i j
 
 -- ---- what is on the disk, and what was sent
 

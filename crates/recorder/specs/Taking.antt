@@ -1,7 +1,7 @@
 -- What a committer does with a result of its round. This serves the contracts of the crate's own steps. This project's own.
 use Rattle.std.specs.Prelude.{◌≡◌, ◌≤◌, ◌+◌, ℕ, true, Option, Some, length, slice_get, Result, Ok, Err}
 use Rattle.commit_core.specs.Judging.{Core}
-use Rattle.disk_model.specs.Counts.{Rose}
+use Rattle.dp_base.specs.Counts.{Rose}
 use Rattle.dp_base.specs.declared.out_of_memory.OutOfMemory.{OutOfMemory}
 use Rattle.disk_model.specs.History.{History}
 use Rattle.epoch_journal.specs.Standing.{Journal}

@@ -1,6 +1,6 @@
 // An epoch is committed: its record is appended, and then its output is sent.
 ghost use Rattle.std.specs.Prelude.{◌≡◌, ◌≤◌, IsErrOf, length};
-ghost use Rattle.disk_model.specs.Counts.{Rose};
+ghost use Rattle.dp_base.specs.Counts.{Rose};
 ghost use Rattle.disk_model.specs.Known.{IfKnown};
 ghost use Rattle.recorder.specs.Committing.{CommitCalls, Committed, HasCommitted, MetNoOther};
 

@@ -3,7 +3,7 @@ ghost use Rattle.std.specs.Prelude.{◌≡◌, ◌<◌, ◌≤◌, ℕ, false, O
 ghost use Rattle.disk_model.specs.Input.{Input};
 ghost use Rattle.racing_runner.specs.Offers.{Tells};
 ghost use Rattle.commit_core.specs.Judging.{new_core};
-ghost use Rattle.disk_model.specs.Counts.{Rose};
+ghost use Rattle.dp_base.specs.Counts.{Rose};
 ghost use Rattle.dp_base.specs.declared.limits.TheConstants.{MAX_JOBS};
 ghost use Rattle.guest_kernel.specs.Start.{IsGuestFile, start_state};
 ghost use Rattle.guest_kernel.specs.State.{has_ended};

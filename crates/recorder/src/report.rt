@@ -1,7 +1,7 @@
 // The report of a recording whose guest has ended, and its line on Note.
 ghost use Rattle.std.specs.Prelude.{◌≡◌, ◌≤◌, ℕ, IsErrOf};
 ghost use Rattle.checkpoint.specs.State.{IsEncodable};
-ghost use Rattle.disk_model.specs.Counts.{Rose};
+ghost use Rattle.dp_base.specs.Counts.{Rose};
 ghost use Rattle.disk_model.specs.Known.{IfKnown};
 ghost use Rattle.recorder.specs.Faults.{MetNoOther};
 ghost use Rattle.recorder.specs.Telling.{HasTold, IsTold, report_at};

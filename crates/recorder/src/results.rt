@@ -1,7 +1,7 @@
 // A result of a round is judged, and its epoch committed if it is to be.
 ghost use Rattle.std.specs.Prelude.{◌≡◌, ◌<◌, ◌≤◌, ◌+◌, ◌++◌, ◌∷◌, [], ℕ, IfOk, OnOk, IsErrOf, Some, false, true, length, slice_get};
 ghost use Rattle.commit_core.specs.declared.stage.Stage.TheVariants.{Taken};
-ghost use Rattle.disk_model.specs.Counts.{Rose};
+ghost use Rattle.dp_base.specs.Counts.{Rose};
 ghost use Rattle.dp_base.specs.declared.limits.TheConstants.{MAX_JOBS};
 ghost use Rattle.dp_base.specs.Journal.{IsBody, IsEpoch, epoch_body, frame};
 ghost use Rattle.epoch_record.specs.Epoch.{epoch_of};

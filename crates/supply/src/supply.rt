@@ -1,8 +1,9 @@
 // A window of an input, and the stamp of a round.
 ghost use Rattle.std.specs.Prelude.{◌≡◌, ◌<◌, ◌≤◌, ◌^◌, ◌↔◌, false, IfOk, OnOk, OnErr, IsErr, IsTrue};
 ghost use Rattle.std.specs.Option.{option_copied};
-ghost use Rattle.disk_model.specs.Counts.{Rose};
-ghost use Rattle.disk_model.specs.Input.{IfInput, Took, Gave};
+ghost use Rattle.dp_base.specs.Counts.{Rose};
+ghost use Rattle.disk_model.specs.Input.{Took, Gave};
+ghost use Rattle.disk_model.specs.Known.{IfKnown};
 ghost use Rattle.supply.specs.Supplied.{IsSame, IsSupply, window_answer, empty, end_of, refilled, unfilled};
 
 use crate::MAX_ROOM;
@@ -65,8 +66,8 @@ impl Supply {
         requires going { self.old.ended ≡ false }
         requires early { end_of self.old < 2 ^ 63 }
         ensures ok { OnOk result (self.new ≡ refilled self.new.window self.old) }
-        ensures taken { OnOk result (IfInput (Took self.old.room self.new.window) (I.input inlet.old) (I.input inlet.new)) }
-        ensures given { OnOk result (IfInput (Gave self.new.window) (I.input inlet.old) (I.input inlet.new)) }
+        ensures taken { OnOk result (IfKnown (Took self.old.room self.new.window) (I.input inlet.old) (I.input inlet.new)) }
+        ensures given { OnOk result (IfKnown (Gave self.new.window) (I.input inlet.old) (I.input inlet.new)) }
         ensures err { OnErr result (self.new ≡ unfilled self.old) }
         ensures kept { OnErr result (I.input inlet.new ≡ I.input inlet.old) }
         ensures is_supply { IsSupply self.new }

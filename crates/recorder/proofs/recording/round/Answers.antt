@@ -1,5 +1,5 @@
 use Rattle.std.proofs.Common.{◌≡◌, ◌⊎◌, inl, inr, ℕ, ◌+◌, ◌<◌, ◌≤◌, true, false, Result, Ok, Err, OnOk, OnErr, is_err, List, [], refl, sym, ap, subst, ◌∙◌, arith}
-use Rattle.disk_model.specs.Counts.{Rose}
+use Rattle.dp_base.specs.Counts.{Rose}
 use Rattle.guest_kernel.specs.declared.state.State.{State}
 use Rattle.recorder.specs.declared.committer.Committer.{Committer}
 use Rattle.recorder.specs.declared.options.Options.{Options}
