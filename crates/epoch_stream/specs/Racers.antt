@@ -17,8 +17,8 @@ use Rattle.epoch_stream.specs.declared.deposit.Deposit.{Deposit}
 use Rattle.epoch_stream.specs.declared.race.Racing.{Racing}
 use Rattle.epoch_stream.specs.declared.race.RaceEnd.{RaceEnd}
 use Rattle.epoch_stream.specs.declared.race.Raced.{Raced}
-use Rattle.epoch_stream.specs.declared.start.Racers.{Racers}
-use Rattle.epoch_stream.specs.declared.start.Racers.TheVariants.{There, Here}
+use Rattle.epoch_stream.specs.declared.promises.Racers.{Racers}
+use Rattle.epoch_stream.specs.declared.promises.Racers.TheVariants.{There, Here}
 use Rattle.epoch_stream.specs.Offers.{AreFirstOf, AreJobs, offers_within}
 
 -- These jobs were made by a plan. They are the first ones of a round with these offers, and all of them after an Ok, unless the racer was stopped. If the

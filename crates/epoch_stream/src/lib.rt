@@ -16,15 +16,15 @@
 
 mod bell;
 mod deposit;
-mod hand_over;
+mod promises;
 mod race;
 mod round;
 mod round_parts;
-mod single;
-mod start;
+mod single_job;
 mod streaming;
 mod taker;
-mod work;
+mod tray;
+mod worker_pass;
 
 pub use streaming::stream;
 pub use taker::Taker;

@@ -8,10 +8,10 @@ ghost use Rattle.epoch_stream.specs.Streams.{AreRoundParts};
 
 use crate::bell::Bells;
 use crate::deposit::{Deposit, EpochBoard};
-use crate::hand_over::{Taken, take_all};
+use crate::tray::{Taken, take_all};
 use crate::race::{RaceEndOf, Raced, RacingOf};
 use crate::round_parts::RoundParts;
-use crate::start::{join_all, join_racer, start_all, start_racer};
+use crate::promises::{join_all, join_racer, start_all, start_racer};
 use crate::taker::Taker;
 use disk_model::Gate;
 use dp_base::OutOfMemory;

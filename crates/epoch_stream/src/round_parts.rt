@@ -7,9 +7,9 @@ ghost use Rattle.epoch_stream.specs.Rounds.{ArePasses};
 ghost use Rattle.epoch_stream.specs.Streams.{IsBlank, IsSetUp};
 
 use crate::deposit::{Deposit, EpochBoard};
-use crate::hand_over::Tray;
-use crate::start::Started;
-use crate::work::Pass;
+use crate::tray::Tray;
+use crate::promises::Started;
+use crate::worker_pass::Pass;
 use dp_base::OutOfMemory;
 use epoch_pool::Job;
 use guest_kernel::State;

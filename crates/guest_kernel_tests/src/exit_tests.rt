@@ -1,5 +1,5 @@
 // Exits of threads, each worked out by hand.
-use crate::stands::{CALLS, Caller, IDLE, Seen, Stand, answered, look, on_a_word, waits};
+use crate::thread_states::{CALLS, Caller, IDLE, Seen, Stand, answered, look, on_a_word, waits};
 use guest_kernel::End;
 use std::alloc::Global;
 use std::test::Fail;

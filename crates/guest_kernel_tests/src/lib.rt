@@ -28,7 +28,7 @@ mod plain_tests;
 #[cfg(test)]
 mod slice_tests;
 #[cfg(test)]
-mod stands;
+mod thread_states;
 #[cfg(test)]
 mod start_tests;
 #[cfg(test)]

@@ -5,7 +5,7 @@ ghost use Rattle.epoch_stream.specs.Rounds.{AreDone, ArePasses, AreStarted, IsPa
 use super::{Started, WorkerPromise};
 use crate::bell::Bells;
 use crate::deposit::{Deposit, EpochBoard};
-use crate::work::{Pass, work};
+use crate::worker_pass::{Pass, work};
 use disk_model::Gate;
 use epoch_pool::Job;
 use job_board::Worker;

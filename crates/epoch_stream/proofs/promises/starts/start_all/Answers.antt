@@ -2,7 +2,7 @@ use Rattle.std.specs.Prelude.{remove}
 use Rattle.epoch_stream.specs.Rounds.{ArePasses}
 use Rattle.std.proofs.Common.{subst, ap, ◌∙◌, ◌+◌, ℕ, length, length-append, arith, [], ◌∷◌}
 use Rattle.epoch_stream.proofs.Starting.{some_left, shorter, first_pass, one_started}
-use Rattle.epoch_stream.proofs.start.starts.start_all.Goals as goal
+use Rattle.epoch_stream.proofs.promises.starts.start_all.Goals as goal
 
 pub workers-preserved : goal.workers-preserved
 workers-preserved g c = let i = c.workers.invariant in let some = some_left _ _ c.workers.passes.ok.0 c.workers-test.ensures in let f = first_pass c.args.board.now c.args.stop.now _ c.workers.passes.items c.remove-pass.result i.passes some c.remove-pass.ensures.value in

@@ -1,6 +1,6 @@
 use Rattle.std.proofs.Common.{◌∙◌}
 use Rattle.epoch_stream.proofs.Handing.{count_kept, count_more, longer_kept, longer_more, waiting_kept, waiting_more}
-use Rattle.epoch_stream.proofs.hand_over.wait_for.Goals as goal
+use Rattle.epoch_stream.proofs.tray.wait_for.Goals as goal
 
 pub turns-preserved-in-Result : goal.turns-preserved-in-Result
 turns-preserved-in-Result g c = let i = c.turns.invariant in let e = c.in-Result.ensures.collects in record {

@@ -2,7 +2,7 @@ use Rattle.std.specs.Prelude.{remove}
 use Rattle.epoch_stream.specs.Rounds.{AreStarted}
 use Rattle.std.proofs.Common.{subst, ap, ◌∙◌, ◌+◌, ℕ, length, length-append, arith, [], ◌∷◌}
 use Rattle.epoch_stream.proofs.Starting.{some_left, shorter, first_started, one_done}
-use Rattle.epoch_stream.proofs.start.starts.join_all.Goals as goal
+use Rattle.epoch_stream.proofs.promises.starts.join_all.Goals as goal
 
 pub workers-preserved : goal.workers-preserved
 workers-preserved g c = let i = c.workers.invariant in let some = some_left _ _ c.workers.started.ok.0 c.workers-test.ensures in let f = first_started c.args.board.now c.args.supply.now _ c.workers.started.items c.remove-one.result i.started some c.remove-one.ensures.value in

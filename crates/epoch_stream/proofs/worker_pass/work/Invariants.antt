@@ -2,7 +2,7 @@ use Rattle.std.proofs.Common.{◌≡◌, None}
 use Rattle.job_board.specs.Passes.{IsWorkerOf, claimed, deposited}
 use Rattle.stop_word.specs.Seats.{IsWatcherOf}
 use Rattle.epoch_stream.specs.Deposits.{AreFor}
-use Rattle.epoch_stream.proofs.work.work.Given as goal
+use Rattle.epoch_stream.proofs.worker_pass.work.Given as goal
 
 abbrev pub invariant-jobs : goal.invariant-jobs
 invariant-jobs g l = record {

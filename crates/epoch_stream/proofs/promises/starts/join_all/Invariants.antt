@@ -1,7 +1,7 @@
 use Rattle.std.proofs.Common.{◌≡◌, ◌≤◌, ◌+◌, length, suc}
 use Rattle.std.specs.Prelude.{vec_capacity, vec_len}
 use Rattle.epoch_stream.specs.Rounds.{AreDone, AreStarted}
-use Rattle.epoch_stream.proofs.start.starts.join_all.Given as goal
+use Rattle.epoch_stream.proofs.promises.starts.join_all.Given as goal
 
 abbrev pub invariant-workers : goal.invariant-workers
 invariant-workers g l = record {

@@ -1,7 +1,7 @@
 // What the threads of a round promise.
 use crate::deposit::EpochBoard;
 use crate::race::{RacedOf, RacingOf};
-use crate::work::Pass;
+use crate::worker_pass::Pass;
 use racing_runner::{Plan, Racer};
 use std::snapshot::Snapshot;
 use std::thread::{Promise, PromisedHandle};

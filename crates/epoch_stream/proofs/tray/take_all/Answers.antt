@@ -2,7 +2,7 @@ use Rattle.std.proofs.Common.{refl, ap, arith, ◌∙◌, ◌+◌, ℕ, length-a
 use Rattle.std.specs.Prelude.{Ok, Err}
 use Rattle.racing_runner.specs.declared.offer.More.TheVariants.{Yes, Enough}
 use Rattle.epoch_stream.proofs.Handing.{not_ok, not_yes, of_longer, of_more, took_is, went_more}
-use Rattle.epoch_stream.proofs.hand_over.take_all.Goals as goal
+use Rattle.epoch_stream.proofs.tray.take_all.Goals as goal
 
 pub returns-in_default-clause-taken : goal.returns-in_default-clause-taken
 returns-in_default-clause-taken g c = let t = c.takes.invariant.taken in let e = c.ended.ensures in (

@@ -1,7 +1,7 @@
 use Rattle.std.proofs.Common.{ℕ, ap, subst, ◌∙◌, ◌++◌, ◌∷◌, []}
 use Rattle.job_board.specs.Passes.{IsWorkerOf}
 use Rattle.epoch_stream.proofs.Handing.{for_more}
-use Rattle.epoch_stream.proofs.work.work.Goals as goal
+use Rattle.epoch_stream.proofs.worker_pass.work.Goals as goal
 
 pub jobs-preserved-in-Job : goal.jobs-preserved-in-Job
 jobs-preserved-in-Job g c = let i = c.jobs.invariant in let claim = c.in-Job.ensures.claim in let d = c.deposit.ensures in record {

@@ -4,7 +4,7 @@ use Rattle.job_board.specs.Passes.{IsCollectorOf, collected, counts}
 use Rattle.epoch_runner.specs.declared.epoch_run.Ran.{Ran}
 use Rattle.epoch_stream.specs.Deposits.{AreOf}
 use Rattle.epoch_stream.specs.Takes.{AreWaiting, IsCount, WentOn}
-use Rattle.epoch_stream.proofs.hand_over.take_all.Given as goal
+use Rattle.epoch_stream.proofs.tray.take_all.Given as goal
 
 abbrev pub invariant-takes : goal.invariant-takes
 invariant-takes g l = record {

@@ -1,7 +1,7 @@
 use Rattle.std.proofs.Common.{refl, sym, subst, ◌∙◌}
 use Rattle.guest_kernel.specs.declared.state.State.{State}
 use Rattle.epoch_stream.proofs.Singles.{none_done, one_done, starts_there}
-use Rattle.epoch_stream.proofs.single.run_one.Goals as goal
+use Rattle.epoch_stream.proofs.single_job.run_one.Goals as goal
 
 pub take_known-requires-clause-known : goal.take_known-requires-clause-known
 take_known-requires-clause-known g c = λ run is.

@@ -1,7 +1,7 @@
 use Rattle.std.proofs.Common.{◌≡◌, length}
 use Rattle.job_board.specs.Passes.{IsCollectorOf, collected, counts}
 use Rattle.epoch_stream.specs.Takes.{AreWaiting, IsCount, Longer}
-use Rattle.epoch_stream.proofs.hand_over.wait_for.Given as goal
+use Rattle.epoch_stream.proofs.tray.wait_for.Given as goal
 
 abbrev pub invariant-turns : goal.invariant-turns
 invariant-turns g l = record {
