@@ -4,7 +4,7 @@ use Rattle.std.proofs.Math.ListN.{set}
 use Rattle.std.proofs.Math.Seq.{map-set_same}
 use Rattle.std.proofs.lemmas.Bool.Decides.{nat_tests}
 use Rattle.std.proofs.lemmas.List.Elements.{All-set}
-use Rattle.amo_order.specs.Places.{IsBetween, is_of}
+use Rattle.amo_order.specs.Places.{IsBetween, is_of_word}
 use Rattle.amo_order.specs.Replacing.{Replaces}
 use Rattle.amo_order.specs.declared.amo.Placed.{Placed}
 
@@ -25,7 +25,7 @@ filter-set p [] index x d new old = refl
 filter-set p (y ∷ ys) zero x d new old = rw (new, old) refl
 filter-set p (y ∷ ys) (suc index) x d new old = ap (λ rest. cond (p y) (y ∷ rest) rest) (filter-set p ys index x d new old)
 
-is_no_other : (word other : ℕ) (placed : Placed) → placed.amo.address ≡ word → other ≢ word → is_of other placed ≡ false
+is_no_other : (word other : ℕ) (placed : Placed) → placed.amo.address ≡ word → other ≢ word → is_of_word other placed ≡ false
 is_no_other word other placed is apart = grind (arith, nat_tests)
 
 pub replaces_one : (word : ℕ) (placed : List Placed) (index place : ℕ) (d : Placed)
@@ -39,5 +39,5 @@ replaces_one word placed index place d inside is low high =
     record {
       amos = map-set_same (λ (p : Placed). p.amo) placed index new d refl;
       between = λ all. All-set IsBetween placed index new (low, inr high) all;
-      others = λ other apart. filter-set (is_of other) placed index new d (is_no_other word other new is apart) (is_no_other word other (get_or placed index d) is apart);
+      others = λ other apart. filter-set (is_of_word other) placed index new d (is_no_other word other new is apart) (is_no_other word other (get_or placed index d) is apart);
     }

@@ -17,11 +17,11 @@ abbrev pub KeepsOrder : List Placed → Type 0
 KeepsOrder placed = All (λ first. All (λ second. first.amo.ticket < first.amo.next → first.amo.next ≤ second.amo.ticket → first.place < second.place) placed) placed
 
 -- the AMOs of a word
-abbrev pub is_of : ℕ → Placed → Bool
-is_of word placed = placed.amo.address == word
+abbrev pub is_of_word : ℕ → Placed → Bool
+is_of_word word placed = placed.amo.address == word
 
 abbrev pub placed_of : ℕ → List Placed → List Placed
-placed_of word = filter (is_of word)
+placed_of word = filter (is_of_word word)
 
 -- the AMOs of a word, by place
 pub record IsOrder (word : ℕ) (placed order : List Placed) : Type 0 where

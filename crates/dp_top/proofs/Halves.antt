@@ -10,7 +10,7 @@ use Rattle.disk_model.specs.History.{History}
 use Rattle.disk_model.specs.Input.{Input}
 use Rattle.dp_report.specs.declared.report.Report.{Report}
 use Rattle.epoch_replay.specs.Play.{Play, Played, PlayRefusal, bad_image, no_journal, play_of, played, played_if, plays_to}
-use Rattle.epoch_replay.specs.Replaying.{Ends, Replayed, report_of as report_in}
+use Rattle.epoch_replay.specs.Replaying.{Ends, Replayed, replay_report as report_in}
 use Rattle.epoch_replay.proofs.Going.{made}
 use Rattle.guest_kernel.specs.declared.state.State.{State}
 use Rattle.guest_kernel.specs.Slices.{chain}

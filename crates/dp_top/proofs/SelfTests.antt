@@ -22,7 +22,7 @@ use Rattle.epoch_replay.specs.Inspecting.{SendsInOrder}
 use Rattle.disk_mem.specs.Replay.{start}
 use Rattle.dp_base.specs.Field.{AreBytes}
 use Rattle.epoch_replay.specs.Play.{Play, PlayRefusal, bad_image, no_journal, played, plays_to}
-use Rattle.epoch_replay.specs.Replaying.{Ends, HasSent, Replayed, report_of}
+use Rattle.epoch_replay.specs.Replaying.{Ends, HasSent, Replayed, replay_report}
 use Rattle.epoch_replay.proofs.Moments.{noted_moments, quiet, sent_moments}
 use Rattle.guest_gen.specs.Guest.{guest_file}
 use Rattle.guest_kernel.specs.declared.state.State.{State}
@@ -233,7 +233,7 @@ module _ (reading : Option Reading) (output : List ℕ) (report : Report) (ends 
   same_end other replayed there =
       let same = same_play there.state ends.state other output (sym there.plays ∙ ends.plays) in
       let journal : there.journal ≡ ends.journal = same_Some _ _ (sym there.journal_is ∙ ends.journal_is) in
-      (same.1, there.reported ∙ ap (λ (r : Reading). report_of r other there.state) journal ∙ ap (λ (l : List ℕ). report_of ends.journal l there.state) same.1 ∙ ap (report_of ends.journal output) same.0 ∙ sym ends.reported)
+      (same.1, there.reported ∙ ap (λ (r : Reading). replay_report r other there.state) journal ∙ ap (λ (l : List ℕ). replay_report ends.journal l there.state) same.1 ∙ ap (replay_report ends.journal output) same.0 ∙ sym ends.reported)
 
   -- it sends what was sent
   pub same_sent : (before after : History) (replayed : Report) → before.sent ≡ [] → Replayed reading (Some before) (Some after) (Ok replayed) → (after.sent ≡ output) × (replayed ≡ report)

@@ -77,7 +77,7 @@ none_plays base s number (bad_record k) = refl
 pub no_base : (base other s : State) (number : ℕ) (tail : Tail) → play_from base s number [] tail ≡ play_from other s number [] tail
 no_base base other s number tail = none_plays base s number tail ∙ sym (none_plays other s number tail)
 
--- ---- what a play has played_after an output
+-- ---- what a play has after an output
 
 abbrev pub made : Result State PlayRefusal → List ℕ → Played
 made stop output = record { output = output; stop = stop }
@@ -101,7 +101,7 @@ sent_more output more first now later so_far known = known-then _ _ _ _ _ _
     })
     so_far known
 
--- a prefix of what is played_after it was sent
+-- a prefix of what is after it was sent
 pub sent_some : (output more others all : List ℕ) (first now later : Option History) → all ≡ (output ++ more) ++ others → IfKnown (HasSent output []) first now → IfKnown (Sent Out more false) now later
     → IfKnown (HasSentSome all) first later
 sent_some output more others all first now later is so_far known = known-then _ _ _ _ _ _
@@ -341,7 +341,7 @@ epoch_bounded file p s sent next e read is further within few counts reads write
   within = within;
 }
 
--- played_after a mark
+-- after a mark
 pub mark_bounded : (file : List ℕ) (p : Progress) (next : ℕ) → IsBounded file p → p.at < next → next ≤ length file → IsBounded file (past_mark next p)
 mark_bounded file p next is further within = record {
   base = is.encodable;

@@ -9,7 +9,7 @@ use Rattle.epoch_runner.specs.declared.walk.NextTurn.{NextTurn}
 use Rattle.epoch_runner.specs.Schedule.{Course, followed, next, progress, turn_of}
 use Rattle.epoch_runner.specs.Syncing.{sync_of}
 use Rattle.epoch_runner.specs.Walking.{next_step_of, opened}
-use Rattle.racing_runner.specs.Racing.{Raced, counted, counted_at, is_count_of, ordered, or_else, race_turn, raced, raced_by, raced_so_far, steps_in, with_note}
+use Rattle.racing_runner.specs.Racing.{Raced, with_turn_counted, counted_at, is_count_of, ordered, or_else, race_turn, raced, raced_by, raced_so_far, steps_in, with_note}
 use Rattle.supply.specs.Supplied.{Supplied}
 use Rattle.sync_hints.specs.declared.hints.Sc.{Sc}
 use Rattle.sync_hints.specs.declared.hints.SyncHint.{SyncHint}
@@ -46,7 +46,7 @@ pub turn_more : (w : Supplied) (bounds : Bounds) (walk after : Course) (counts m
     → next_step_of (Some turn) ≡ next walk.state w bounds (progress walk)
     → sync ≡ sync_of (opened turn.begins walk).state turn.tid
     → followed w walk (turn_of turn.tid turn.begins None) ≡ Some after
-    → more ≡ counted turn.tid counts
+    → more ≡ with_turn_counted turn.tid counts
     → longer ≡ ordered turn.tid sync order
     → race_turn w bounds (raced_so_far walk counts order) ≡ Some (raced_so_far after more longer)
 turn_more w bounds walk after counts more order longer turn sync is_next sync_is goes more_is longer_is =
@@ -68,7 +68,7 @@ pub so_far_more : (w : Supplied) (bounds : Bounds) (first : Raced) (step : ℕ) 
     → race_turn w bounds (raced_so_far walk counts order) ≡ Some (raced_so_far after more longer)
     → (progress after).turns ≡ (progress walk).turns + 1
     → after.state.steps ≡ walk.state.steps + 1
-    → more ≡ counted turn.tid counts
+    → more ≡ with_turn_counted turn.tid counts
     → IsSoFar w bounds first (step + 1) after more longer
 unfolding raced
 so_far_more w bounds first step walk after counts more order longer turn sync so goes turns steps more_is = record {

@@ -28,16 +28,16 @@ counted_at tid counts None = counts ++ (tid, 1) ∷ []
 counted_at tid counts (Some place) = slice_set counts place (tid, steps_in (slice_get counts place) + 1)
 
 -- one step more of a thread
-abbrev pub counted : Tid → List (Tid × ℕ) → List (Tid × ℕ)
-counted tid counts = counted_at tid counts (position (is_count_of tid) counts)
+abbrev pub with_turn_counted : Tid → List (Tid × ℕ) → List (Tid × ℕ)
+with_turn_counted tid counts = counted_at tid counts (position (is_count_of tid) counts)
 
 -- a turn that synchronises is the next in the order
 abbrev pub ordered : Tid → Option Sc → List SyncHint → List SyncHint
 ordered tid None order = order
 ordered tid (Some sc) order = order ++ record { tid = tid; sc = sc } ∷ []
 
-abbrev pub noted : Tid → Option Sc → Hints → Hints
-noted tid sync hints = record { counts = counted tid hints.counts; order = ordered tid sync hints.order }
+abbrev pub with_sync_noted : Tid → Option Sc → Hints → Hints
+with_sync_noted tid sync hints = record { counts = with_turn_counted tid hints.counts; order = ordered tid sync hints.order }
 
 -- ---- the run
 
@@ -51,7 +51,7 @@ raced_so_far course counts order = record { course = course; hints = record { co
 
 abbrev pub with_note : Raced → Tid → Option Sc → Option Course → Option Raced
 with_note r tid sync None = None
-with_note r tid sync (Some course) = Some (record { course = course; hints = noted tid sync r.hints })
+with_note r tid sync (Some course) = Some (record { course = course; hints = with_sync_noted tid sync r.hints })
 
 abbrev pub raced_by : Supplied → Raced → NextStep → Option Raced
 raced_by w r (turn_of tid begins hints) = with_note r tid (sync_of (opened begins r.course).state tid) (followed w r.course (turn_of tid begins hints))

@@ -2,7 +2,7 @@
 ghost use Rattle.std.specs.Prelude.{◌≡◌, ◌+◌, ◌<◌, ◌≤◌, ◌^◌, [], IfOk, OnOk, position};
 ghost use Rattle.std.specs.List.{AllByRecursion};
 ghost use Rattle.epoch_runner.specs.Schedule.{progress};
-ghost use Rattle.racing_runner.specs.Racing.{counted, raced_end, is_count_of, ordered, raced, raced_so_far, raced_steps, stretch};
+ghost use Rattle.racing_runner.specs.Racing.{with_turn_counted, raced_end, is_count_of, ordered, raced, raced_so_far, raced_steps, stretch};
 ghost use Rattle.sync_hints.specs.NoHints.{no_hints};
 
 use dp_base::{Log, OutOfMemory, Tid};
@@ -42,7 +42,7 @@ impl Notes {
     // Notes a turn of a thread, and what hints say of it.
     fn note(&mut self, tid: Tid, sync: Option<Sc>) -> Result<(), OutOfMemory>
         requires few { AllByRecursion (λ count. count.1 + 1 < 2 ^ 32) self.old.counts.items }
-        ensures counts { OnOk result (self.new.counts.items ≡ counted tid self.old.counts.items) }
+        ensures counts { OnOk result (self.new.counts.items ≡ with_turn_counted tid self.old.counts.items) }
         ensures order { OnOk result (self.new.order.items ≡ ordered tid sync self.old.order.items) }
     {
         count(&mut self.counts, tid)?;
@@ -56,7 +56,7 @@ impl Notes {
 // Counts a step of a thread.
 fn count(counts: &mut Vec<(Tid, u32)>, tid: Tid) -> Result<(), OutOfMemory>
     requires { AllByRecursion (λ count. count.1 + 1 < 2 ^ 32) counts.old.items }
-    ensures { OnOk result (counts.new.items ≡ counted tid counts.old.items) }
+    ensures { OnOk result (counts.new.items ≡ with_turn_counted tid counts.old.items) }
 {
     match place_of(counts, tid) {
         Some(place) => counts[place] = (tid, counts[place].1 + 1),

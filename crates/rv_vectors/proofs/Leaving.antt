@@ -12,7 +12,7 @@ use Rattle.rv_step.specs.Step.{answer_for, effect, hart_after, memory_after}
 use Rattle.rv_vectors.specs.declared.machine.TheConstants.{CODE_FLAGS, CODE_PAGE, DATA_FLAGS, DATA_PAGE}
 use Rattle.rv_vectors.specs.declared.row.After.{After}
 use Rattle.rv_vectors.specs.declared.row.Before.{Before}
-use Rattle.rv_vectors.specs.Running.{after_of, contents, first_hart, first_memory, left, outcome}
+use Rattle.rv_vectors.specs.Running.{after_of, contents, first_hart, first_memory, left, row_outcome}
 
 -- ---- the step
 
@@ -38,18 +38,18 @@ same_effect : (word : ℕ) (before : Before) (h : Hart) (m : Memory) → h ≡ f
 same_effect word before h m hart memory = ap (λ (x : Hart). effect x m) hart ∙ ap (λ (x : Memory). effect (first_hart before) x) memory
 
 pub at_ecall : (word : ℕ) (before : Before) (h : Hart) (m : Memory) (s : Stepped) → h ≡ first_hart before → m ≡ first_memory word before
-    → s ≡ answer_for (effect h m) → s ≡ Ecall → None ≡ outcome word before
+    → s ≡ answer_for (effect h m) → s ≡ Ecall → None ≡ row_outcome word before
 at_ecall word before h m s hart memory answer is =
     left_calling word (effect (first_hart before) (first_memory word before)) (sym is ∙ answer ∙ ap answer_for (same_effect word before h m hart memory))
 
 pub at_trap : (word : ℕ) (before : Before) (h : Hart) (m : Memory) (s : Stepped) (cause value : ℕ) → h ≡ first_hart before → m ≡ first_memory word before
-    → s ≡ answer_for (effect h m) → s ≡ Trap cause value → None ≡ outcome word before
+    → s ≡ answer_for (effect h m) → s ≡ Trap cause value → None ≡ row_outcome word before
 at_trap word before h m s cause value hart memory answer is =
     left_trapping word (effect (first_hart before) (first_memory word before)) cause value (sym is ∙ answer ∙ ap answer_for (same_effect word before h m hart memory))
 
 pub at_went : (word : ℕ) (before : Before) (h after : Hart) (m behind : Memory) (s : Stepped) (bytes : Option (List ℕ)) → h ≡ first_hart before → m ≡ first_memory word before
     → s ≡ answer_for (effect h m) → s ≡ Went → after ≡ hart_after (effect h m) h → Some behind ≡ Some (memory_after (effect h m) m)
-    → bytes ≡ option_map (λ p. p.bytes) (page_at behind DATA_PAGE) → option_map (after_of word after) bytes ≡ outcome word before
+    → bytes ≡ option_map (λ p. p.bytes) (page_at behind DATA_PAGE) → option_map (after_of word after) bytes ≡ row_outcome word before
 at_went word before h after m behind s bytes hart memory answer is hart_is memory_is bytes_are =
     let kept : behind ≡ memory_after (effect h m) m = cc in
     ap (λ (o : Option (List ℕ)). option_map (after_of word after) o) bytes_are

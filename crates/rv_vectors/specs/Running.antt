@@ -65,5 +65,5 @@ left word calls = None
 left word (traps cause value) = None
 
 -- what a word does, once
-abbrev pub outcome : ℕ → Before → Option After
-outcome word before = left word (effect (first_hart before) (first_memory word before))
+abbrev pub row_outcome : ℕ → Before → Option After
+row_outcome word before = left word (effect (first_hart before) (first_memory word before))

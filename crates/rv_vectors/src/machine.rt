@@ -1,6 +1,6 @@
 // A hart and a memory that run one instruction.
 ghost use Rattle.std.specs.Prelude.{◌≡◌, ◌↔◌, ◌<◌, ◌≤◌, IfOk, Some, length, true};
-ghost use Rattle.rv_vectors.specs.Running.{after_of, contents, first_hart, first_memory, linked, outcome, relative, shown, sixteen_of};
+ghost use Rattle.rv_vectors.specs.Running.{after_of, contents, first_hart, first_memory, linked, row_outcome, relative, shown, sixteen_of};
 
 use crate::row::{After, Before, Row};
 use cow_pages::Pages;
@@ -24,7 +24,7 @@ const X7: u32 = 0x1357_2468;
 
 /// Returns whether a row's instruction does what the row says.
 pub(crate) fn agrees(alloc: Global, row: &Row) -> Result<bool, OutOfMemory>
-    ensures { IfOk result (λ agrees. (agrees ≡ true) ↔ (outcome row.now.word row.now.before ≡ Some row.now.after)) }
+    ensures { IfOk result (λ agrees. (agrees ≡ true) ↔ (row_outcome row.now.word row.now.before ≡ Some row.now.after)) }
 {
     match run(alloc, row.word, &row.before)? {
         Some(left) => Ok(left == row.after),
@@ -34,7 +34,7 @@ pub(crate) fn agrees(alloc: Global, row: &Row) -> Result<bool, OutOfMemory>
 
 // Runs the instruction that a word is, once. Returns what it leaves, or `None` if it isn't done.
 fn run(alloc: Global, word: u32, before: &Before) -> Result<Option<After>, OutOfMemory>
-    ensures { IfOk result (λ left. left ≡ outcome word before.now) }
+    ensures { IfOk result (λ left. left ≡ row_outcome word before.now) }
 {
     let mut hart = hart_of(before);
     let mut pages = pages_of(alloc, word, before)?;

@@ -11,7 +11,7 @@ use Rattle.dp_base.specs.Memory.{bytes_with, put_bytes}
 use Rattle.dp_base.specs.declared.limits.TheConstants.{PAGE_BYTES}
 use Rattle.dp_base.specs.declared.page.Page.{Page}
 use Rattle.shared_words.specs.Copied.{AreCopied, AreMarked, Differs, HasChanges, HasChangesIn, HasEachWord, HasWord, IsStoredIn, IsWordOf, OnlyLoads, OnlyStores, block_address, block_of, page_bytes_at, is_marked, marked_below, pages_overwritten}
-use Rattle.shared_words.specs.Rule.{after_load, after_store}
+use Rattle.shared_words.specs.Rule.{seat_after_load, after_store}
 use Rattle.shared_words.specs.declared.layout.TheConstants.{BLOCK_WORDS, FIRST_WORD, PAGE_BLOCKS, PAGE_WORDS}
 use Rattle.shared_words.specs.declared.mapped_page.MappedPage.{MappedPage}
 use Rattle.shared_words.specs.declared.view.Stored.{Stored}
@@ -25,7 +25,7 @@ loads_none v = record { tickets = refl; budget = refl; stored = refl }
 pub loads_then : (u v w : View) → OnlyLoads u v → OnlyLoads v w → OnlyLoads u w
 loads_then u v w a b = record { tickets = b.tickets ∙ a.tickets; budget = b.budget ∙ a.budget; stored = b.stored ∙ a.stored }
 
-pub loads_more : (u v w : View) (word found : ℕ) → OnlyLoads u v → w ≡ after_load v word found → OnlyLoads u w
+pub loads_more : (u v w : View) (word found : ℕ) → OnlyLoads u v → w ≡ seat_after_load v word found → OnlyLoads u w
 loads_more u v w word found a is = subst (OnlyLoads u) (sym is) (record { tickets = a.tickets; budget = a.budget; stored = a.stored })
 
 pub stores_none : (P : Stored → Type 0) (Q : List Stored → Type 0) (v : View) → Q [] → OnlyStores P Q v v

@@ -7,7 +7,7 @@ use Rattle.std.proofs.lemmas.List.{get_or-map, get_or-take, length-map, length-t
 use Rattle.std.proofs.Math.Seq.{get_or-append_seam}
 use Rattle.std.proofs.Math.ListN.{get_or-append}
 use Rattle.dp_base.specs.declared.page.Page.{Page}
-use Rattle.shared_words.specs.Layout.{AreMapped, HasPageWords, byte_at, mapped_page}
+use Rattle.shared_words.specs.Layout.{AreMapped, HasPageWords, byte_of_word, mapped_page}
 use Rattle.shared_words.specs.declared.mapped_page.MappedPage.{MappedPage}
 
 pub none_yet : (mapped : List MappedPage) (words : List ℕ) → HasPageWords (take 0 mapped) words []
@@ -47,7 +47,7 @@ room mapped words pages index are within has = let n = pages_so_far mapped words
 
 pub has_more : (mapped : List MappedPage) (words : List ℕ) (pages : List Page) (index : ℕ) (s z : MappedPage) (bytes rest : List ℕ) → length bytes ≡ 4096 → index < length mapped → get_or mapped index z ≡ s
     → HasPageWords (take index mapped) words pages
-    → ((k : ℕ) → k < 4096 → get_or bytes k 0 ≡ byte_at words index k)
+    → ((k : ℕ) → k < 4096 → get_or bytes k 0 ≡ byte_of_word words index k)
     → HasPageWords (take (index + 1) mapped) words (pages ++ record { number = s.number; flags = s.flags; bytes = bytes ++ rest } ∷ [])
 has_more mapped words pages index s z bytes rest whole within here has are_bytes =
     let n = pages_so_far mapped words pages index (omega arith) has in
@@ -64,6 +64,6 @@ has_more mapped words pages index s z bytes rest whole within here has are_bytes
           let q : get_or (pages ++ p ∷ []) k d ≡ p = ap (λ i. get_or (pages ++ p ∷ []) i d) is ∙ get_or-append_seam pages p [] d in
           ap (λ (r : Page). get_or r.bytes offset 0) q
           ∙ (get_or-append bytes rest 0 offset (omega arith)
-          ∙ (are_bytes offset off ∙ ap (λ i. byte_at words i offset) (sym (is ∙ n)))))
+          ∙ (are_bytes offset off ∙ ap (λ i. byte_of_word words i offset) (sym (is ∙ n)))))
           (cases_lt k (length pages));
     }

@@ -6,7 +6,7 @@ use Rattle.std.specs.Prelude.{◌==◌}
 use mathlib.Core.Option.{none, some}
 use lib.ListN.{get_elem?}
 use Rattle.atomic_table.specs.Table.{Me, step, keeps, Allows, Splits, Joins}
-use Rattle.shared_words.specs.Rule.{HasSource, KeepsRule, times, stores_of, total, once_below, after_load, after_store, after_exchange, loads, stores, exchanges, with_ticket, takes_ticket, reduced, new_view, joined, spent}
+use Rattle.shared_words.specs.Rule.{HasSource, KeepsRule, times, stores_of, total, once_below, seat_after_load, after_store, after_exchange, loads_word, stores_word, exchanges, with_ticket, takes_ticket, reduced, new_seat_view, joined_seats, spent}
 use Rattle.shared_words.specs.declared.view.Stored.{Stored}
 use Rattle.shared_words.specs.declared.view.View.{View}
 use Rattle.shared_words.proofs.Views.{total_set, total_append, part_of, times_append, stores_append, stored_last, above_all, once_more, once_below_lt, set_at}
@@ -59,14 +59,14 @@ stepping start slots id word m f w then pos fits tickets budget more source says
       says n small,
     )
 
-pub loading : (start : List ℕ) (slots id word : ℕ) (m : M) → 0 < word → Allows (KeepsRule start) slots id m word (λ n. n) (loads (step slots word 0 0 none) m)
+pub loading : (start : List ℕ) (slots id word : ℕ) (m : M) → 0 < word → Allows (KeepsRule start) slots id m word (λ n. n) (loads_word (step slots word 0 0 none) m)
 loading start slots id word m pos =
-    stepping start slots id word m (λ n. n) (λ n. after_load m.0 word n) (loads (step slots word 0 0 none) m) pos (λ n h. h) (λ n x. refl) (λ n. refl) (λ n x y. omega arith) (λ n. inl refl) (λ n h. (h, refl))
+    stepping start slots id word m (λ n. n) (λ n. seat_after_load m.0 word n) (loads_word (step slots word 0 0 none) m) pos (λ n h. h) (λ n x. refl) (λ n. refl) (λ n x y. omega arith) (λ n. inl refl) (λ n h. (h, refl))
 
 pub storing : (start : List ℕ) (slots id word value : ℕ) (m : M) → 0 < word → value < 2 ^ 32
-    → Allows (KeepsRule start) slots id m word (λ _. value) (λ _. stores (step slots word value 0 none) m value)
+    → Allows (KeepsRule start) slots id m word (λ _. value) (λ _. stores_word (step slots word value 0 none) m value)
 storing start slots id word value m pos small =
-    stepping start slots id word m (λ _. value) (λ _. after_store m.0 word value) (λ _. stores (step slots word value 0 none) m value) pos (λ n h. small) (λ n x. refl) (λ n. refl)
+    stepping start slots id word m (λ _. value) (λ _. after_store m.0 word value) (λ _. stores_word (step slots word value 0 none) m value) pos (λ n h. small) (λ n x. refl) (λ n. refl)
     (λ n x y. (let a = stores_append x y m.0.stored (record { word = word; value = value } ∷ []) in omega arith))
     (λ n. inr (stored_last word value m.0.stored)) (λ n h. refl)
 
@@ -113,26 +113,26 @@ taking start slots id m some_left s kept _ at _ =
       (above_all n m.0.tickets (λ x p. once_below_lt x n (let k = kept.tickets x in let q = part_of (λ v. times x v.tickets) s.views id m.0 at in omega arith)), refl),
     )
 
-pub splitting : (start : List ℕ) (id : ℕ) (v : View) → 2 ^ 32 ≤ v.budget → Splits (KeepsRule start) id v (reduced v) new_view
+pub splitting : (start : List ℕ) (id : ℕ) (v : View) → 2 ^ 32 ≤ v.budget → Splits (KeepsRule start) id v (reduced v) new_seat_view
 splitting start id v enough s kept at =
     record {
       ticket_word = kept.ticket_word;
       guest_words = kept.guest_words;
-      tickets = λ x. (let e = same_total (λ u. times x u.tickets) s.views id v (reduced v) at refl in let a = total_append (λ u. times x u.tickets) (set s.views id (reduced v)) new_view in let k = kept.tickets x in omega arith);
-      budgets = (let e = total_set (λ u. u.budget) s.views id v (reduced v) at in let a = total_append (λ u. u.budget) (set s.views id (reduced v)) new_view in let b = kept.budgets in omega arith);
-      sources = λ i p. kept_source start s.views (set s.views id (reduced v) ++ new_view ∷ []) i (get_or s.words i 0)
-          (let f : View → ℕ = λ u. stores_of i (get_or s.words i 0) u.stored in let e = same_total f s.views id v (reduced v) at refl in let a = total_append f (set s.views id (reduced v)) new_view in omega arith) (kept.sources i p);
+      tickets = λ x. (let e = same_total (λ u. times x u.tickets) s.views id v (reduced v) at refl in let a = total_append (λ u. times x u.tickets) (set s.views id (reduced v)) new_seat_view in let k = kept.tickets x in omega arith);
+      budgets = (let e = total_set (λ u. u.budget) s.views id v (reduced v) at in let a = total_append (λ u. u.budget) (set s.views id (reduced v)) new_seat_view in let b = kept.budgets in omega arith);
+      sources = λ i p. kept_source start s.views (set s.views id (reduced v) ++ new_seat_view ∷ []) i (get_or s.words i 0)
+          (let f : View → ℕ = λ u. stores_of i (get_or s.words i 0) u.stored in let e = same_total f s.views id v (reduced v) at refl in let a = total_append f (set s.views id (reduced v)) new_seat_view in omega arith) (kept.sources i p);
     }
 
-pub joining : (start : List ℕ) (id other : ℕ) (v w : View) → Joins (KeepsRule start) id v other w (joined v w) spent
+pub joining : (start : List ℕ) (id other : ℕ) (v w : View) → Joins (KeepsRule start) id v other w (joined_seats v w) spent
 joining start id other v w s kept at _ there =
     record {
       ticket_word = kept.ticket_word;
       guest_words = kept.guest_words;
-      tickets = λ x. (let e = total_set (λ u. times x u.tickets) s.views id v (joined v w) at in let o = total_set (λ u. times x u.tickets) (set s.views id (joined v w)) other w spent there in
+      tickets = λ x. (let e = total_set (λ u. times x u.tickets) s.views id v (joined_seats v w) at in let o = total_set (λ u. times x u.tickets) (set s.views id (joined_seats v w)) other w spent there in
           let a = times_append x v.tickets w.tickets in let k = kept.tickets x in omega arith);
-      budgets = (let e = total_set (λ u. u.budget) s.views id v (joined v w) at in let o = total_set (λ u. u.budget) (set s.views id (joined v w)) other w spent there in let b = kept.budgets in omega arith);
-      sources = λ i p. kept_source start s.views (set (set s.views id (joined v w)) other spent) i (get_or s.words i 0)
-          (let f : View → ℕ = λ u. stores_of i (get_or s.words i 0) u.stored in let e = total_set f s.views id v (joined v w) at in let o = total_set f (set s.views id (joined v w)) other w spent there in
+      budgets = (let e = total_set (λ u. u.budget) s.views id v (joined_seats v w) at in let o = total_set (λ u. u.budget) (set s.views id (joined_seats v w)) other w spent there in let b = kept.budgets in omega arith);
+      sources = λ i p. kept_source start s.views (set (set s.views id (joined_seats v w)) other spent) i (get_or s.words i 0)
+          (let f : View → ℕ = λ u. stores_of i (get_or s.words i 0) u.stored in let e = total_set f s.views id v (joined_seats v w) at in let o = total_set f (set s.views id (joined_seats v w)) other w spent there in
           let a = stores_append i (get_or s.words i 0) v.stored w.stored in omega arith) (kept.sources i p);
     }

@@ -59,12 +59,12 @@ abbrev pub word_byte : (word index : ℕ) → ℕ
 word_byte word index = word / 256 ^ index % 256
 
 -- the byte at an offset of the page at an index
-abbrev pub byte_at : List ℕ → (index offset : ℕ) → ℕ
-byte_at words index offset = word_byte (slice_index words ((FIRST_WORD + PAGE_WORDS * index) + offset / 4)) (offset % 4)
+abbrev pub byte_of_word : List ℕ → (index offset : ℕ) → ℕ
+byte_of_word words index offset = word_byte (slice_index words ((FIRST_WORD + PAGE_WORDS * index) + offset / 4)) (offset % 4)
 
 -- the bytes of the first pages are those of these words
 abbrev pub HasPageBytes : (words : List ℕ) (count : ℕ) (pages : List Page) → Type 0
-HasPageBytes words count pages = (index offset : ℕ) (d : Page) → index < count → offset < PAGE_BYTES → slice_index (slice_index_or pages index d).bytes offset ≡ byte_at words index offset
+HasPageBytes words count pages = (index offset : ℕ) (d : Page) → index < count → offset < PAGE_BYTES → slice_index (slice_index_or pages index d).bytes offset ≡ byte_of_word words index offset
 
 -- pages with these numbers and flags, whose bytes are those of these words
 pub record HasPageWords (mapped : List MappedPage) (words : List ℕ) (pages : List Page) : Type 0 where

@@ -53,15 +53,15 @@ abbrev pub all_tickets : View
 all_tickets = idle (2 ^ 62)
 
 -- a new seat's
-abbrev pub new_view : View
-new_view = idle (2 ^ 32)
+abbrev pub new_seat_view : View
+new_seat_view = idle (2 ^ 32)
 
 -- that of a seat which was joined to another
 abbrev pub spent : View
 spent = idle 0
 
-abbrev pub after_load : View → (word found : ℕ) → View
-after_load v word found = record v { steps = v.steps + 1; last = record { word = word; found = found } }
+abbrev pub seat_after_load : View → (word found : ℕ) → View
+seat_after_load v word found = record v { steps = v.steps + 1; last = record { word = word; found = found } }
 
 abbrev pub after_store : View → (word value : ℕ) → View
 after_store v word value = record v { steps = v.steps + 1; last = record { word = word; found = value }; stored = v.stored ++ record { word = word; value = value } ∷ [] }
@@ -78,8 +78,8 @@ with_ticket v ticket = record v { tickets = v.tickets ++ ticket ∷ []; budget =
 abbrev pub reduced : View → View
 reduced v = record v { budget = v.budget - 2 ^ 32 }
 
-abbrev pub joined : View → View → View
-joined v w = record v { tickets = v.tickets ++ w.tickets; budget = v.budget + w.budget; steps = v.steps + w.steps; stored = v.stored ++ w.stored }
+abbrev pub joined_seats : View → View → View
+joined_seats v w = record v { tickets = v.tickets ++ w.tickets; budget = v.budget + w.budget; steps = v.steps + w.steps; stored = v.stored ++ w.stored }
 
 abbrev pub view_of : Seat (Unit {0}) View → View
 view_of seat = seat.me.0
@@ -89,11 +89,11 @@ view_of seat = seat.me.0
 abbrev Own : Type 0
 Own = Me (Unit {0}) View
 
-abbrev pub loads : Step (Unit {0}) → Own → ℕ → Own → Type 0
-loads st m found m' = (found < 2 ^ 32) × (m' ≡ (after_load m.0 st.word found, m.1))
+abbrev pub loads_word : Step (Unit {0}) → Own → ℕ → Own → Type 0
+loads_word st m found m' = (found < 2 ^ 32) × (m' ≡ (seat_after_load m.0 st.word found, m.1))
 
-abbrev pub stores : Step (Unit {0}) → Own → ℕ → Own → Type 0
-stores st m value m' = m' ≡ (after_store m.0 st.word value, m.1)
+abbrev pub stores_word : Step (Unit {0}) → Own → ℕ → Own → Type 0
+stores_word st m value m' = m' ≡ (after_store m.0 st.word value, m.1)
 
 abbrev pub exchanges : Step (Unit {0}) → Own → ℕ → Own → Type 0
 exchanges st m found m' = (found < 2 ^ 32) × (m' ≡ (after_exchange m.0 st.word st.first st.second found, m.1))

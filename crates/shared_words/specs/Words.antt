@@ -12,8 +12,8 @@ abbrev pub table_of : SharedWords → TableId
 table_of words = words.table.shared.table_id
 
 -- the words at the start
-abbrev pub start_of : SharedWords → List ℕ
-start_of words = words.table.shared.key.items
+abbrev pub words_start : SharedWords → List ℕ
+words_start words = words.table.shared.key.items
 
 -- the pages that the words are of, without their bytes
 abbrev pub pages_of : SharedWords → List MappedPage

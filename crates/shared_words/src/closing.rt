@@ -4,7 +4,7 @@ ghost use Rattle.core.specs.Mem.Slots.{slots_items, slots_len, IsFull};
 ghost use Rattle.shared_words.specs.Closing.{ClosesTo};
 ghost use Rattle.shared_words.specs.Layout.{AreMapped, HasPageWords, word_byte};
 ghost use Rattle.shared_words.specs.Rule.{view_of};
-ghost use Rattle.shared_words.specs.Words.{IsSeatOf, pages_of, start_of, table_of};
+ghost use Rattle.shared_words.specs.Words.{IsSeatOf, pages_of, words_start, table_of};
 ghost use Rattle.shared_words.specs.declared.layout.TheConstants.{FIRST_WORD, PAGE_WORDS};
 
 use crate::layout::{FIRST_WORD, PAGE_WORDS};
@@ -24,7 +24,7 @@ impl SharedWords {
     /// `OutOfMemory` if an allocation fails. The words are lost then.
     pub fn into_pages(self, alloc: Global, seat: Seat) -> Result<Pages, OutOfMemory>
         requires { IsSeatOf self seat }
-        ensures { IfOk result (λ pages. ClosesTo (pages_of self) (start_of self) (table_of self).words (view_of seat) pages) }
+        ensures { IfOk result (λ pages. ClosesTo (pages_of self) (words_start self) (table_of self).words (view_of seat) pages) }
     {
         let SharedWords {
             table,

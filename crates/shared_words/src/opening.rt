@@ -2,7 +2,7 @@
 ghost use Rattle.std.specs.Prelude.{◌≡◌, ℕ, ◌+◌, ◌*◌, ◌/◌, ◌%◌, ◌<◌, ◌≤◌, ◌^◌, All, IfOk, length, map, slice_index, vec_len};
 ghost use Rattle.shared_words.specs.Layout.{HasPageBytes, HasPageWords, mapped_page, word_byte};
 ghost use Rattle.shared_words.specs.Rule.{all_tickets, view_of};
-ghost use Rattle.shared_words.specs.Words.{IsSeatOf, pages_of, start_of};
+ghost use Rattle.shared_words.specs.Words.{IsSeatOf, pages_of, words_start};
 ghost use Rattle.shared_words.specs.declared.layout.TheConstants.{FIRST_WORD, PAGE_WORDS};
 ghost use Rattle.shared_words.specs.declared.shared_words.TheConstants.{HINTS};
 
@@ -24,7 +24,7 @@ impl SharedWords {
         ensures seat { IfOk result (λ r. IsSeatOf r.0 r.1) }
         ensures view { IfOk result (λ r. view_of r.1 ≡ all_tickets) }
         ensures mapped { IfOk result (λ r. pages_of r.0 ≡ map mapped_page pages.now) }
-        ensures words { IfOk result (λ r. HasPageWords (pages_of r.0) (start_of r.0) pages.now) }
+        ensures words { IfOk result (λ r. HasPageWords (pages_of r.0) (words_start r.0) pages.now) }
     {
         let mapped = read_mapped(alloc, pages)?;
         // Its clause bounds the number of pages.

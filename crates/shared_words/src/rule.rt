@@ -1,5 +1,5 @@
 // The rule of the words, and what each kind of step says.
-ghost use Rattle.shared_words.specs.Rule.{KeepsRule, all_tickets, exchanges, joined, loads, new_view, reduced, spent, stores, takes_ticket};
+ghost use Rattle.shared_words.specs.Rule.{KeepsRule, all_tickets, exchanges, joined_seats, loads_word, new_seat_view, reduced, spent, stores_word, takes_ticket};
 
 use crate::view::View;
 use atomic_table::{Join, Play, Split, TableRule};
@@ -16,13 +16,13 @@ impl TableRule<(), View, Vec<u64>> for WordRule {
 pub(crate) struct Loads;
 
 impl Play<(), View> for Loads {
-    ghost then = { loads };
+    ghost then = { loads_word };
 }
 
 pub(crate) struct Stores;
 
 impl Play<(), View> for Stores {
-    ghost then = { stores };
+    ghost then = { stores_word };
 }
 
 pub(crate) struct Exchanges;
@@ -42,13 +42,13 @@ pub(crate) struct SplitsBudget;
 impl Split<View> for SplitsBudget {
     ghost left = { reduced };
 
-    ghost right = { λ _. new_view };
+    ghost right = { λ _. new_seat_view };
 }
 
 pub(crate) struct JoinsViews;
 
 impl Join<View> for JoinsViews {
-    ghost both = { joined };
+    ghost both = { joined_seats };
 
     ghost spent = { spent };
 }

@@ -1,7 +1,7 @@
 // The steps that a seat takes. Each is one atomic step on one word.
 ghost use Rattle.std.specs.Prelude.{◌≡◌, ℕ, ◌/◌, ◌%◌, ◌<◌, ◌≤◌, ◌^◌, ◌==◌, All, Some, true};
 ghost use Rattle.shared_words.specs.Layout.{is_mapped, word_index};
-ghost use Rattle.shared_words.specs.Rule.{after_exchange, after_load, after_store, joined, new_view, reduced, view_of, with_ticket};
+ghost use Rattle.shared_words.specs.Rule.{after_exchange, seat_after_load, after_store, joined_seats, new_seat_view, reduced, view_of, with_ticket};
 ghost use Rattle.shared_words.specs.Words.{IsGuestWord, IsSeatOf, pages_of, table_of};
 
 use crate::rule::{Exchanges, JoinsViews, Loads, SplitsBudget, Stores, TakesTicket};
@@ -14,7 +14,7 @@ impl SharedWords {
         requires aligned { address % 4 ≡ 0 }
         requires mapped { is_mapped (pages_of self.now) (address / 4096) ≡ true }
         ensures seat { IsSeatOf self.now seat.new }
-        ensures view { (word : ℕ) × (Some word ≡ word_index (pages_of self.now) address) × (view_of seat.new ≡ after_load (view_of seat.old) word result) }
+        ensures view { (word : ℕ) × (Some word ≡ word_index (pages_of self.now) address) × (view_of seat.new ≡ seat_after_load (view_of seat.old) word result) }
     {
         let word = self.index(address);
         self.load_at(seat, word)
@@ -62,7 +62,7 @@ impl SharedWords {
         requires seat { IsSeatOf self.now seat }
         requires budget { 2 ^ 32 ≤ (view_of seat).budget }
         ensures seats { IsSeatOf self.now result.0 × IsSeatOf self.now result.1 }
-        ensures views { (view_of result.0 ≡ reduced (view_of seat)) × (view_of result.1 ≡ new_view) }
+        ensures views { (view_of result.0 ≡ reduced (view_of seat)) × (view_of result.1 ≡ new_seat_view) }
     {
         let new = self.table.shared.split_seat::<SplitsBudget>(&mut seat);
         (seat, new)
@@ -72,7 +72,7 @@ impl SharedWords {
     pub fn join(&self, mut seat: Seat, other: Seat) -> Seat
         requires seats { IsSeatOf self.now seat × IsSeatOf self.now other }
         ensures seat { IsSeatOf self.now result }
-        ensures view { view_of result ≡ joined (view_of seat) (view_of other) }
+        ensures view { view_of result ≡ joined_seats (view_of seat) (view_of other) }
     {
         self.table.shared.join_seat::<JoinsViews>(&mut seat, other);
         seat
@@ -83,7 +83,7 @@ impl SharedWords {
         requires seat { IsSeatOf self.now seat.old }
         requires guest { IsGuestWord (table_of self.now) word }
         ensures seat { IsSeatOf self.now seat.new }
-        ensures view { view_of seat.new ≡ after_load (view_of seat.old) word result }
+        ensures view { view_of seat.new ≡ seat_after_load (view_of seat.old) word result }
     {
         self.table.shared.load::<Loads>(seat, word) as u32
     }

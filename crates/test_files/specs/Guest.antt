@@ -7,8 +7,8 @@ use Rattle.test_files.specs.declared.guest.TheConstants.{HEADERS_START, HEADERS_
 abbrev pub segment_bytes : List ℕ → ℕ
 segment_bytes words = 84 + 4 * min (length words) MOST_WORDS
 
-abbrev pub guest_file : List ℕ → List ℕ
-guest_file words =
+abbrev pub file_of_words : List ℕ → List ℕ
+file_of_words words =
     HEADERS_START
     ++ to_le_bytes w32 (segment_bytes words)
     ++ to_le_bytes w32 (segment_bytes words)

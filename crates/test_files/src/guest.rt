@@ -1,6 +1,6 @@
 // Files of guests: of one that is given by its machine words, and three that many tests share.
 ghost use Rattle.std.specs.Prelude.{◌≡◌, IfOk};
-ghost use Rattle.test_files.specs.Guest.{guest_file};
+ghost use Rattle.test_files.specs.Guest.{file_of_words};
 
 use std::alloc::{AllocError, Allocator};
 
@@ -73,7 +73,7 @@ pub const HEADERS_END: [u8; 8] = [0x05, 0x00, 0x00, 0x00, 0x00, 0x10, 0x00, 0x00
 
 /// The file of a guest of these words, of which the first stands at the entry. Words past [`MOST_WORDS`] lie behind the segment.
 pub fn file_of<A: Allocator>(alloc: A, words: &[u32]) -> Result<Vec<u8, A>, AllocError>
-    ensures file { IfOk result (λ file. file.items ≡ guest_file words.now) }
+    ensures file { IfOk result (λ file. file.items ≡ file_of_words words.now) }
 {
     let size = 84 + 4 * words.len().min(MOST_WORDS) as u32;
     let mut file = HEADERS_START.to_vec(alloc)?;
