@@ -24,7 +24,7 @@ use Rattle.recorder.specs.Drawing.{HasDrawn, answers_in, draws_of, epochs_of_rou
 use Rattle.recorder.specs.Keeping.{Setting, SoFar}
 use Rattle.recorder.specs.Moments.{EachMoment, HoldsAt}
 use Rattle.recorder.specs.Recording.{HasDrawnOn, HasRoom, IsRecorded, Recorded, Run, reported}
-use Rattle.recorder.specs.Telling.{HasTold, IsTold, report_at}
+use Rattle.recorder.specs.Report.{HasSentReport, IsReportSent, report_at}
 use Rattle.journal_text.specs.Records.{Record}
 use Rattle.recorder.specs.Marking.{records_of}
 use Rattle.recorder.proofs.Drawings.{TakeLaws}
@@ -149,10 +149,10 @@ module _ (a : Setting) (there : Option Input) (now : Option History) (racer : Te
     )
 
   abbrev Told : Result Report RecordFault → Type 0
-  Told result = IsTold (report_at tally.epochs squashes tally.sent state) result
+  Told result = IsReportSent (report_at tally.epochs squashes tally.sent state) result
 
   -- by the answer of the report's telling
-  pub ended_so : (later : Option History) → has_ended state.end ≡ true → (told_ : Result Report RecordFault) → Told told_ → IfKnown (HasTold (report_at tally.epochs squashes tally.sent state) told_) now later
+  pub ended_so : (later : Option History) → has_ended state.end ≡ true → (told_ : Result Report RecordFault) → Told told_ → IfKnown (HasSentReport (report_at tally.epochs squashes tally.sent state) told_) now later
       → Recorded a.guest a.tells a.start a.options a.given there a.before later told_
   ended_so later ended_ (Ok report) is known = told later ended_ report is (subst (λ (r : Report). IfKnown (Sent Note (report_line r) true) now later) (sym is) known)
   ended_so later ended_ (Err faults.OutputFault) is known = not_told later ended_ (report_at tally.epochs squashes tally.sent state) refl known
@@ -169,7 +169,7 @@ module _ (a : Setting) (there : Option Input) (now : Option History) (racer : Te
   ended_so later ended_ (Err (faults.StepLimit steps)) is known = absurd is
   ended_so later ended_ (Err (faults.JournalFull end need)) is known = absurd is
 
-  pub ended_moments : (later : Option History) (told_ : Result Report RecordFault) → Told told_ → IfKnown (HasTold (report_at tally.epochs squashes tally.sent state) told_) now later → EachMoment a.guest a.options.mark a.start a.given there a.before later
+  pub ended_moments : (later : Option History) (told_ : Result Report RecordFault) → Told told_ → IfKnown (HasSentReport (report_at tally.epochs squashes tally.sent state) told_) now later → EachMoment a.guest a.options.mark a.start a.given there a.before later
   ended_moments later (Ok report) is known = told_moments (report_line (report_at tally.epochs squashes tally.sent state)) true later known
   ended_moments later (Err faults.OutputFault) is known = told_moments (report_line (report_at tally.epochs squashes tally.sent state)) false later known
   ended_moments later (Err faults.OutOfMemory) is known = known-then _ _ _ _ _ _

@@ -4,7 +4,7 @@ pub mod Drawing
 pub mod Racing
 pub mod Marking
 pub mod Recording
-pub mod Telling
+pub mod Report
 pub mod Moments
 pub mod Keeping
 pub mod Taking

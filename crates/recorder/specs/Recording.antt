@@ -27,6 +27,7 @@ use Rattle.recorder.specs.Drawing.{Draw, HasDrawn, Round, answers_in, draws_of, 
 use Rattle.recorder.specs.Machine.{epochs_of_runs}
 use Rattle.recorder.specs.Marking.{IsMarkDue, records_of, records_unmarked}
 use Rattle.recorder.specs.Racing.{IsRaced, epoch_steps}
+use Rattle.recorder.specs.Report.{report_at}
 use Rattle.racing_runner.specs.declared.offer.Offer.{Offer}
 use Rattle.racing_runner.specs.declared.plan.Plan.{Plan}
 use Rattle.racing_runner.specs.Offers.{Tells}
@@ -35,7 +36,6 @@ use Rattle.epoch_record.specs.Epoch.{epoch_of}
 use Rattle.epoch_runner.specs.declared.epoch_run.EpochRun.{EpochRun}
 use Rattle.epoch_runner.specs.declared.epoch_run.Ran.{Ran}
 use Rattle.epoch_runner.specs.declared.epoch_run.Ran.TheVariants as rans
-use Rattle.checkpoint.specs.State.{digest_of}
 use Rattle.epoch_journal.specs.Images.{Reads}
 use Rattle.epoch_journal.specs.Standing.{Stands}
 use Rattle.journal_text.specs.Reading.{journal_of, reads}
@@ -241,8 +241,7 @@ IsInUse len before after = (len ≡ length before.disk) × (after ≡ before)
 
 -- the report of epochs of which none was squashed
 abbrev pub report_of : List Epoch → State → List ℕ → Report
-report_of epochs end output =
-    record { epochs = length epochs; squashes = 0; steps = end.steps; sent = length output; end = end.end; state = digest_of end }
+report_of epochs end output = report_at (length epochs) 0 (length output) end
 
 -- the report of a run
 abbrev pub reported : {tells : Tells} {options : Options} {start : State} → Run tells options start → Report

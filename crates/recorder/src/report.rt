@@ -4,7 +4,7 @@ ghost use Rattle.checkpoint.specs.State.{IsEncodable};
 ghost use Rattle.dp_base.specs.Counts.{Rose};
 ghost use Rattle.disk_model.specs.Known.{IfKnown};
 ghost use Rattle.recorder.specs.Faults.{MetNoOther};
-ghost use Rattle.recorder.specs.Telling.{HasTold, IsTold, report_at};
+ghost use Rattle.recorder.specs.Report.{HasSentReport, IsReportSent, report_at};
 
 use crate::record_fault::RecordFault;
 use checkpoint::digest;
@@ -25,8 +25,8 @@ pub(crate) fn send_report<W: World>(
     sent: u64,
 ) -> Result<Report, RecordFault>
     requires { IsEncodable state.now }
-    ensures told { IsTold (report_at epochs squashes sent state.now) result }
-    ensures history { IfKnown (HasTold (report_at epochs squashes sent state.now) result) (W.history world.old) (W.history world.new) }
+    ensures told { IsReportSent (report_at epochs squashes sent state.now) result }
+    ensures history { IfKnown (HasSentReport (report_at epochs squashes sent state.now) result) (W.history world.old) (W.history world.new) }
     ensures others { (input : ℕ) → MetNoOther result (W.disk_faults world.old) (W.disk_faults world.new)
         (W.sink_faults world.old) (W.sink_faults world.new) input input }
     ensures cause { IsErrOf result RecordFault.OutputFault →

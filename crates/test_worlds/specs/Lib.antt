@@ -1,2 +1,2 @@
-pub mod Givens
+pub mod Outside
 pub mod Letters

@@ -2,7 +2,7 @@
 ghost use Rattle.std.specs.Prelude.{◌≡◌, ◌<◌, IfOk};
 ghost use Rattle.disk_mem.specs.declared.fails.Fails.TheVariants.{At, Never};
 ghost use Rattle.disk_mem.specs.MemoryWorld.{fresh, restarted};
-ghost use Rattle.test_worlds.specs.Givens.{fails_as};
+ghost use Rattle.test_worlds.specs.Outside.{fails_as};
 
 use disk_mem::{CallNumbers, Fails, MemWorld};
 use dp_base::OutOfMemory;

@@ -1,7 +1,7 @@
 // Words, a file and an input.
 ghost use Rattle.std.specs.Prelude.{◌≡◌, map, string_bytes, IfOk};
 ghost use Rattle.disk_mem.specs.MemoryInput.{of_pieces};
-ghost use Rattle.test_worlds.specs.Givens.{fails_as, one_file};
+ghost use Rattle.test_worlds.specs.Outside.{fails_as, one_file};
 
 use crate::{Failing, fails_of};
 use disk_mem::{MemFiles, MemInlet, NamedFile};

@@ -3,7 +3,7 @@ use Rattle.device.specs.Sending.{Sent}
 use Rattle.disk_model.specs.declared.world.Stream.TheVariants.{Note}
 use Rattle.disk_model.specs.Known.{IfKnown}
 use Rattle.dp_report.specs.Texts.{report_line}
-use Rattle.recorder.specs.Telling.{report_at}
+use Rattle.recorder.specs.Report.{report_at}
 use Rattle.recorder.proofs.report.send_report.Goals as goal
 
 pub returns-clause-history : goal.returns-clause-history
