@@ -1,47 +1,45 @@
 -- Entries of a level that are changed and put.
 use Rattle.std.proofs.Common.{◌≡◌, ◌<◌, ◌≤◌, ◌+◌, ◌-◌, ℕ, zero, suc, Option, Some, None, List, [], ◌∷◌, ◌++◌, length, take, arith, sym, subst, ◌∙◌, ap, refl}
 use Rattle.std.specs.Prelude.{Result, Ok, Err, OnOk, replicate, slice_get, slice_set}
-use Rattle.std.specs.Option.{option_map}
+use Rattle.std.specs.Option.{option_flatten, option_map}
 use Rattle.std.proofs.lemmas.List.{append-nil, append_assoc, length_push, take-append-le}
-use Rattle.dp_base.proofs.Lists.{slice_set_same}
-use Rattle.cow_pages.specs.Tree.{Nodes, Slots, entry_put, in_node, in_slot, leaf_of, node_at, nodes_put, nodes_with, padded, slots_of, slot_at, slots_with}
+use Rattle.cow_pages.specs.Tree.{Nodes, Slots, entry_at, entry_put, nodes_put, padded, slots_of}
 use Rattle.dp_base.specs.declared.page.Page.{Page}
 
 -- ---- an entry that is set
 
-slot_by : (slots : Slots) (j : ℕ) (f : Page → Page) (x : Option Page) (y : Option (Option Page)) → slice_get slots j ≡ y → y ≡ Some x → slice_set slots j (option_map f x) ≡ slots_with slots j f (in_slot y)
-slot_by slots j f x None at is = absurd cc
-slot_by slots j f None (Some None) at is = slice_set_same slots j None at
-slot_by slots j f (Some p) (Some None) at is = absurd cc
-slot_by slots j f None (Some (Some q)) at is = absurd cc
-slot_by slots j f (Some p) (Some (Some q)) at is = let same : p ≡ q = cc in ap (λ (r : Page). slice_set slots j (Some (f r))) same
+pub at_some : {A : Type 0} (entries : List (Option A)) (i : ℕ) (x : Option A) → slice_get entries i ≡ Some x → entry_at entries i ≡ x
+at_some entries i x at = ap option_flatten at
 
-pub set_slot : (slots : Slots) (j : ℕ) (f : Page → Page) (x : Option Page) → slice_get slots j ≡ Some x → slice_set slots j (option_map f x) ≡ slots_with slots j f (slot_at slots j)
-set_slot slots j f x at = slot_by slots j f x (slice_get slots j) refl at
+pub at_none : {A : Type 0} (entries : List (Option A)) (i : ℕ) → slice_get entries i ≡ None → entry_at entries i ≡ None
+at_none entries i at = ap option_flatten at
 
-node_by : (nodes : Nodes) (i : ℕ) (g : Slots → Slots) (x : Option Slots) (y : Option (Option Slots)) → slice_get nodes i ≡ y → y ≡ Some x → slice_set nodes i (option_map g x) ≡ nodes_with nodes i g (in_node y)
-node_by nodes i g x None at is = absurd cc
-node_by nodes i g None (Some None) at is = slice_set_same nodes i None at
-node_by nodes i g (Some p) (Some None) at is = absurd cc
-node_by nodes i g None (Some (Some q)) at is = absurd cc
-node_by nodes i g (Some p) (Some (Some q)) at is = let same : p ≡ q = cc in ap (λ (r : Slots). slice_set nodes i (Some (g r))) same
+pub set_past : {A : Type 0} (entries : List (Option A)) (i : ℕ) (x : Option A) → slice_get entries i ≡ None → slice_set entries i x ≡ entries
+set_past [] i x at = refl
+set_past (y ∷ entries) zero x at = absurd cc
+set_past {A} (y ∷ entries) (suc i) x at = ap (λ (es : List (Option A)). y ∷ es) (set_past entries i x at)
 
-pub set_node : (nodes : Nodes) (i : ℕ) (g : Slots → Slots) (x : Option Slots) → slice_get nodes i ≡ Some x → slice_set nodes i (option_map g x) ≡ nodes_with nodes i g (node_at nodes i)
-set_node nodes i g x at = node_by nodes i g x (slice_get nodes i) refl at
+pub set_here : {A : Type 0} (entries : List (Option A)) (i : ℕ) (x : Option A) → i < length entries → entry_at (slice_set entries i x) i ≡ x
+set_here [] i x within = absurd (omega (arith, within))
+set_here (y ∷ entries) zero x within = refl
+set_here (y ∷ entries) (suc i) x within = set_here entries i x (omega (arith, within))
 
-pub slot_written : {X E : Type 0} (r : Result X E) (slots : Slots) (j : ℕ) (f : Page → Page) (x y : Option Page) → slice_get slots j ≡ Some x → OnOk r (y ≡ option_map f x) → OnOk r (slice_set slots j y ≡ slots_with slots j f (slot_at slots j))
-slot_written (Ok a) slots j f x y at is = ap (λ (z : Option Page). slice_set slots j z) is ∙ set_slot slots j f x at
-slot_written (Err e) slots j f x y at is = tt
+pub set_mapped : {A : Type 0} (entries : List (Option A)) (i : ℕ) (g : A → A) → entry_at (slice_set entries i (option_map g (entry_at entries i))) i ≡ option_map g (entry_at entries i)
+set_mapped [] i g = refl
+set_mapped (y ∷ entries) zero g = refl
+set_mapped (y ∷ entries) (suc i) g = set_mapped entries i g
 
-pub node_written : {X E : Type 0} (r : Result X E) (nodes : Nodes) (i : ℕ) (g : Slots → Slots) (x y : Option Slots) → slice_get nodes i ≡ Some x → OnOk r (y ≡ option_map g x) → OnOk r (slice_set nodes i y ≡ nodes_with nodes i g (node_at nodes i))
-node_written (Ok a) nodes i g x y at is = ap (λ (z : Option Slots). slice_set nodes i z) is ∙ set_node nodes i g x at
-node_written (Err e) nodes i g x y at is = tt
+pub set_none : {A : Type 0} (entries : List (Option A)) (i : ℕ) → entry_at (slice_set entries i None) i ≡ None
+set_none [] i = refl
+set_none (y ∷ entries) zero = refl
+set_none (y ∷ entries) (suc i) = set_none entries i
 
-pub no_slot : (slots : Slots) (j : ℕ) → slice_get slots j ≡ None → slot_at slots j ≡ None
-no_slot slots j at = ap in_slot at
-
-pub no_leaf : (nodes : Nodes) (i j : ℕ) → slice_get nodes i ≡ None → leaf_of (node_at nodes i) j ≡ None
-no_leaf nodes i j at = ap (λ x. leaf_of (in_node x) j) at
+pub set_elsewhere : {A : Type 0} (entries : List (Option A)) (i k : ℕ) (x : Option A) → (i ≡ k → ⊥) → entry_at (slice_set entries i x) k ≡ entry_at entries k
+set_elsewhere [] i k x differ = refl
+set_elsewhere (y ∷ entries) zero zero x differ = absurd (differ refl)
+set_elsewhere (y ∷ entries) zero (suc k) x differ = refl
+set_elsewhere (y ∷ entries) (suc i) zero x differ = refl
+set_elsewhere (y ∷ entries) (suc i) (suc k) x differ = set_elsewhere entries i k x (λ same. differ (ap suc same))
 
 -- ---- an entry that is put
 
@@ -68,12 +66,27 @@ put_inside {A} (suc i) a (y ∷ entries) x at = ap (λ (es : List (Option A)). y
 pub node_put : {X E : Type 0} (r : Result X E) (nodes : Nodes) (i j : ℕ) (p : Page) (x y : Option Slots) → slice_get nodes i ≡ Some x → OnOk r (y ≡ Some (entry_put j p (slots_of x))) → OnOk r (slice_set nodes i y ≡ nodes_put i j p nodes)
 node_put (Ok a) nodes i j p x y at is =
     ap (λ (z : Option Slots). slice_set nodes i z) is ∙ put_inside i (entry_put j p (slots_of x)) nodes x at
-    ∙ ap (λ (z : Option (Option Slots)). entry_put i (entry_put j p (slots_of (in_node z))) nodes) (sym at)
+    ∙ ap (λ (z : Option (Option Slots)). entry_put i (entry_put j p (slots_of (option_flatten z))) nodes) (sym at)
 node_put (Err e) nodes i j p x y at is = tt
 
 pub node_new : {X E : Type 0} (r : Result X E) (nodes new : Nodes) (i j : ℕ) (p : Page) → slice_get nodes i ≡ None → OnOk r (new ≡ entry_put i (entry_put j p []) nodes) → OnOk r (new ≡ nodes_put i j p nodes)
-node_new (Ok a) nodes new i j p at is = is ∙ ap (λ (z : Option (Option Slots)). entry_put i (entry_put j p (slots_of (in_node z))) nodes) (sym at)
+node_new (Ok a) nodes new i j p at is = is ∙ ap (λ (z : Option (Option Slots)). entry_put i (entry_put j p (slots_of (option_flatten z))) nodes) (sym at)
 node_new (Err e) nodes new i j p at is = tt
+
+pub put_here : {A : Type 0} (i : ℕ) (a : A) (entries : List (Option A)) → entry_at (entry_put i a entries) i ≡ Some a
+put_here zero a [] = refl
+put_here zero a (x ∷ entries) = refl
+put_here (suc i) a [] = put_here i a []
+put_here (suc i) a (x ∷ entries) = put_here i a entries
+
+pub put_elsewhere : {A : Type 0} (i k : ℕ) (a : A) (entries : List (Option A)) → (i ≡ k → ⊥) → entry_at (entry_put i a entries) k ≡ entry_at entries k
+put_elsewhere zero zero a entries differ = absurd (differ refl)
+put_elsewhere zero (suc k) a [] differ = refl
+put_elsewhere zero (suc k) a (x ∷ entries) differ = refl
+put_elsewhere (suc i) zero a [] differ = refl
+put_elsewhere (suc i) zero a (x ∷ entries) differ = refl
+put_elsewhere (suc i) (suc k) a [] differ = put_elsewhere i k a [] (λ same. differ (ap suc same))
+put_elsewhere (suc i) (suc k) a (x ∷ entries) differ = put_elsewhere i k a entries (λ same. differ (ap suc same))
 
 -- ---- empty entries at the end
 

@@ -1,14 +1,11 @@
 // A node: pages by the low ten bits of their numbers. Tables share nodes, and each gets its own on the way to a store.
-ghost use Rattle.std.specs.Prelude.{◌≡◌, ◌+◌, ◌<◌, ◌≤◌, [], IfOk, None, OnErr, OnOk, Some, length};
-ghost use Rattle.std.specs.Option.{option_copied, option_map};
-ghost use Rattle.byteorder.specs.Endian.{little_bytes};
-ghost use Rattle.dp_base.specs.Memory.{width_bytes};
-ghost use Rattle.cow_pages.specs.InPage.{is_writable, with_bytes, written};
-ghost use Rattle.cow_pages.specs.Tree.{slot_at, slots_changed, entry_put, slots_with};
+ghost use Rattle.std.specs.Prelude.{◌≡◌, ◌<◌, [], IfOk, OnErr, OnOk};
+ghost use Rattle.std.specs.Option.{option_copied};
+ghost use Rattle.cow_pages.specs.Tree.{entry_at, entry_put, slots_without};
 
 use crate::entries::grow;
 use crate::frame::Frame;
-use dp_base::{OutOfMemory, Width};
+use dp_base::OutOfMemory;
 use std::alloc::Global;
 use std::marker::Model;
 use std::sync::Arc;
@@ -45,7 +42,7 @@ impl Model for Node {
 impl Slots {
     #[inline(always)]
     fn at(&self, place: usize) -> Option<&Frame>
-        ensures { option_copied result ≡ slot_at self.now place }
+        ensures { option_copied result ≡ entry_at self.now place }
     {
         match self.slots.get(place) {
             Some(Some(page)) => Some(page),
@@ -61,37 +58,6 @@ impl Slots {
         Ok(Slots { slots })
     }
 
-    #[inline(always)]
-    fn write(
-        &mut self,
-        alloc: Global,
-        place: usize,
-        offset: usize,
-        width: Width,
-        value: u32,
-    ) -> Result<bool, OutOfMemory>
-        requires { offset + width_bytes width ≤ 4096 }
-        ensures answer { IfOk result (λ done. done ≡ is_writable (slot_at self.old place)) }
-        ensures ok { OnOk result (self.new ≡ slots_changed place (written offset (little_bytes (width_bytes width) value)) self.old) }
-        ensures err { OnErr result (self.new ≡ self.old) }
-    {
-        write_at(&mut self.slots, alloc, place, offset, width, value)
-    }
-
-    fn put_part(
-        &mut self,
-        alloc: Global,
-        place: usize,
-        offset: usize,
-        part: &[u8],
-    ) -> Result<(), OutOfMemory>
-        requires { offset + length part.now ≤ 4096 }
-        ensures ok { OnOk result (self.new ≡ slots_changed place (with_bytes offset part.now) self.old) }
-        ensures err { OnErr result (self.new ≡ self.old) }
-    {
-        put_part_at(&mut self.slots, alloc, place, offset, part)
-    }
-
     fn put(&mut self, place: usize, page: Frame) -> Result<(), OutOfMemory>
         requires { place < 1024 }
         ensures ok { OnOk result (self.new ≡ entry_put place page self.old) }
@@ -99,9 +65,17 @@ impl Slots {
     {
         put_at(&mut self.slots, place, page)
     }
+
+    fn take(&mut self, place: usize) -> Option<Frame>
+        ensures page { result ≡ entry_at self.old place }
+        ensures rest { self.new ≡ slots_without place self.old }
+    {
+        take_at(&mut self.slots, place)
+    }
 }
 
-fn shared(alloc: Global, slots: &[Option<Frame>]) -> Result<Vec<Option<Frame>>, OutOfMemory>
+// Equal slots, whose pages have the same bytes in memory.
+pub fn shared(alloc: Global, slots: &[Option<Frame>]) -> Result<Vec<Option<Frame>>, OutOfMemory>
     ensures { IfOk result (λ copy. copy.items ≡ slots.now) }
 {
     let mut copy = Vec::with_capacity(alloc, slots.len())?;
@@ -121,78 +95,6 @@ fn share_slot(slot: &Option<Frame>) -> Result<Option<Frame>, OutOfMemory>
     }
 }
 
-#[inline(always)]
-fn write_at(
-    slots: &mut Vec<Option<Frame>>,
-    alloc: Global,
-    place: usize,
-    offset: usize,
-    width: Width,
-    value: u32,
-) -> Result<bool, OutOfMemory>
-    requires { offset + width_bytes width ≤ 4096 }
-    ensures answer { IfOk result (λ done. done ≡ is_writable (slot_at slots.old.items place)) }
-    ensures ok { OnOk result (slots.new.items ≡ slots_changed place (written offset (little_bytes (width_bytes width) value)) slots.old.items) }
-    ensures err { OnErr result (slots.new.items ≡ slots.old.items) }
-{
-    match slots.get_mut(place) {
-        Some(slot) => write_slot(slot, alloc, offset, width, value),
-        None => Ok(false),
-    }
-}
-
-#[inline(always)]
-fn write_slot(
-    slot: &mut Option<Frame>,
-    alloc: Global,
-    offset: usize,
-    width: Width,
-    value: u32,
-) -> Result<bool, OutOfMemory>
-    requires { offset + width_bytes width ≤ 4096 }
-    ensures answer { IfOk result (λ done. done ≡ is_writable slot.old) }
-    ensures ok { OnOk result (slot.new ≡ option_map (written offset (little_bytes (width_bytes width) value)) slot.old) }
-    ensures err { OnErr result (slot.new ≡ slot.old) }
-{
-    match slot {
-        Some(page) => page.write(alloc, offset, width, value),
-        None => Ok(false),
-    }
-}
-
-fn put_part_at(
-    slots: &mut Vec<Option<Frame>>,
-    alloc: Global,
-    place: usize,
-    offset: usize,
-    part: &[u8],
-) -> Result<(), OutOfMemory>
-    requires { offset + length part.now ≤ 4096 }
-    ensures ok { OnOk result (slots.new.items ≡ slots_changed place (with_bytes offset part.now) slots.old.items) }
-    ensures err { OnErr result (slots.new.items ≡ slots.old.items) }
-{
-    match slots.get_mut(place) {
-        Some(slot) => put_part_slot(slot, alloc, offset, part),
-        None => Ok(()),
-    }
-}
-
-fn put_part_slot(
-    slot: &mut Option<Frame>,
-    alloc: Global,
-    offset: usize,
-    part: &[u8],
-) -> Result<(), OutOfMemory>
-    requires { offset + length part.now ≤ 4096 }
-    ensures ok { OnOk result (slot.new ≡ option_map (with_bytes offset part.now) slot.old) }
-    ensures err { OnErr result (slot.new ≡ slot.old) }
-{
-    match slot {
-        Some(page) => page.put_part(alloc, offset, part),
-        None => Ok(()),
-    }
-}
-
 #[tactic(auto, using(crate::proofs::EntryChanges::put_entry))]
 fn put_at(slots: &mut Vec<Option<Frame>>, place: usize, page: Frame) -> Result<(), OutOfMemory>
     requires { place < 1024 }
@@ -202,6 +104,16 @@ fn put_at(slots: &mut Vec<Option<Frame>>, place: usize, page: Frame) -> Result<(
     grow(slots, place + 1)?;
     slots[place] = Some(page);
     Ok(())
+}
+
+fn take_at(slots: &mut Vec<Option<Frame>>, place: usize) -> Option<Frame>
+    ensures page { result ≡ entry_at slots.old.items place }
+    ensures rest { slots.new.items ≡ slots_without place slots.old.items }
+{
+    match slots.get_mut(place) {
+        Some(slot) => slot.take(),
+        None => None,
+    }
 }
 
 impl Node {
@@ -238,79 +150,10 @@ impl Node {
     // The page at a place.
     #[inline(always)]
     pub fn at(&self, place: usize) -> Option<&Frame>
-        ensures { option_copied result ≡ slot_at self.now place }
+        ensures { option_copied result ≡ entry_at self.now place }
     {
         let slots: &Slots = &self.slots;
         slots.at(place)
-    }
-
-    // Writes the low bytes of a value to the page at a place, if it may be written. Returns whether it may. An `Err`
-    // changes nothing.
-    #[inline(always)]
-    pub fn write(
-        &mut self,
-        alloc: Global,
-        place: usize,
-        offset: usize,
-        width: Width,
-        value: u32,
-    ) -> Result<bool, OutOfMemory>
-        requires { offset + width_bytes width ≤ 4096 }
-        ensures answer { IfOk result (λ done. done ≡ is_writable (slot_at self.old place)) }
-        ensures ok { OnOk result (self.new ≡ slots_changed place (written offset (little_bytes (width_bytes width) value)) self.old) }
-        ensures err { OnErr result (self.new ≡ self.old) }
-    {
-        match Arc::get_mut(&mut self.slots) {
-            Some(slots) => slots.write(alloc, place, offset, width, value),
-            None => self.write_copy(alloc, place, offset, width, value),
-        }
-    }
-
-    // The same if another table has the node: this one gets its own.
-    #[cold]
-    #[inline(never)]
-    fn write_copy(
-        &mut self,
-        alloc: Global,
-        place: usize,
-        offset: usize,
-        width: Width,
-        value: u32,
-    ) -> Result<bool, OutOfMemory>
-        requires { offset + width_bytes width ≤ 4096 }
-        ensures answer { IfOk result (λ done. done ≡ is_writable (slot_at self.old place)) }
-        ensures ok { OnOk result (self.new ≡ slots_changed place (written offset (little_bytes (width_bytes width) value)) self.old) }
-        ensures err { OnErr result (self.new ≡ self.old) }
-    {
-        let shared: &Slots = &self.slots;
-        let mut slots = shared.copy(alloc)?;
-        let done = slots.write(alloc, place, offset, width, value)?;
-        *self = Node::of_slots(alloc, slots)?;
-        Ok(done)
-    }
-
-    // Writes bytes to the page at a place, if it is mapped. An `Err` changes nothing.
-    pub fn put_part(
-        &mut self,
-        alloc: Global,
-        place: usize,
-        offset: usize,
-        part: &[u8],
-    ) -> Result<(), OutOfMemory>
-        requires { offset + length part.now ≤ 4096 }
-        ensures ok { OnOk result (self.new ≡ slots_changed place (with_bytes offset part.now) self.old) }
-        ensures err { OnErr result (self.new ≡ self.old) }
-    {
-        match Arc::get_mut(&mut self.slots) {
-            Some(slots) => slots.put_part(alloc, place, offset, part),
-            None => {
-                let shared: &Slots = &self.slots;
-                let mut slots = shared.copy(alloc)?;
-                slots.put_part(alloc, place, offset, part)?;
-                *self = Node::of_slots(alloc, slots)?;
-                Ok(())
-            }
-        }
     }
 
     // Puts a page at a place. An `Err` changes nothing.
@@ -327,6 +170,24 @@ impl Node {
                 slots.put(place, page)?;
                 *self = Node::of_slots(alloc, slots)?;
                 Ok(())
+            }
+        }
+    }
+
+    // Takes the page at a place out, if there is one. An `Err` changes nothing.
+    pub fn take(&mut self, alloc: Global, place: usize) -> Result<Option<Frame>, OutOfMemory>
+        ensures page { IfOk result (λ page. page ≡ entry_at self.old place) }
+        ensures ok { OnOk result (self.new ≡ slots_without place self.old) }
+        ensures err { OnErr result (self.new ≡ self.old) }
+    {
+        match Arc::get_mut(&mut self.slots) {
+            Some(slots) => Ok(slots.take(place)),
+            None => {
+                let shared: &Slots = &self.slots;
+                let mut slots = shared.copy(alloc)?;
+                let page = slots.take(place);
+                *self = Node::of_slots(alloc, slots)?;
+                Ok(page)
             }
         }
     }

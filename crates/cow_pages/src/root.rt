@@ -1,16 +1,13 @@
 // The root: nodes by the high ten bits of the numbers of their pages. Tables share roots, and each gets its own on the way to a
 // store.
-ghost use Rattle.std.specs.Prelude.{◌≡◌, ◌+◌, ◌<◌, ◌≤◌, ◌^◌, [], IfOk, OnErr, OnOk, Some, length};
+ghost use Rattle.std.specs.Prelude.{◌≡◌, ◌<◌, ◌^◌, [], IfOk, OnErr, OnOk, Some};
 ghost use Rattle.std.specs.Option.{option_copied, option_map};
-ghost use Rattle.byteorder.specs.Endian.{little_bytes};
-ghost use Rattle.dp_base.specs.Memory.{width_bytes};
-ghost use Rattle.cow_pages.specs.InPage.{is_writable, with_bytes, written};
-ghost use Rattle.cow_pages.specs.Tree.{entry_put, leaf, leaf_changed, leaf_of, leaf_put, slots_changed, slots_of};
+ghost use Rattle.cow_pages.specs.Tree.{entry_put, leaf, leaf_of, leaf_put, leaf_without, slots_of, slots_without};
 
 use crate::entries::grow;
 use crate::frame::Frame;
 use crate::node::Node;
-use dp_base::{OutOfMemory, Width};
+use dp_base::OutOfMemory;
 use std::alloc::Global;
 use std::marker::Model;
 use std::sync::Arc;
@@ -63,42 +60,19 @@ impl Nodes {
         Ok(Nodes { nodes })
     }
 
-    #[inline(always)]
-    fn write(
-        &mut self,
-        alloc: Global,
-        number: u32,
-        offset: usize,
-        width: Width,
-        value: u32,
-    ) -> Result<bool, OutOfMemory>
-        requires { offset + width_bytes width ≤ 4096 }
-        ensures answer { IfOk result (λ done. done ≡ is_writable (leaf self.old number)) }
-        ensures ok { OnOk result (self.new ≡ leaf_changed number (written offset (little_bytes (width_bytes width) value)) self.old) }
-        ensures err { OnErr result (self.new ≡ self.old) }
-    {
-        write_at(&mut self.nodes, alloc, number, offset, width, value)
-    }
-
-    fn put_part(
-        &mut self,
-        alloc: Global,
-        number: u32,
-        offset: usize,
-        part: &[u8],
-    ) -> Result<(), OutOfMemory>
-        requires { offset + length part.now ≤ 4096 }
-        ensures ok { OnOk result (self.new ≡ leaf_changed number (with_bytes offset part.now) self.old) }
-        ensures err { OnErr result (self.new ≡ self.old) }
-    {
-        put_part_at(&mut self.nodes, alloc, number, offset, part)
-    }
-
     fn put(&mut self, alloc: Global, page: Frame) -> Result<(), OutOfMemory>
         ensures ok { OnOk result (self.new ≡ leaf_put page self.old) }
         ensures err { OnErr result (self.new ≡ self.old) }
     {
         put_at(&mut self.nodes, alloc, page)
+    }
+
+    fn take(&mut self, alloc: Global, number: u32) -> Result<Option<Frame>, OutOfMemory>
+        ensures page { IfOk result (λ page. page ≡ leaf self.old number) }
+        ensures ok { OnOk result (self.new ≡ leaf_without number self.old) }
+        ensures err { OnErr result (self.new ≡ self.old) }
+    {
+        take_at(&mut self.nodes, alloc, number)
     }
 }
 
@@ -119,80 +93,6 @@ fn share_node(node: &Option<Node>) -> Result<Option<Node>, OutOfMemory>
     match node {
         Some(node) => Ok(Some(node.share()?)),
         None => Ok(None),
-    }
-}
-
-#[inline(always)]
-fn write_at(
-    nodes: &mut Vec<Option<Node>>,
-    alloc: Global,
-    number: u32,
-    offset: usize,
-    width: Width,
-    value: u32,
-) -> Result<bool, OutOfMemory>
-    requires { offset + width_bytes width ≤ 4096 }
-    ensures answer { IfOk result (λ done. done ≡ is_writable (leaf nodes.old.items number)) }
-    ensures ok { OnOk result (nodes.new.items ≡ leaf_changed number (written offset (little_bytes (width_bytes width) value)) nodes.old.items) }
-    ensures err { OnErr result (nodes.new.items ≡ nodes.old.items) }
-{
-    match nodes.get_mut((number / 1024) as usize) {
-        Some(node) => write_node(node, alloc, (number % 1024) as usize, offset, width, value),
-        None => Ok(false),
-    }
-}
-
-#[inline(always)]
-fn write_node(
-    node: &mut Option<Node>,
-    alloc: Global,
-    place: usize,
-    offset: usize,
-    width: Width,
-    value: u32,
-) -> Result<bool, OutOfMemory>
-    requires { offset + width_bytes width ≤ 4096 }
-    ensures answer { IfOk result (λ done. done ≡ is_writable (leaf_of node.old place)) }
-    ensures ok { OnOk result (node.new ≡ option_map (slots_changed place (written offset (little_bytes (width_bytes width) value))) node.old) }
-    ensures err { OnErr result (node.new ≡ node.old) }
-{
-    match node {
-        Some(node) => node.write(alloc, place, offset, width, value),
-        None => Ok(false),
-    }
-}
-
-fn put_part_at(
-    nodes: &mut Vec<Option<Node>>,
-    alloc: Global,
-    number: u32,
-    offset: usize,
-    part: &[u8],
-) -> Result<(), OutOfMemory>
-    requires { offset + length part.now ≤ 4096 }
-    ensures ok { OnOk result (nodes.new.items ≡ leaf_changed number (with_bytes offset part.now) nodes.old.items) }
-    ensures err { OnErr result (nodes.new.items ≡ nodes.old.items) }
-{
-    match nodes.get_mut((number / 1024) as usize) {
-        Some(node) => put_part_node(node, alloc, (number % 1024) as usize, offset, part),
-        None => Ok(()),
-    }
-}
-
-fn put_part_node(
-    node: &mut Option<Node>,
-    alloc: Global,
-    place: usize,
-    offset: usize,
-    part: &[u8],
-) -> Result<(), OutOfMemory>
-    requires { offset + length part.now ≤ 4096 }
-    ensures ok { OnOk result (node.new ≡ option_map (slots_changed place (with_bytes offset part.now)) node.old) }
-    ensures err { OnErr result (node.new ≡ node.old) }
-{
-    match node {
-        Some(node) => node.put_part(alloc, place, offset, part),
-        None => Ok(()),
     }
 }
 
@@ -248,6 +148,36 @@ fn put_past(
     Ok(())
 }
 
+fn take_at(
+    nodes: &mut Vec<Option<Node>>,
+    alloc: Global,
+    number: u32,
+) -> Result<Option<Frame>, OutOfMemory>
+    ensures page { IfOk result (λ page. page ≡ leaf nodes.old.items number) }
+    ensures ok { OnOk result (nodes.new.items ≡ leaf_without number nodes.old.items) }
+    ensures err { OnErr result (nodes.new.items ≡ nodes.old.items) }
+{
+    match nodes.get_mut((number / 1024) as usize) {
+        Some(node) => take_node(node, alloc, (number % 1024) as usize),
+        None => Ok(None),
+    }
+}
+
+fn take_node(
+    node: &mut Option<Node>,
+    alloc: Global,
+    place: usize,
+) -> Result<Option<Frame>, OutOfMemory>
+    ensures page { IfOk result (λ page. page ≡ leaf_of node.old place) }
+    ensures ok { OnOk result (node.new ≡ option_map (slots_without place) node.old) }
+    ensures err { OnErr result (node.new ≡ node.old) }
+{
+    match node {
+        Some(node) => node.take(alloc, place),
+        None => Ok(None),
+    }
+}
+
 impl Root {
     // A root of no nodes.
     pub fn new(alloc: Global) -> Result<Root, OutOfMemory>
@@ -287,75 +217,6 @@ impl Root {
         nodes.at(number)
     }
 
-    // Writes the low bytes of a value to the page with a number, if it may be written. Returns whether it may. An `Err`
-    // changes nothing.
-    #[inline(always)]
-    pub fn write(
-        &mut self,
-        alloc: Global,
-        number: u32,
-        offset: usize,
-        width: Width,
-        value: u32,
-    ) -> Result<bool, OutOfMemory>
-        requires { offset + width_bytes width ≤ 4096 }
-        ensures answer { IfOk result (λ done. done ≡ is_writable (leaf self.old number)) }
-        ensures ok { OnOk result (self.new ≡ leaf_changed number (written offset (little_bytes (width_bytes width) value)) self.old) }
-        ensures err { OnErr result (self.new ≡ self.old) }
-    {
-        match Arc::get_mut(&mut self.nodes) {
-            Some(nodes) => nodes.write(alloc, number, offset, width, value),
-            None => self.write_copy(alloc, number, offset, width, value),
-        }
-    }
-
-    // The same if another table has the root: this one gets its own.
-    #[cold]
-    #[inline(never)]
-    fn write_copy(
-        &mut self,
-        alloc: Global,
-        number: u32,
-        offset: usize,
-        width: Width,
-        value: u32,
-    ) -> Result<bool, OutOfMemory>
-        requires { offset + width_bytes width ≤ 4096 }
-        ensures answer { IfOk result (λ done. done ≡ is_writable (leaf self.old number)) }
-        ensures ok { OnOk result (self.new ≡ leaf_changed number (written offset (little_bytes (width_bytes width) value)) self.old) }
-        ensures err { OnErr result (self.new ≡ self.old) }
-    {
-        let shared: &Nodes = &self.nodes;
-        let mut nodes = shared.copy(alloc)?;
-        let done = nodes.write(alloc, number, offset, width, value)?;
-        *self = Root::of_nodes(alloc, nodes)?;
-        Ok(done)
-    }
-
-    // Writes bytes to the page with a number, if it is mapped. An `Err` changes nothing.
-    pub fn put_part(
-        &mut self,
-        alloc: Global,
-        number: u32,
-        offset: usize,
-        part: &[u8],
-    ) -> Result<(), OutOfMemory>
-        requires { offset + length part.now ≤ 4096 }
-        ensures ok { OnOk result (self.new ≡ leaf_changed number (with_bytes offset part.now) self.old) }
-        ensures err { OnErr result (self.new ≡ self.old) }
-    {
-        match Arc::get_mut(&mut self.nodes) {
-            Some(nodes) => nodes.put_part(alloc, number, offset, part),
-            None => {
-                let shared: &Nodes = &self.nodes;
-                let mut nodes = shared.copy(alloc)?;
-                nodes.put_part(alloc, number, offset, part)?;
-                *self = Root::of_nodes(alloc, nodes)?;
-                Ok(())
-            }
-        }
-    }
-
     // Puts a page at its number. An `Err` changes nothing.
     pub fn put(&mut self, alloc: Global, page: Frame) -> Result<(), OutOfMemory>
         ensures ok { OnOk result (self.new ≡ leaf_put page self.old) }
@@ -369,6 +230,24 @@ impl Root {
                 nodes.put(alloc, page)?;
                 *self = Root::of_nodes(alloc, nodes)?;
                 Ok(())
+            }
+        }
+    }
+
+    // Takes the page with a number out, if there is one. An `Err` changes nothing.
+    pub fn take(&mut self, alloc: Global, number: u32) -> Result<Option<Frame>, OutOfMemory>
+        ensures page { IfOk result (λ page. page ≡ leaf self.old number) }
+        ensures ok { OnOk result (self.new ≡ leaf_without number self.old) }
+        ensures err { OnErr result (self.new ≡ self.old) }
+    {
+        match Arc::get_mut(&mut self.nodes) {
+            Some(nodes) => nodes.take(alloc, number),
+            None => {
+                let shared: &Nodes = &self.nodes;
+                let mut nodes = shared.copy(alloc)?;
+                let page = nodes.take(alloc, number)?;
+                *self = Root::of_nodes(alloc, nodes)?;
+                Ok(page)
             }
         }
     }

@@ -1,5 +1,17 @@
-use Rattle.cow_pages.proofs.Trees.{found_page}
+use Rattle.std.proofs.Common.{Some, Option, ap, ◌∙◌}
+use Rattle.std.specs.Option.{option_or}
+use Rattle.cow_pages.specs.Tree.{leaf}
+use Rattle.cow_pages.proofs.Tables.{found_page}
 use Rattle.cow_pages.proofs.pages.Pages.page.Goals as goal
+use Rattle.dp_base.specs.declared.page.Page.{Page}
 
-pub returns-clause-kept : goal.returns-clause-kept
-returns-clause-kept c = found_page c.self.inside.root c.self.inside.numbers c.args.number c.at.result c.self.invariant c.at.ensures
+pub returns-in-Some-clause-kept : goal.returns-in-Some-clause-kept
+returns-in-Some-clause-kept c =
+    let root = c.self.inside.root in
+    found_page c.self.inside.hand root c.self.inside.numbers c.args.number (Some c.in-Some.page) c.self.invariant (ap (λ (x : Option Page). option_or x (leaf root c.args.number)) c.in-Some.ensures)
+
+pub returns-in-None-clause-kept : goal.returns-in-None-clause-kept
+returns-in-None-clause-kept c =
+    let root = c.self.inside.root in
+    found_page c.self.inside.hand root c.self.inside.numbers c.args.number c.at-in-None.result c.self.invariant
+    (c.at-in-None.ensures ∙ ap (λ (x : Option Page). option_or x (leaf root c.args.number)) c.in-None.ensures)

@@ -1,19 +1,19 @@
 use Rattle.std.proofs.Common.{◌<◌, All, length, subst, sym}
-use Rattle.cow_pages.proofs.Puts.{above_either, above_on, table_above}
+use Rattle.cow_pages.proofs.Tables.{above_on, table_above}
 use Rattle.cow_pages.proofs.pages.Pages.put_above.Goals as goal
 use Rattle.dp_base.specs.Memory.{Memory}
 use Rattle.dp_base.specs.declared.limits.TheConstants.{MAX_PAGES}
 
 pub invariant_of-self : goal.invariant_of-self
 invariant_of-self c =
-    let root = c.self.inside.root in
-    let numbers = c.self.inside.numbers in
     let above = subst (λ (m : Memory). All (λ q. q.number < c.args.page.number) m) (sym c.self.view_is) c.requires.above in
     let room = subst (λ (m : Memory). length m < MAX_PAGES) (sym c.self.view_is) c.requires.room in
-    above_either c.put_page.result root c.put_page.new.root numbers c.put_page.new.self c.args.page c.put_page.ensures.ok_numbers c.put_page.ensures.ok_root c.put_page.ensures.err_numbers c.put_page.ensures.err_root
-    (table_above root numbers c.args.page c.self.invariant c.requires.page above room) c.self.invariant
+    table_above c.put_page.result c.self.inside.hand c.self.inside.root c.put_page.new.root c.self.inside.numbers c.put_page.new.self c.args.page c.self.invariant c.requires.page above room
+    c.put_page.ensures.ok_numbers c.put_page.ensures.ok_root c.put_page.ensures.err_numbers c.put_page.ensures.err_root
 
 pub returns-clause-ok : goal.returns-clause-ok
 returns-clause-ok c =
     let above = subst (λ (m : Memory). All (λ q. q.number < c.args.page.number) m) (sym c.self.view_is) c.requires.above in
-    above_on c.put_page.result c.self.inside.root c.put_page.new.root c.self.inside.numbers c.args.page c.args.self.now c.self.invariant above c.self.view_is c.put_page.ensures.ok_root
+    let room = subst (λ (m : Memory). length m < MAX_PAGES) (sym c.self.view_is) c.requires.room in
+    above_on c.put_page.result c.self.inside.hand c.self.inside.root c.put_page.new.root c.self.inside.numbers c.put_page.new.self c.args.page c.args.self.now c.self.invariant c.requires.page above room c.self.view_is
+    c.put_page.ensures.ok_numbers c.put_page.ensures.ok_root

@@ -1,0 +1,286 @@
+// The pages in hand: those that a table last stored to. They are taken out of its tree, so that an access finds them at once, and
+// a store to them walks no tree. Each has an entry of its own by its number, and goes back into the tree if a store to another
+// page needs the entry.
+ghost use Rattle.std.specs.Prelude.{◌≡◌, ◌+◌, ◌<◌, ◌≤◌, ℕ, IfOk, IfSome, None, OnErr, OnOk, is_some, length, replicate, slice_set};
+ghost use Rattle.std.specs.Option.{option_copied, option_map};
+ghost use Rattle.byteorder.specs.Endian.{little_bytes};
+ghost use Rattle.dp_base.specs.Memory.{width_bytes};
+ghost use Rattle.cow_pages.specs.InPage.{is_writable, with_bytes, written};
+ghost use Rattle.cow_pages.specs.Table.{changed_if, entry_of, found, found_changed, held, held_changed, if_numbered};
+ghost use Rattle.cow_pages.specs.Tree.{entry_at, leaf, leaf_put, leaf_without};
+
+use crate::entries::grow;
+use crate::frame::Frame;
+use crate::node::shared;
+use crate::root::Root;
+use dp_base::{OutOfMemory, Width};
+use std::alloc::Global;
+use std::marker::Model;
+
+// How many pages may be in hand.
+const ENTRIES: usize = 16;
+
+#[derive(Drop)]
+pub struct Hand {
+    entries: Vec<Option<Frame>>,
+}
+
+impl Model for Hand {
+    ghost use Rattle.std.specs.Prelude.{List, Option};
+    ghost use Rattle.dp_base.specs.declared.page.Page.{Page};
+
+    ghost Value = { List (Option Page) };
+
+    ghost use Rattle.cow_pages.specs.Table.{IsHand};
+
+    ghost view = { λ h. h.entries.items };
+
+    ghost invariant = { λ h. IsHand h.entries.items };
+}
+
+// The entry of a page, by its number. The high bits are mixed in, so that a heap and a stack have entries of their own.
+#[inline(always)]
+fn entry_of(number: u32) -> usize
+    ensures entry { result ≡ entry_of number }
+    ensures inside { result < ENTRIES }
+{
+    let number = number as usize;
+    (number + number / 1024) % ENTRIES
+}
+
+// Writes to the page of an entry, if it has the number and may be written. Returns whether it does and may. An `Err` changes
+// nothing.
+#[inline(always)]
+fn write_entry(
+    entry: &mut Option<Frame>,
+    alloc: Global,
+    number: u32,
+    offset: usize,
+    width: Width,
+    value: u32,
+) -> Result<bool, OutOfMemory>
+    requires { offset + width_bytes width ≤ 4096 }
+    ensures answer { IfOk result (λ done. done ≡ is_writable (if_numbered number entry.old)) }
+    ensures ok { OnOk result (entry.new ≡ option_map (changed_if number (written offset (little_bytes (width_bytes width) value))) entry.old) }
+    ensures err { OnErr result (entry.new ≡ entry.old) }
+{
+    match entry {
+        Some(page) => {
+            if page.number() != number {
+                return Ok(false);
+            }
+            page.write(alloc, offset, width, value)
+        }
+        None => Ok(false),
+    }
+}
+
+fn put_part_entry(
+    entry: &mut Option<Frame>,
+    alloc: Global,
+    number: u32,
+    offset: usize,
+    part: &[u8],
+) -> Result<(), OutOfMemory>
+    requires { offset + length part.now ≤ 4096 }
+    ensures ok { OnOk result (entry.new ≡ option_map (changed_if number (with_bytes offset part.now)) entry.old) }
+    ensures err { OnErr result (entry.new ≡ entry.old) }
+{
+    match entry {
+        Some(page) => {
+            if page.number() != number {
+                return Ok(());
+            }
+            page.put_part(alloc, offset, part)
+        }
+        None => Ok(()),
+    }
+}
+
+impl Hand {
+    // No pages.
+    pub fn new(alloc: Global) -> Result<Hand, OutOfMemory>
+        ensures { IfOk result (λ hand. hand ≡ replicate ENTRIES None) }
+    {
+        let mut entries = Vec::new(alloc);
+        grow(&mut entries, ENTRIES)?;
+        Ok(Hand { entries })
+    }
+
+    // Equal pages, which have the same bytes in memory.
+    pub fn share(&self, alloc: Global) -> Result<Hand, OutOfMemory>
+        ensures { IfOk result (λ hand. hand ≡ self.now) }
+    {
+        let entries = shared(alloc, &self.entries)?;
+        Ok(Hand { entries })
+    }
+
+    // The page with a number.
+    #[inline(always)]
+    pub fn at(&self, number: u32) -> Option<&Frame>
+        ensures { option_copied result ≡ held self.now number }
+    {
+        match &self.entries[entry_of(number)] {
+            Some(page) if page.number() == number => Some(page),
+            _ => None,
+        }
+    }
+
+    #[inline(always)]
+    fn has(&self, number: u32) -> bool
+        ensures { result ≡ is_some (held self.now number) }
+    {
+        self.at(number).is_some()
+    }
+
+    // The page that has the entry of this number.
+    fn rival(&self, number: u32) -> Option<&Frame>
+        ensures page { option_copied result ≡ entry_at self.now (entry_of number) }
+        ensures own { IfSome result (λ p. entry_of p.now.number ≡ entry_of number) }
+    {
+        self.entries[entry_of(number)].as_ref()
+    }
+
+    // Gives the entry of a number to its page, or to none.
+    fn set(&mut self, number: u32, page: Option<Frame>)
+        requires { IfSome page (λ p. p.number ≡ number) }
+        ensures entry { self.new ≡ slice_set self.old (entry_of number) page }
+        ensures count { length self.old ≡ ENTRIES }
+    {
+        self.entries[entry_of(number)] = page;
+    }
+
+    #[inline(always)]
+    fn write_held(
+        &mut self,
+        alloc: Global,
+        number: u32,
+        offset: usize,
+        width: Width,
+        value: u32,
+    ) -> Result<bool, OutOfMemory>
+        requires { offset + width_bytes width ≤ 4096 }
+        ensures answer { IfOk result (λ done. done ≡ is_writable (held self.old number)) }
+        ensures ok { OnOk result (self.new ≡ held_changed number (written offset (little_bytes (width_bytes width) value)) self.old) }
+        ensures err { OnErr result (self.new ≡ self.old) }
+    {
+        let entry = &mut self.entries[entry_of(number)];
+        write_entry(entry, alloc, number, offset, width, value)
+    }
+
+    fn put_part_held(
+        &mut self,
+        alloc: Global,
+        number: u32,
+        offset: usize,
+        part: &[u8],
+    ) -> Result<(), OutOfMemory>
+        requires { offset + length part.now ≤ 4096 }
+        ensures ok { OnOk result (self.new ≡ held_changed number (with_bytes offset part.now) self.old) }
+        ensures err { OnErr result (self.new ≡ self.old) }
+    {
+        let entry = &mut self.entries[entry_of(number)];
+        put_part_entry(entry, alloc, number, offset, part)
+    }
+
+    // Puts the page that has the entry of this number back into the tree. It stays in hand too.
+    fn put_back(&self, root: &mut Root, alloc: Global, number: u32) -> Result<(), OutOfMemory>
+        ensures same { (n : ℕ) → found self.now root.new n ≡ found self.now root.old n }
+        ensures back { OnOk result (IfSome (entry_at self.now (entry_of number)) (λ p. leaf root.new p.number ≡ Some p)) }
+    {
+        match self.rival(number) {
+            Some(page) => root.put(alloc, page.share()?),
+            None => Ok(()),
+        }
+    }
+
+    // Takes the page with this number out of the tree. The page that had its entry goes back into the tree. No page changes, also on
+    // an `Err`.
+    #[cold]
+    #[inline(never)]
+    fn take(&mut self, root: &mut Root, alloc: Global, number: u32) -> Result<(), OutOfMemory>
+        requires { IfSome (found self.old root.old number) (λ p. p.number ≡ number) }
+        ensures same { (n : ℕ) → found self.new root.new n ≡ found self.old root.old n }
+        ensures held { OnOk result (held self.new number ≡ found self.old root.old number) }
+    {
+        self.put_back(root, alloc, number)?;
+        let page = root.take(alloc, number)?;
+        self.set(number, page);
+        Ok(())
+    }
+
+    // The same, unless the page is in hand.
+    fn hold(&mut self, root: &mut Root, alloc: Global, number: u32) -> Result<(), OutOfMemory>
+        requires { IfSome (found self.old root.old number) (λ p. p.number ≡ number) }
+        ensures same { (n : ℕ) → found self.new root.new n ≡ found self.old root.old n }
+        ensures held { OnOk result (held self.new number ≡ found self.old root.old number) }
+    {
+        if self.has(number) {
+            return Ok(());
+        }
+        self.take(root, alloc, number)
+    }
+
+    // Writes the low bytes of a value to the page with a number, in hand or in the tree, if it may be written. Returns whether it
+    // may. An `Err` changes no page.
+    #[inline(always)]
+    pub fn write(
+        &mut self,
+        root: &mut Root,
+        alloc: Global,
+        number: u32,
+        offset: usize,
+        width: Width,
+        value: u32,
+    ) -> Result<bool, OutOfMemory>
+        requires inside { offset + width_bytes width ≤ 4096 }
+        requires numbered { IfSome (found self.old root.old number) (λ p. p.number ≡ number) }
+        ensures answer { IfOk result (λ done. done ≡ is_writable (found self.old root.old number)) }
+        ensures ok { OnOk result ((n : ℕ) → found self.new root.new n ≡ found_changed number (written offset (little_bytes (width_bytes width) value)) (found self.old root.old) n) }
+        ensures err { OnErr result ((n : ℕ) → found self.new root.new n ≡ found self.old root.old n) }
+    {
+        if self.has(number) {
+            return self.write_held(alloc, number, offset, width, value);
+        }
+        self.take_and_write(root, alloc, number, offset, width, value)
+    }
+
+    #[cold]
+    #[inline(never)]
+    fn take_and_write(
+        &mut self,
+        root: &mut Root,
+        alloc: Global,
+        number: u32,
+        offset: usize,
+        width: Width,
+        value: u32,
+    ) -> Result<bool, OutOfMemory>
+        requires inside { offset + width_bytes width ≤ 4096 }
+        requires numbered { IfSome (found self.old root.old number) (λ p. p.number ≡ number) }
+        ensures answer { IfOk result (λ done. done ≡ is_writable (found self.old root.old number)) }
+        ensures ok { OnOk result ((n : ℕ) → found self.new root.new n ≡ found_changed number (written offset (little_bytes (width_bytes width) value)) (found self.old root.old) n) }
+        ensures err { OnErr result ((n : ℕ) → found self.new root.new n ≡ found self.old root.old n) }
+    {
+        self.take(root, alloc, number)?;
+        self.write_held(alloc, number, offset, width, value)
+    }
+
+    // Writes bytes to the page with a number, if there is one. An `Err` changes no page.
+    pub fn put_part(
+        &mut self,
+        root: &mut Root,
+        alloc: Global,
+        number: u32,
+        offset: usize,
+        part: &[u8],
+    ) -> Result<(), OutOfMemory>
+        requires inside { offset + length part.now ≤ 4096 }
+        requires numbered { IfSome (found self.old root.old number) (λ p. p.number ≡ number) }
+        ensures ok { OnOk result ((n : ℕ) → found self.new root.new n ≡ found_changed number (with_bytes offset part.now) (found self.old root.old) n) }
+        ensures err { OnErr result ((n : ℕ) → found self.new root.new n ≡ found self.old root.old n) }
+    {
+        self.hold(root, alloc, number)?;
+        self.put_part_held(alloc, number, offset, part)
+    }
+}
