@@ -1,11 +1,11 @@
 -- What is found in a hand and a tree, after a page went from one to the other or was changed.
-use Rattle.std.proofs.Common.{◌≡◌, ◌⊎◌, inl, inr, ◌<◌, ℕ, Bool, true, Option, Some, None, length, IfSome, is_some, sym, subst, ◌∙◌, ap, refl}
+use Rattle.std.proofs.Common.{◌≡◌, ◌⊎◌, inl, inr, ◌<◌, ℕ, Bool, true, false, Option, Some, None, length, IfSome, is_some, sym, subst, ◌∙◌, ap, refl}
 use Rattle.std.specs.Prelude.{Result, Ok, Err, OnErr, OnOk, slice_set, ◌==◌, if◌then◌else◌}
 use Rattle.std.specs.Option.{option_map, option_or}
 use Rattle.std.proofs.lemmas.Bool.{cases_eq, eq-eqb, ne_eqb}
 use Rattle.cow_pages.proofs.EntryChanges.{set_elsewhere, set_here, set_mapped}
 use Rattle.cow_pages.proofs.Leaves.{put_other, put_same, without_other, without_same}
-use Rattle.cow_pages.specs.Table.{changed_if, entry_of, found, found_changed, held, held_changed, if_numbered}
+use Rattle.cow_pages.specs.Table.{IsAside, changed_if, entry_of, found, found_changed, held, held_changed, if_numbered}
 use Rattle.cow_pages.specs.Tree.{Nodes, Slots, entry_at, leaf, leaf_put, leaf_without}
 use Rattle.dp_base.specs.declared.page.Page.{Page}
 
@@ -168,9 +168,55 @@ changed_on (Ok x) hand mid new nodes mid_nodes number f keeps same is ok =
     ∙ ap (λ (x : Option Page). if number == n then option_map f x else x) (same n)
 changed_on (Err e) hand mid new nodes mid_nodes number f keeps same is ok = tt
 
-pub held_found : (hand : Slots) (nodes : Nodes) (number : ℕ) → is_some (held hand number) ≡ true → held hand number ≡ found hand nodes number
+held_found : (hand : Slots) (nodes : Nodes) (number : ℕ) → is_some (held hand number) ≡ true → held hand number ≡ found hand nodes number
 held_found hand nodes number is = by_page (held hand number) is
   where
     by_page : (x : Option Page) → is_some x ≡ true → x ≡ option_or x (leaf nodes number)
     by_page None is = absurd cc
     by_page (Some p) is = refl
+
+pub held_changed_on : {X E : Type 0} (r : Result X E) (hand new : Slots) (nodes : Nodes) (number : ℕ) (f : Page → Page) → ((p : Page) → (f p).number ≡ p.number) → is_some (held hand number) ≡ true → OnOk r (new ≡ held_changed number f hand)
+    → OnOk r ((n : ℕ) → found new nodes n ≡ found_changed number f (found hand nodes) n)
+held_changed_on r hand new nodes number f keeps is ok = changed_on r hand hand new nodes nodes number f keeps (λ n. refl) (held_found hand nodes number is) ok
+
+-- ---- a page of the tree that isn't in hand
+
+none_held : (x : Option Page) → is_some x ≡ false → x ≡ None
+none_held None is = refl
+none_held (Some p) is = absurd cc
+
+pub aside_by : (hand : Slots) (nodes : Nodes) (number : ℕ) (p : Page) → is_some (held hand number) ≡ false → leaf nodes number ≡ Some p → IfSome (found hand nodes number) (λ q. q.number ≡ number) → IsAside hand nodes p
+aside_by hand nodes number p unheld at numbered =
+    let none : held hand number ≡ None = none_held (held hand number) unheld in
+    let here : found hand nodes number ≡ Some p = ap (λ (x : Option Page). option_or x (leaf nodes number)) none ∙ at in
+    let same : p.number ≡ number = subst (λ (x : Option Page). IfSome x (λ q. q.number ≡ number)) here numbered in
+    record {
+      unheld = ap (λ (n : ℕ). held hand n) same ∙ none;
+      leaf = ap (λ (n : ℕ). leaf nodes n) same ∙ at;
+    }
+
+pub aside_found : (hand : Slots) (nodes : Nodes) (p : Page) → IsAside hand nodes p → found hand nodes p.number ≡ Some p
+aside_found hand nodes p is = ap (λ (x : Option Page). option_or x (leaf nodes p.number)) is.unheld ∙ is.leaf
+
+still_aside : (hand : Slots) (nodes : Nodes) (number : ℕ) (f : Page → Page) (x : Option Page) → ((p : Page) → (f p).number ≡ p.number) → is_some (held hand number) ≡ true → IfSome x (IsAside hand nodes) → IfSome x (IsAside (held_changed number f hand) nodes)
+still_aside hand nodes number f None keeps held aside = tt
+still_aside hand nodes number f (Some p) keeps is aside =
+    let other : number ≡ p.number → ⊥ = (λ same. absurd (none_is_none (held hand number) (ap (λ (n : ℕ). held hand n) same ∙ aside.unheld) is)) in
+    record {
+      unheld = held_changed_beside hand number p.number f keeps other ∙ aside.unheld;
+      leaf = aside.leaf;
+    }
+  where
+    none_is_none : (x : Option Page) → x ≡ None → is_some x ≡ true → ⊥
+    none_is_none None is some = cc
+    none_is_none (Some q) is some = cc
+
+-- what a change of a page in hand leaves aside
+pub aside_on : {X E : Type 0} (r : Result X E) (hand new : Slots) (nodes : Nodes) (number : ℕ) (f : Page → Page) (x : Option Page) → ((p : Page) → (f p).number ≡ p.number) → is_some (held hand number) ≡ true
+    → OnOk r (new ≡ held_changed number f hand) → OnErr r (new ≡ hand) → IfSome x (IsAside hand nodes) → IfSome x (IsAside new nodes)
+aside_on (Ok y) hand new nodes number f x keeps is ok err aside = subst (λ (h : Slots). IfSome x (IsAside h nodes)) (sym ok) (still_aside hand nodes number f x keeps is aside)
+aside_on (Err e) hand new nodes number f x keeps is ok err aside = subst (λ (h : Slots). IfSome x (IsAside h nodes)) (sym err) aside
+
+pub same_hand : {X E : Type 0} (r : Result X E) (hand new : Slots) (nodes : Nodes) → OnErr r (new ≡ hand) → OnErr r ((n : ℕ) → found new nodes n ≡ found hand nodes n)
+same_hand (Ok y) hand new nodes err = tt
+same_hand (Err e) hand new nodes err = λ n. ap (λ (h : Slots). found h nodes n) err

@@ -27,6 +27,11 @@ pub record IsHand (hand : Slots) : Type 0 where
 abbrev pub found : Slots → Nodes → ℕ → Option Page
 found hand nodes number = option_or (held hand number) (leaf nodes number)
 
+-- a page that is in the tree, and not in hand
+pub record IsAside (hand : Slots) (nodes : Nodes) (p : Page) : Type 0 where
+  pub unheld : held hand p.number ≡ None
+  pub leaf : leaf nodes p.number ≡ Some p
+
 -- the pages in rising order of number
 abbrev pub listed : Slots → Nodes → List ℕ → Memory
 listed hand nodes numbers = filter_map (found hand nodes) numbers

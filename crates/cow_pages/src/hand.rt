@@ -6,7 +6,7 @@ ghost use Rattle.std.specs.Option.{option_copied, option_map};
 ghost use Rattle.byteorder.specs.Endian.{little_bytes};
 ghost use Rattle.dp_base.specs.Memory.{width_bytes};
 ghost use Rattle.cow_pages.specs.InPage.{is_writable, with_bytes, written};
-ghost use Rattle.cow_pages.specs.Table.{changed_if, entry_of, found, found_changed, held, held_changed, if_numbered};
+ghost use Rattle.cow_pages.specs.Table.{IsAside, changed_if, entry_of, found, found_changed, held, held_changed, if_numbered};
 ghost use Rattle.cow_pages.specs.Tree.{entry_at, leaf, leaf_put, leaf_without};
 
 use crate::entries::grow;
@@ -127,7 +127,7 @@ impl Hand {
     }
 
     #[inline(always)]
-    fn has(&self, number: u32) -> bool
+    pub fn has(&self, number: u32) -> bool
         ensures { result ≡ is_some (held self.now number) }
     {
         self.at(number).is_some()
@@ -150,8 +150,10 @@ impl Hand {
         self.entries[entry_of(number)] = page;
     }
 
+    // Writes the low bytes of a value to the page with a number, if it is in hand and may be written. Returns whether it is and may. An
+    // `Err` changes nothing.
     #[inline(always)]
-    fn write_held(
+    pub fn write(
         &mut self,
         alloc: Global,
         number: u32,
@@ -181,6 +183,20 @@ impl Hand {
     {
         let entry = &mut self.entries[entry_of(number)];
         put_part_entry(entry, alloc, number, offset, part)
+    }
+
+    // The page of the tree with a number, which has the same bytes in memory. `None` if the page is in hand.
+    pub fn aside(&self, root: &Root, number: u32) -> Option<Frame>
+        requires { IfSome (found self.now root.now number) (λ p. p.number ≡ number) }
+        ensures { IfSome result (IsAside self.now root.now) }
+    {
+        if self.has(number) {
+            return None;
+        }
+        match root.at(number) {
+            Some(page) => page.share().ok(),
+            None => None,
+        }
     }
 
     // Puts the page that has the entry of this number back into the tree. It stays in hand too.
@@ -221,33 +237,9 @@ impl Hand {
         self.take(root, alloc, number)
     }
 
-    // Writes the low bytes of a value to the page with a number, in hand or in the tree, if it may be written. Returns whether it
-    // may. An `Err` changes no page.
-    #[inline(always)]
-    pub fn write(
-        &mut self,
-        root: &mut Root,
-        alloc: Global,
-        number: u32,
-        offset: usize,
-        width: Width,
-        value: u32,
-    ) -> Result<bool, OutOfMemory>
-        requires inside { offset + width_bytes width ≤ 4096 }
-        requires numbered { IfSome (found self.old root.old number) (λ p. p.number ≡ number) }
-        ensures answer { IfOk result (λ done. done ≡ is_writable (found self.old root.old number)) }
-        ensures ok { OnOk result ((n : ℕ) → found self.new root.new n ≡ found_changed number (written offset (little_bytes (width_bytes width) value)) (found self.old root.old) n) }
-        ensures err { OnErr result ((n : ℕ) → found self.new root.new n ≡ found self.old root.old n) }
-    {
-        if self.has(number) {
-            return self.write_held(alloc, number, offset, width, value);
-        }
-        self.take_and_write(root, alloc, number, offset, width, value)
-    }
-
-    #[cold]
-    #[inline(never)]
-    fn take_and_write(
+    // Writes the low bytes of a value to the page with a number, if it may be written, and takes the page in hand before. Returns
+    // whether it may be written. An `Err` changes no page.
+    pub fn take_and_write(
         &mut self,
         root: &mut Root,
         alloc: Global,
@@ -263,7 +255,7 @@ impl Hand {
         ensures err { OnErr result ((n : ℕ) → found self.new root.new n ≡ found self.old root.old n) }
     {
         self.take(root, alloc, number)?;
-        self.write_held(alloc, number, offset, width, value)
+        self.write(alloc, number, offset, width, value)
     }
 
     // Writes bytes to the page with a number, if there is one. An `Err` changes no page.

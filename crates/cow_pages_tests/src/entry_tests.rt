@@ -25,7 +25,7 @@ fn starts() -> [u32; 4] {
     [0x0001_0000, 0x0002_0000, 0x0040_f000, 0x0001_1000]
 }
 
-fn tables(alloc: Global) -> Result<Tables, OutOfMemory> {
+fn table_and_share(alloc: Global) -> Result<Tables, OutOfMemory> {
     let mut table = Pages::new(alloc)?;
     for start in starts() {
         map(&mut table, start / 4096, 6)?;
@@ -81,7 +81,7 @@ fn rows() -> [(Step, u32, u32); 12] {
 #[test]
 fn stores_to_one_entry(rt: HostRuntime) -> Result<(), Fail> {
     let alloc = rt.alloc();
-    let mut tables = tables(alloc)?;
+    let mut tables = table_and_share(alloc)?;
     for (step, of_table, of_share) in rows() {
         apply(alloc, &mut tables, step)?;
         let found = (digits(&mut tables.table), digits(&mut tables.share));
@@ -92,7 +92,7 @@ fn stores_to_one_entry(rt: HostRuntime) -> Result<(), Fail> {
 
 // What a store answers on a page that isn't mapped and on one that is only readable, and the digits after it.
 fn denied(alloc: Global, address: u32) -> Result<(Access<()>, u32), OutOfMemory> {
-    let mut pages = tables(alloc)?.table;
+    let mut pages = table_and_share(alloc)?.table;
     map(&mut pages, 0x40, 4)?;
     pages.store(0x0001_0000, Width::One, 1)?;
     let answer = pages.store(address, Width::One, 2)?;

@@ -8,5 +8,5 @@ use Rattle.cow_pages.proofs.hand.Hand.take_and_write.Goals as goal
 pub returns-clause-ok : goal.returns-clause-ok
 returns-clause-ok c =
     let bytes = little_bytes (width_bytes c.args.width) c.args.value in
-    changed_on c.write_held.result c.args.self.now c.take.new.self c.write_held.new.self c.args.root.now c.take.new.root c.args.number (written c.args.offset bytes)
-    (λ p. (written_rewritten c.args.offset bytes p).number) c.take.ensures.same c.in_ok-take.ensures.held c.write_held.ensures.ok
+    changed_on c.write.result c.args.self.now c.take.new.self c.write.new.self c.args.root.now c.take.new.root c.args.number (written c.args.offset bytes)
+    (λ p. (written_rewritten c.args.offset bytes p).number) c.take.ensures.same c.in_ok-take.ensures.held c.write.ensures.ok
