@@ -220,3 +220,34 @@ aside_on (Err e) hand new nodes number f x keeps is ok err aside = subst (λ (h 
 pub same_hand : {X E : Type 0} (r : Result X E) (hand new : Slots) (nodes : Nodes) → OnErr r (new ≡ hand) → OnErr r ((n : ℕ) → found new nodes n ≡ found hand nodes n)
 same_hand (Ok y) hand new nodes err = tt
 same_hand (Err e) hand new nodes err = λ n. ap (λ (h : Slots). found h nodes n) err
+
+-- ---- what stays aside when a page is taken in hand
+
+pub taken_unheld : (hand new : Slots) (number : ℕ) (page : Option Page) → entry_of number < length hand → IfSome page (λ p. p.number ≡ number) → new ≡ slice_set hand (entry_of number) page → (n : ℕ) → (number ≡ n → ⊥) → held hand n ≡ None → held new n ≡ None
+taken_unheld hand new number page within numbered is n differ none = ap (λ (h : Slots). held h n) is ∙ by_entry (cases_eq (entry_of number) (entry_of n))
+  where
+    by_entry : ((entry_of number ≡ entry_of n) ⊎ (entry_of number ≡ entry_of n → ⊥)) → held (slice_set hand (entry_of number) page) n ≡ None
+    by_entry (inl same) = held_set hand (entry_of number) n page within same ∙ none_numbered number n page numbered differ
+    by_entry (inr apart) = ap (λ (x : Option Page). if_numbered n x) (set_elsewhere hand (entry_of number) (entry_of n) page apart) ∙ none
+
+pub changed_unheld : {X E : Type 0} (r : Result X E) (hand mid new : Slots) (number : ℕ) (f : Page → Page) → ((p : Page) → (f p).number ≡ p.number) → ((n : ℕ) → (number ≡ n → ⊥) → held hand n ≡ None → held mid n ≡ None)
+    → OnOk r (new ≡ held_changed number f mid) → OnErr r (new ≡ mid) → (n : ℕ) → (number ≡ n → ⊥) → held hand n ≡ None → held new n ≡ None
+changed_unheld (Ok x) hand mid new number f keeps before ok err n differ none = ap (λ (h : Slots). held h n) ok ∙ held_changed_beside mid number n f keeps differ ∙ before n differ none
+changed_unheld (Err e) hand mid new number f keeps before ok err n differ none = ap (λ (h : Slots). held h n) err ∙ before n differ none
+
+found_elsewhere : {X E : Type 0} (r : Result X E) (hand new : Slots) (nodes new_nodes : Nodes) (number : ℕ) (f : Page → Page) → OnOk r ((n : ℕ) → found new new_nodes n ≡ found_changed number f (found hand nodes) n)
+    → OnErr r ((n : ℕ) → found new new_nodes n ≡ found hand nodes n) → (n : ℕ) → (number ≡ n → ⊥) → found new new_nodes n ≡ found hand nodes n
+found_elsewhere (Ok x) hand new nodes new_nodes number f ok err n differ = ok n ∙ ap (λ (b : Bool). if b then option_map f (found hand nodes n) else found hand nodes n) (ne_eqb _ _ differ)
+found_elsewhere (Err e) hand new nodes new_nodes number f ok err n differ = err n
+
+pub aside_after : {X E : Type 0} (r : Result X E) (hand new : Slots) (nodes new_nodes : Nodes) (number : ℕ) (f : Page → Page) (before x : Option Page) → IfSome x (λ p. (number ≡ p.number → ⊥) × (before ≡ Some p)) → IfSome before (IsAside hand nodes)
+    → ((n : ℕ) → (number ≡ n → ⊥) → held hand n ≡ None → held new n ≡ None) → OnOk r ((n : ℕ) → found new new_nodes n ≡ found_changed number f (found hand nodes) n)
+    → OnErr r ((n : ℕ) → found new new_nodes n ≡ found hand nodes n) → IfSome x (IsAside new new_nodes)
+aside_after r hand new nodes new_nodes number f before None kept was unheld ok err = tt
+aside_after r hand new nodes new_nodes number f before (Some p) kept was unheld ok err =
+    let aside : IsAside hand nodes p = subst (λ (x : Option Page). IfSome x (IsAside hand nodes)) kept.1 was in
+    let none : held new p.number ≡ None = unheld p.number kept.0 aside.unheld in
+    record {
+      unheld = none;
+      leaf = sym (ap (λ (x : Option Page). option_or x (leaf new_nodes p.number)) none) ∙ found_elsewhere r hand new nodes new_nodes number f ok err p.number kept.0 ∙ aside_found hand nodes p aside;
+    }

@@ -218,6 +218,7 @@ impl Hand {
         requires { IfSome (found self.old root.old number) (λ p. p.number ≡ number) }
         ensures same { (n : ℕ) → found self.new root.new n ≡ found self.old root.old n }
         ensures held { OnOk result (held self.new number ≡ found self.old root.old number) }
+        ensures unheld { (n : ℕ) → (number ≡ n → ⊥) → held self.old n ≡ None → held self.new n ≡ None }
     {
         self.put_back(root, alloc, number)?;
         let page = root.take(alloc, number)?;
@@ -230,6 +231,7 @@ impl Hand {
         requires { IfSome (found self.old root.old number) (λ p. p.number ≡ number) }
         ensures same { (n : ℕ) → found self.new root.new n ≡ found self.old root.old n }
         ensures held { OnOk result (held self.new number ≡ found self.old root.old number) }
+        ensures unheld { (n : ℕ) → (number ≡ n → ⊥) → held self.old n ≡ None → held self.new n ≡ None }
     {
         if self.has(number) {
             return Ok(());
@@ -253,6 +255,7 @@ impl Hand {
         ensures answer { IfOk result (λ done. done ≡ is_writable (found self.old root.old number)) }
         ensures ok { OnOk result ((n : ℕ) → found self.new root.new n ≡ found_changed number (written offset (little_bytes (width_bytes width) value)) (found self.old root.old) n) }
         ensures err { OnErr result ((n : ℕ) → found self.new root.new n ≡ found self.old root.old n) }
+        ensures unheld { (n : ℕ) → (number ≡ n → ⊥) → held self.old n ≡ None → held self.new n ≡ None }
     {
         self.take(root, alloc, number)?;
         self.write(alloc, number, offset, width, value)
@@ -271,6 +274,7 @@ impl Hand {
         requires numbered { IfSome (found self.old root.old number) (λ p. p.number ≡ number) }
         ensures ok { OnOk result ((n : ℕ) → found self.new root.new n ≡ found_changed number (with_bytes offset part.now) (found self.old root.old) n) }
         ensures err { OnErr result ((n : ℕ) → found self.new root.new n ≡ found self.old root.old n) }
+        ensures unheld { (n : ℕ) → (number ≡ n → ⊥) → held self.old n ≡ None → held self.new n ≡ None }
     {
         self.hold(root, alloc, number)?;
         self.put_part_held(alloc, number, offset, part)

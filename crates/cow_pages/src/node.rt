@@ -58,19 +58,25 @@ impl Slots {
         Ok(Slots { slots })
     }
 
+    #[tactic(auto, using(crate::proofs::EntryChanges::put_entry))]
     fn put(&mut self, place: usize, page: Frame) -> Result<(), OutOfMemory>
         requires { place < 1024 }
         ensures ok { OnOk result (self.new ≡ entry_put place page self.old) }
         ensures err { OnErr result (self.new ≡ self.old) }
     {
-        put_at(&mut self.slots, place, page)
+        grow(&mut self.slots, place + 1)?;
+        self.slots[place] = Some(page);
+        Ok(())
     }
 
     fn take(&mut self, place: usize) -> Option<Frame>
         ensures page { result ≡ entry_at self.old place }
         ensures rest { self.new ≡ slots_without place self.old }
     {
-        take_at(&mut self.slots, place)
+        match self.slots.get_mut(place) {
+            Some(slot) => slot.take(),
+            None => None,
+        }
     }
 }
 
@@ -92,27 +98,6 @@ fn share_slot(slot: &Option<Frame>) -> Result<Option<Frame>, OutOfMemory>
     match slot {
         Some(page) => Ok(Some(page.share()?)),
         None => Ok(None),
-    }
-}
-
-#[tactic(auto, using(crate::proofs::EntryChanges::put_entry))]
-fn put_at(slots: &mut Vec<Option<Frame>>, place: usize, page: Frame) -> Result<(), OutOfMemory>
-    requires { place < 1024 }
-    ensures ok { OnOk result (slots.new.items ≡ entry_put place page slots.old.items) }
-    ensures err { OnErr result (slots.new.items ≡ slots.old.items) }
-{
-    grow(slots, place + 1)?;
-    slots[place] = Some(page);
-    Ok(())
-}
-
-fn take_at(slots: &mut Vec<Option<Frame>>, place: usize) -> Option<Frame>
-    ensures page { result ≡ entry_at slots.old.items place }
-    ensures rest { slots.new.items ≡ slots_without place slots.old.items }
-{
-    match slots.get_mut(place) {
-        Some(slot) => slot.take(),
-        None => None,
     }
 }
 
