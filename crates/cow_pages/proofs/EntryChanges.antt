@@ -8,17 +8,6 @@ use Rattle.dp_base.specs.declared.page.Page.{Page}
 
 -- ---- an entry that is set
 
-pub at_some : {A : Type 0} (entries : List (Option A)) (i : ℕ) (x : Option A) → slice_get entries i ≡ Some x → entry_at entries i ≡ x
-at_some entries i x at = ap option_flatten at
-
-pub at_none : {A : Type 0} (entries : List (Option A)) (i : ℕ) → slice_get entries i ≡ None → entry_at entries i ≡ None
-at_none entries i at = ap option_flatten at
-
-pub set_past : {A : Type 0} (entries : List (Option A)) (i : ℕ) (x : Option A) → slice_get entries i ≡ None → slice_set entries i x ≡ entries
-set_past [] i x at = refl
-set_past (y ∷ entries) zero x at = absurd cc
-set_past {A} (y ∷ entries) (suc i) x at = ap (λ (es : List (Option A)). y ∷ es) (set_past entries i x at)
-
 pub set_here : {A : Type 0} (entries : List (Option A)) (i : ℕ) (x : Option A) → i < length entries → entry_at (slice_set entries i x) i ≡ x
 set_here [] i x within = absurd (omega (arith, within))
 set_here (y ∷ entries) zero x within = refl

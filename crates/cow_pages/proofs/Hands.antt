@@ -1,5 +1,5 @@
 -- What is found in a hand and a tree, after a page went from one to the other or was changed.
-use Rattle.std.proofs.Common.{◌≡◌, ◌⊎◌, inl, inr, ◌<◌, ℕ, Bool, true, false, Option, Some, None, length, IfSome, is_some, sym, subst, ◌∙◌, ap, refl}
+use Rattle.std.proofs.Common.{◌≡◌, ◌⊎◌, inl, inr, ◌<◌, ℕ, Bool, true, Option, Some, None, length, IfSome, is_some, sym, subst, ◌∙◌, ap, refl}
 use Rattle.std.specs.Prelude.{Result, Ok, Err, OnErr, OnOk, slice_set, ◌==◌, if◌then◌else◌}
 use Rattle.std.specs.Option.{option_map, option_or}
 use Rattle.std.proofs.lemmas.Bool.{cases_eq, eq-eqb, ne_eqb}
@@ -180,20 +180,6 @@ pub held_changed_on : {X E : Type 0} (r : Result X E) (hand new : Slots) (nodes 
 held_changed_on r hand new nodes number f keeps is ok = changed_on r hand hand new nodes nodes number f keeps (λ n. refl) (held_found hand nodes number is) ok
 
 -- ---- a page of the tree that isn't in hand
-
-none_held : (x : Option Page) → is_some x ≡ false → x ≡ None
-none_held None is = refl
-none_held (Some p) is = absurd cc
-
-pub aside_by : (hand : Slots) (nodes : Nodes) (number : ℕ) (p : Page) → is_some (held hand number) ≡ false → leaf nodes number ≡ Some p → IfSome (found hand nodes number) (λ q. q.number ≡ number) → IsAside hand nodes p
-aside_by hand nodes number p unheld at numbered =
-    let none : held hand number ≡ None = none_held (held hand number) unheld in
-    let here : found hand nodes number ≡ Some p = ap (λ (x : Option Page). option_or x (leaf nodes number)) none ∙ at in
-    let same : p.number ≡ number = subst (λ (x : Option Page). IfSome x (λ q. q.number ≡ number)) here numbered in
-    record {
-      unheld = ap (λ (n : ℕ). held hand n) same ∙ none;
-      leaf = ap (λ (n : ℕ). leaf nodes n) same ∙ at;
-    }
 
 pub aside_found : (hand : Slots) (nodes : Nodes) (p : Page) → IsAside hand nodes p → found hand nodes p.number ≡ Some p
 aside_found hand nodes p is = ap (λ (x : Option Page). option_or x (leaf nodes p.number)) is.unheld ∙ is.leaf

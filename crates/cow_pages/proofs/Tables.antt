@@ -1,6 +1,6 @@
 -- A table of pages as a list in rising order.
-use Rattle.std.proofs.Common.{◌≡◌, ◌⊎◌, inl, inr, ◌<◌, ◌≤◌, ◌+◌, ◌/◌, ◌%◌, ℕ, Bool, true, false, cond, Option, Some, None, List, [], ◌∷◌, ◌++◌, All, arith, length, get_or, sym, subst, Bor, ◌∙◌, ap, refl}
-use Rattle.std.specs.Prelude.{Result, Ok, Err, OnOk, OnErr, IfOk, IfSome, filter_map, slice_get, ◌==◌, if◌then◌else◌}
+use Rattle.std.proofs.Common.{◌≡◌, ◌⊎◌, inl, inr, ◌<◌, ℕ, Bool, true, false, cond, Option, Some, None, List, [], ◌∷◌, ◌++◌, All, arith, length, get_or, sym, subst, Bor, ◌∙◌, ap, refl}
+use Rattle.std.specs.Prelude.{Result, Ok, Err, OnOk, OnErr, IfSome, filter_map, slice_get, ◌==◌, if◌then◌else◌}
 use Rattle.std.specs.List.{cons_option}
 use Rattle.std.specs.Option.{option_copied, option_map, option_or}
 use Rattle.std.proofs.lemmas.Bool.{cases_eq, eq-eqb, ne_eqb}
@@ -11,12 +11,11 @@ use Rattle.cow_pages.proofs.Leaves.{put_other, put_same}
 use Rattle.cow_pages.proofs.PageTable.{ArePages-push, numbers}
 use Rattle.cow_pages.proofs.Places.{IsPage_by_number, page_some, place_rising}
 use Rattle.cow_pages.proofs.Stores.{page_at-change, page_at-other}
-use Rattle.cow_pages.proofs.Writes.{answer_is, ArePages-change, Rewritten, numbers_change}
-use Rattle.cow_pages.specs.InPage.{AreRising, has_number, is_writable}
+use Rattle.cow_pages.proofs.Writes.{ArePages-change, Rewritten, numbers_change}
+use Rattle.cow_pages.specs.InPage.{AreRising, has_number}
 use Rattle.cow_pages.specs.Table.{IsTable, found, found_changed, held, listed}
 use Rattle.cow_pages.specs.Tree.{Nodes, Slots, leaf, leaf_put}
-use Rattle.dp_base.specs.Memory.{ArePages, IsPage, Memory, change_page, may_store, page_at, width_bytes}
-use Rattle.dp_base.specs.declared.access.Width.{Width}
+use Rattle.dp_base.specs.Memory.{ArePages, IsPage, Memory, change_page, page_at}
 use Rattle.dp_base.specs.declared.limits.TheConstants.{MAX_PAGES}
 use Rattle.dp_base.specs.declared.page.Page.{Page}
 
@@ -133,12 +132,6 @@ changed_on (Ok x) hand new_hand nodes new_nodes order number f memory after are 
     (changed_order hand nodes order number f are keeps) (finds_after hand new_hand nodes new_nodes order number f are keeps ok)
     ∙ ap (λ (m : Memory). change_page number f m) view ∙ sym is
 changed_on (Err e) hand new_hand nodes new_nodes order number f memory after are keeps view is ok = tt
-
-pub answer_on : {E : Type 0} (r : Result Bool E) (hand : Slots) (nodes : Nodes) (order : List ℕ) (width : Width) (a : ℕ) (memory : Memory) → IsTable hand nodes order → a % 4096 + width_bytes width ≤ 4096 → listed hand nodes order ≡ memory
-    → IfOk r (λ done. done ≡ is_writable (found hand nodes (a / 4096))) → IfOk r (λ done. done ≡ may_store width a memory)
-answer_on (Ok done) hand nodes order width a memory are fits view is =
-    is ∙ ap is_writable (sym (are.whole (a / 4096))) ∙ ap (λ (m : Memory). is_writable (page_at m (a / 4096))) view ∙ sym (answer_is memory width a fits)
-answer_on (Err e) hand nodes order width a memory are fits view is = tt
 
 pub same_on : {X E : Type 0} (r : Result X E) (hand new_hand : Slots) (nodes new_nodes : Nodes) (order : List ℕ) (memory : Memory) → IsTable hand nodes order → listed hand nodes order ≡ memory
     → OnErr r ((n : ℕ) → found new_hand new_nodes n ≡ found hand nodes n) → OnErr r (listed new_hand new_nodes order ≡ memory)
