@@ -12,7 +12,7 @@ at_tickets = map (λ amo. record { amo = amo; place = amo.ticket })
 abbrev pub IsBetween : Placed → Type 0
 IsBetween placed = (placed.amo.ticket ≤ placed.place) × ((placed.place ≡ placed.amo.ticket) ⊎ (placed.place < placed.amo.next))
 
--- What comes from the next ticket of an AMO's thread on has a later place. So AMOs of a thread keep their order.
+-- What follows from the next ticket of an AMO's thread on has a later place. So AMOs of a thread keep their order.
 abbrev pub KeepsOrder : List Placed → Type 0
 KeepsOrder placed = All (λ first. All (λ second. first.amo.ticket < first.amo.next → first.amo.next ≤ second.amo.ticket → first.place < second.place) placed) placed
 

@@ -1,6 +1,7 @@
 // AMOs and their places.
 
-/// The number of places from one ticket of a pass to the next. At most one AMO of each of 64 threads that run has to come between two.
+/// The number of positions from one ticket of a pass to the next. At most one AMO of each of 64 threads that run has to
+/// fit between two.
 pub const PLACES: u64 = 64;
 
 /// An AMO of a pass.

@@ -1,8 +1,9 @@
 // The order of the AMOs of a pass.
 //
-// An AMO takes its ticket between its load and its exchange. If others change the word meanwhile and then give it back what the load found,
-// the exchange succeeds, but the ticket is too small. Then, in the order of tickets, some AMO of that word doesn't find what the one before it
-// stored. So an order is sought in which each does. In it an AMO may come anywhere between its own ticket and the next one of its thread.
+// An AMO takes its ticket between its load and its exchange. If others change the word meanwhile and then store again
+// what the load found, the exchange succeeds, but the ticket is too small. Then, in the order of tickets, some AMO of
+// that word doesn't find what the one before it stored. So an order is sought in which each does. In it an AMO may be
+// anywhere between its own ticket and the next one of its thread.
 ghost use Rattle.std.specs.Prelude.{◌≡◌, ◌⊎◌, ℕ, IfOk, OnOk, All, map};
 ghost use Rattle.amo_order.specs.Places.{IsBetween, IsDisordered, IsInTurn, KeepsOrder, at_tickets, placed_of};
 ghost use Rattle.amo_order.specs.Replacing.{IsStep, Replaces};
@@ -16,9 +17,9 @@ use std::alloc::Global;
 
 /// Returns the AMOs of a pass with their places, in the order in which they are given.
 ///
-/// A place is the AMO's ticket, or is between that and the next ticket of its thread. If by their tickets one of a word's AMOs doesn't find
-/// what the one before it stored, an order is sought in which each does, and they get places in that order. If none is found, or they are
-/// in turn by their tickets, they keep these.
+/// A place is the AMO's ticket, or is between that and the next ticket of its thread. If by their tickets one of a
+/// word's AMOs doesn't find what the one before it stored, an order is sought in which each does, and they get places
+/// in that order. If none is found, or they are in turn by their tickets, they keep these.
 ///
 /// # Errors
 ///

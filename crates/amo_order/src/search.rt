@@ -8,8 +8,8 @@ const STEPS_EACH: usize = 16;
 
 const STEPS_MORE: usize = 1024;
 
-// Finds places for the AMOs of a word, so that each finds what the one before it stored. Returns the index of each AMO, and its place.
-// Returns `None` if other stores change the word too, or if no order is found in few steps.
+// Finds places for the AMOs of a word, so that each finds what the one before it stored. Returns the index of each AMO,
+// and its place. Returns `None` if other stores change the word too, or if no order is found in few steps.
 pub(crate) fn places_of(
     alloc: Global,
     amos: &[Amo],
@@ -46,7 +46,8 @@ fn amos_of(alloc: Global, amos: &[Amo], word: u32) -> Result<Vec<Indexed>, OutOf
     Ok(of_word)
 }
 
-// Whether the changes of a word add up. If other stores change it too, they don't, and the AMOs needn't find what others stored.
+// Whether the changes of a word add up. If other stores change it too, they don't, and the AMOs needn't find what
+// others stored.
 fn adds_up(amos: &[Indexed]) -> bool {
     let mut sum = 0i64;
     let mut least = u32::MAX;
@@ -70,7 +71,7 @@ struct Line {
     placed: usize,
 }
 
-// An AMO that has a place: it is the next one of this line. If it is free, another one could have come here.
+// An AMO that was placed: it is the next one of this line. If it is free, another one could have been placed here.
 #[derive(Clone, Copy)]
 struct Choice {
     line: usize,
@@ -85,7 +86,7 @@ struct Order {
     count: usize,
     // What the word holds after those. It isn't known before the first one.
     value: Option<u32>,
-    // Of AMOs that may come next, only those with greater tickets are tried.
+    // Of AMOs that may be next, only those with greater tickets are tried.
     after: Option<u64>,
 }
 
@@ -145,8 +146,8 @@ impl Order {
         Ok(false)
     }
 
-    // The AMO that comes next: the one with the smallest ticket. All whose threads have gone on at its ticket have to be placed before. One
-    // that changes nothing is in nobody's way, so no other is tried in its place.
+    // The AMO that is next: the one with the smallest ticket. All whose threads have gone on at its ticket have to be
+    // placed before. One that changes nothing is in nobody's way, so no other is tried instead.
     fn next_choice(&self) -> Option<Choice> {
         let mut least = u64::MAX;
         let mut second = u64::MAX;
@@ -215,7 +216,7 @@ impl Order {
         Ok(())
     }
 
-    // Takes back the last free choice and those behind it. Returns whether there was one.
+    // Takes back the last free choice and those after it. Returns whether there was one.
     fn go_back(&mut self) -> bool {
         for _ in 0..self.count {
             let Some(choice) = self.choices.pop() else {

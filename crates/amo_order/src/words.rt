@@ -3,7 +3,8 @@ use crate::amo::Amo;
 use dp_base::OutOfMemory;
 use std::alloc::Global;
 
-// The number of slots in which words are looked at, one for each remainder of a word's number. Two words of one slot may hide each other.
+// The number of slots in which words are looked at, one for each remainder of a word's number. Two words of one slot
+// may hide each other.
 const SLOTS: usize = 1024;
 
 // How many words are put in order in a pass at most. Each costs several walks over all AMOs.

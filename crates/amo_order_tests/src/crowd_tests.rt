@@ -3,9 +3,9 @@ use amo_order::{Amo, PLACES, order_amos};
 use std::alloc::Global;
 use std::test::Fail;
 
-// A thread gives a lock back, others fail to take it, and then one takes it. So the others come after that. They have to come before the
-// next ticket of the last one of them, the first ticket after the one that takes it. Returns how many are put elsewhere than at their
-// tickets.
+// A thread gives a lock back, others fail to take it, and then one takes it. So the others come after that. They have
+// to come before the next ticket of the last one of them, the first ticket after the one that takes it. Returns how
+// many are put elsewhere than at their tickets.
 fn moved(alloc: Global, others: u32) -> Result<u32, Fail> {
     let mut amos = Vec::new(alloc);
     let taken = (u64::from(others) + 2) * PLACES;

@@ -3,8 +3,9 @@ use amo_order::{Amo, PLACES, order_amos};
 use std::alloc::Global;
 use std::test::Fail;
 
-// Puts AMOs in order. Each is a number of four digits: its word, its thread, what it found, and what it stored. Their tickets are in the
-// order of the list. Returns their places in the list, from 1 on, in the order in which they are put, as the digits of a number.
+// Puts AMOs in order. Each is a number of four digits: its word, its thread, what it found, and what it stored. Their
+// tickets are in the order of the list. Returns their places in the list, from 1 on, in the order in which they are
+// put, as the digits of a number.
 fn order_of(alloc: Global, steps: &[u32]) -> Result<u32, Fail> {
     let mut amos = Vec::new(alloc);
     let count = steps.len().min(9);
@@ -47,7 +48,8 @@ fn orders_of_a_lock(rt: HostRuntime) -> Result<(), Fail> {
     assert_eq!(rt; order_of(alloc, &[1, 101, 10, 110])?, 1324);
     // The first one took it after the second one had given it back.
     assert_eq!(rt; order_of(alloc, &[1, 101, 110, 10])?, 2314);
-    // Between the first one's ticket and its exchange the second one took it and gave it back. A third one had it before.
+    // Between the first one's ticket and its exchange the second one took it and gave it back. A third one had it
+    // before.
     assert_eq!(rt; order_of(alloc, &[201, 210, 1, 101, 110, 10])?, 124536);
     // The first one took it after two others had given it back.
     assert_eq!(rt; order_of(alloc, &[1, 101, 110, 201, 210, 10])?, 234516);

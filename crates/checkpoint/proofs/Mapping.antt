@@ -119,7 +119,7 @@ pub pages_all : (i n : ℕ) (bytes : List ℕ) (pages : List Page) (least : ℕ)
 pages_all i n bytes pages least rest so_far all =
     ap (λ (m : ℕ). rising_pages_at m bytes) (sym all) ∙ ap (λ (o : Option (List Page × List ℕ)). o >>= if_rising) so_far.read ∙ ap (λ (b : Bool). cond b (Some (pages, rest)) None) so_far.rise
 
--- a whole page has nothing behind it
+-- a whole page has nothing after it
 pub whole_page : (p : Page) → length p.bytes ≡ PAGE_BYTES → page_with p.number p.flags p.bytes ≡ p
 whole_page p size =
     let none : PAGE_BYTES - length p.bytes ≡ 0 = omega (arith, size) in

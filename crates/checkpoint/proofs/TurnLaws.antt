@@ -1,4 +1,4 @@
--- What is used of a turn, and what has to hold behind it.
+-- What is used of a turn, and what has to hold after it.
 use Rattle.std.proofs.Common.{◌≡◌, ℕ, ◌^◌, ◌<◌, ◌≤◌, cond, List, length, count_by, take, slice_get, Some, Result, Ok, Err}
 use Rattle.std.specs.Prelude.{◌&&◌, nat_lt}
 use Rattle.std.specs.List.{AllByRecursion}
@@ -48,7 +48,7 @@ effect_is_good laws h m (goes after left) is bytes e = (laws.hart h after m left
 effect_is_good laws h m calls is bytes e = tt
 effect_is_good laws h m (traps cause value) is bytes e = (laws.cause h m cause value e, laws.value h m cause value is bytes e)
 
--- what has to hold behind a turn, once the reservation is dropped: but for the threads' number
+-- what has to hold after a turn, once the reservation is dropped: but for the threads' number
 pub record Fits (s left : State) (tid : Tid) : Type 0 where
   pub each : AllByRecursion IsThread (without_reservation left tid).threads
   pub some : 0 < length (without_reservation left tid).threads

@@ -1,4 +1,4 @@
--- A turn of a thread, behind which the state has an encoding again once the thread's reservation is dropped.
+-- A turn of a thread, after which the state has an encoding again once the thread's reservation is dropped.
 use Rattle.std.proofs.Common.{◌≡◌, ℕ, ◌+◌, ◌-◌, ◌/◌, ◌%◌, ◌^◌, ◌<◌, ◌≤◌, Bool, true, false, cond, not, List, [], ◌∷◌, ◌++◌, length, count_by, min, slice_get, Option, Some, None, refl, sym, ap, subst, ◌∙◌, arith}
 use Rattle.std.specs.Prelude.{◌==◌, slice_set}
 use Rattle.std.specs.List.{AllByRecursion, list_any}
@@ -80,7 +80,7 @@ module _ (laws : TurnLaws) (s : State) (tid : Tid) (hart : Hart) (clear : ℕ) (
   some_threads : 0 < length s.threads
   some_threads = omega (arith, inside)
 
-  -- each thread has an encoding, with another in the place of this one
+  -- each thread has an encoding, with another instead of this one
   each_set : (t : Thread) → IsThread t → AllByRecursion IsThread (slice_set s.threads (tid.0 - 1) t)
   each_set t fits = subst (AllByRecursion IsThread) (set_set s.threads (tid.0 - 1) (Runs (unreserved hart) clear) t) (all_set IsThread (slice_set s.threads (tid.0 - 1) (Runs (unreserved hart) clear)) (tid.0 - 1) t before.threads fits)
 
@@ -90,7 +90,7 @@ module _ (laws : TurnLaws) (s : State) (tid : Tid) (hart : Hart) (clear : ℕ) (
   within_is : traps_within (length s.threads) s.end ≡ true
   within_is = ap (λ (n : ℕ). traps_within n s.end) (sym (length-set s.threads (tid.0 - 1) (Runs (unreserved hart) clear))) ∙ (bounds_of (checkpoint_of (with_thread s tid (Runs (unreserved hart) clear))) before.bounded).traps
 
-  -- ---- a state behind the turn
+  -- ---- a state after the turn
 
   -- what it leaves, whatever its threads
   pub record Leaves (left : State) (threads : List Thread) : Type 0 where

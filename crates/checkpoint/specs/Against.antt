@@ -1,5 +1,5 @@
--- A partial mark's parts, read one after another, and the pages of its base, looked up one after another. These serve the
--- contracts of the crate's own steps. This project's own.
+-- A partial mark's parts, read one after another, and the pages of its base, looked up one after another. These serve
+-- the contracts of the crate's own steps. This project's own.
 use Rattle.std.specs.Prelude.{◌≡◌, ◌≤◌, ℕ, List, [], length, drop, Option, Some, true}
 use Rattle.dp_base.specs.declared.limits.TheConstants.{MAX_PAGES}
 use Rattle.dp_base.specs.declared.page.Page.{Page}
@@ -13,7 +13,7 @@ use Rattle.partial_mark.specs.declared.fields.Fields.{Fields}
 use Rattle.partial_mark.specs.Partial.{PartialPage, fields_from, partial_page_from}
 use Rattle.partial_mark.specs.View.{outlines}
 
--- what stands before the pages, with their number, and the bytes of the pages
+-- the fields before the pages, the number of pages, and their bytes
 pub record Before : Type 0 where
   pub fields : Fields
   pub threads : List Thread
@@ -33,14 +33,14 @@ before_pages bytes = do
   page_count ← number_at 2 threads.1
   Some (before fields.0 threads.0 page_count.0 page_count.1)
 
--- so many pages, in rising order and not too many
+-- `count` pages, in rising order and not too many
 pub record HoldPages (count : ℕ) (bytes : List ℕ) : Type 0 where
   pub pages : List PartialPage
   pub read : many_at partial_page_from count bytes ≡ Some (pages, [])
   pub rise : rising (outlines pages) ≡ true
   pub few : length pages ≤ MAX_PAGES
 
--- so many pages, with the base's bytes where they have none
+-- `count` pages, with the base's bytes if they have none
 abbrev pub pages_restored : (base : List Page) → (count : ℕ) → List ℕ → Option (List Page)
 pages_restored base count bytes = many_at partial_page_from count bytes >>= λ pages. pages_over base pages.0
 

@@ -25,8 +25,8 @@ struct CheckpointHead {
     thread_count: u16,
 }
 
-/// Returns the state whose encoding these bytes are. Returns `None` exactly if they are no state's, also if bytes stand
-/// behind it.
+/// Returns the state whose encoding these bytes are. Returns `None` exactly if they are no state's, also if more bytes
+/// follow it.
 pub fn decode(alloc: Global, body: &[u8]) -> Result<Option<State>, OutOfMemory>
     ensures found { IfOk result (λ found. option_map checkpoint_of found ≡ whole checkpoint_from body.now) }
     ensures encodable { IfOk result (λ found. IfSome found IsEncodable) }
@@ -65,7 +65,7 @@ pub fn decode(alloc: Global, body: &[u8]) -> Result<Option<State>, OutOfMemory>
     }))
 }
 
-// What stands before the threads, and the bytes behind it.
+// The fields before the threads, and the bytes after them.
 #[tactic(auto, unfolding(guest_state::specs::Checkpoint::checkpoint_from))]
 fn read_head(bytes: &[u8]) -> Option<(CheckpointHead, &[u8])>
     ensures { checkpoint_from bytes.now ≡ with_head (option_map (λ x. (x.0, x.1.now)) result) }
@@ -87,7 +87,7 @@ fn read_head(bytes: &[u8]) -> Option<(CheckpointHead, &[u8])>
     Some((head, rest))
 }
 
-// What the bounds are about, in a state with so many threads alive and so many pages, whose numbers rise.
+// The bounds of a state with this many threads alive and this many pages, whose numbers rise.
 fn bounds_of(head: CheckpointHead, live: usize, pages: u16) -> CheckpointBounds
     ensures { result ≡ record {
       heap = head.heap;
@@ -110,7 +110,7 @@ fn bounds_of(head: CheckpointHead, live: usize, pages: u16) -> CheckpointBounds
     }
 }
 
-// So many threads, and the bytes behind them.
+// The first `count` threads, and the bytes after them.
 pub(crate) fn read_threads(
     alloc: Global,
     count: u16,
@@ -131,7 +131,7 @@ pub(crate) fn read_threads(
     Ok(Some((threads, rest)))
 }
 
-// So many pages in rising order, and the bytes behind them. `None` also if their numbers don't rise.
+// The first `count` pages in rising order, and the bytes after them. `None` also if their numbers don't rise.
 fn read_pages(
     alloc: Global,
     count: u16,

@@ -1,5 +1,5 @@
-//! Which states have an encoding. Each function's contract is a law over all guests, states, slices and logs; a call of it
-//! costs nothing and hands the law to the caller's proof.
+//! Which states have an encoding. Each function's contract is a law over all guests, states, slices and logs; a call of
+//! it costs nothing and hands the law to the caller's proof.
 
 ghost use Rattle.std.specs.Prelude.{◌≡◌, ◌<◌, ◌^◌, ℕ, List, [], length, Ok};
 ghost use Rattle.dp_base.specs.declared.answer.Answer.{Answer};
@@ -37,7 +37,7 @@ pub fn a_partial_is_short()
     ensures { (m : Partial) → IsPartial m → length (partial_bytes m) < MAX_BODY_BYTES }
 {}
 
-/// Behind a turn a state has an encoding once the reservation of the thread whose turn it was is dropped, if it was so
+/// After a turn a state has an encoding once the reservation of the thread whose turn it was is dropped, if it was so
 /// before and its answers have encodings. Step counts and input places are below 2^64.
 pub fn a_turn_keeps_a_state_encodable()
     ensures { (s : State) (tid : Tid) (log : List Answer) (after : After) → IsEncodable (without_reservation s tid) →
@@ -52,8 +52,8 @@ pub fn a_turn_keeps_a_state_encodable()
     guest_kernel::laws::a_wake_is_of_the_lowest();
 }
 
-/// A run of slices from a state that has an encoding ends in one, if its answers have encodings and it has fewer than 2^64
-/// steps and bytes of input.
+/// A run of slices from a state that has an encoding ends in one, if its answers have encodings and it has fewer than
+/// 2^64 steps and bytes of input.
 pub fn a_run_keeps_a_state_encodable()
     ensures { (s : State) (slices : List Slice) (log : List Answer) (there : After) → IsEncodable s →
         AllByRecursion IsAnswer log → run slices (at s [] log) ≡ Ok there → there.state.steps < 2 ^ 64 →
@@ -65,8 +65,8 @@ pub fn a_run_keeps_a_state_encodable()
     a_turn_keeps_a_state_encodable();
 }
 
-/// A chain of epochs from a state that has an encoding ends in one, if their answers have encodings and it has fewer than 2^64
-/// steps and bytes of input.
+/// A chain of epochs from a state that has an encoding ends in one, if their answers have encodings and it has fewer
+/// than 2^64 steps and bytes of input.
 pub fn a_chain_keeps_a_state_encodable()
     ensures { (s : State) (epochs : List Epoch) (end : State) (output : List ℕ) → IsEncodable s →
         AllByRecursion (λ e. AllByRecursion IsAnswer e.answers) epochs → chain s epochs ≡ Ok (end, output) →

@@ -14,8 +14,8 @@ use guest_state::Thread;
 use partial_mark::{Fields, is_partial, read_fields, read_partial_page};
 use std::alloc::Global;
 
-/// Returns the state whose partial mark against this base these bytes are. Returns `None` exactly if they are no partial mark, also
-/// if bytes stand behind it, or if the base lacks a page of which the mark has no bytes.
+/// Returns the state whose partial mark against this base these bytes are. Returns `None` exactly if they are no
+/// partial mark, also if more bytes follow it, or if the base lacks a page of which the mark has no bytes.
 pub fn decode_partial(
     alloc: Global,
     body: &[u8],
@@ -47,7 +47,7 @@ pub fn decode_partial(
     }))
 }
 
-// What stands before the pages, their number, and their bytes.
+// The fields before the pages, the number of pages, and their bytes.
 #[tactic(auto, unfolding(crate::specs::Against::before_pages))]
 fn read_before_pages(
     alloc: Global,

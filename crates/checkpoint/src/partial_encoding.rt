@@ -19,7 +19,8 @@ use guest_kernel::State;
 use partial_mark::PARTIAL_KIND;
 use std::alloc::Global;
 
-/// Returns the partial mark of a state against its base: all of the state, but the bytes of pages that are the same in the base.
+/// Returns the partial mark of a state against its base: all of the state, but the bytes of pages that are the same in
+/// the base.
 pub fn encode_partial(alloc: Global, state: &State, base: &State) -> Result<Vec<u8>, OutOfMemory>
     requires state { IsEncodable state.now }
     requires base { IsEncodable base.now }

@@ -1,4 +1,4 @@
-// Where the bytes of a checkpoint go: a vector, or a hash.
+// What takes the bytes of a checkpoint: a vector, or a hash.
 ghost use Rattle.std.specs.Prelude.{◌≡◌, ℕ, Bool, List, true, IsErr};
 ghost use Rattle.checkpoint.specs.Sink.{Adds};
 
@@ -12,7 +12,7 @@ pub(crate) trait Sink {
     /// Whether it may want memory.
     ghost may_fail: { Bool };
 
-    /// Takes more bytes, behind those before.
+    /// Appends more bytes.
     fn put(&mut self, bytes: &[u8]) -> Result<(), OutOfMemory>
         ensures added { Adds holds self.old self.new result bytes.now }
         ensures cause { IsErr result → may_fail ≡ true };

@@ -55,7 +55,7 @@ pub(crate) fn write_end<S: Sink>(sink: &mut S, end: End) -> Result<(), OutOfMemo
     }
 }
 
-// The threads, behind their number.
+// The threads, after their count.
 pub(crate) fn write_counted_threads<S: Sink>(
     sink: &mut S,
     threads: &[Thread],
@@ -131,7 +131,7 @@ fn write_words<S: Sink>(sink: &mut S, words: &[u32]) -> Result<(), OutOfMemory>
     Ok(())
 }
 
-// The pages, behind their number.
+// The pages, after their count.
 fn write_counted_pages<S: Sink>(sink: &mut S, state: &State) -> Result<(), OutOfMemory>
     ensures added { Adds S.holds sink.old sink.new result
         (little_bytes 2 (length state.now.pages) ++ flat_map page_bytes state.now.pages) }

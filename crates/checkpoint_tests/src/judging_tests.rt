@@ -10,7 +10,7 @@ const NUMBERS: [u8; 24] = [
 
 const GONE: [u8; 5] = [2, 7, 0, 0, 0];
 
-// Whether these numbers, this end, and these bytes behind it are a checkpoint.
+// Whether these numbers, this end, and these bytes after it are a checkpoint.
 fn judged(alloc: Global, numbers: &[u8], end: &[u8], behind: &[u8]) -> Result<bool, Fail> {
     let mut body = numbers.to_vec(alloc)?;
     body.extend_from_slice(end)?;
@@ -20,7 +20,7 @@ fn judged(alloc: Global, numbers: &[u8], end: &[u8], behind: &[u8]) -> Result<bo
 
 #[test]
 fn ends(rt: HostRuntime) -> Result<(), Fail> {
-    // One thread that is gone with 7, and no page.
+    // One thread that has exited with 7, and no page.
     let behind = [1, 0, 2, 7, 0, 0, 0, 0, 0];
     let cases: [(&[u8], bool); 11] = [
         (&[0], true),
@@ -61,7 +61,7 @@ fn bounds(rt: HostRuntime) -> Result<(), Fail> {
         let behind = [1, 0, 2, 7, 0, 0, 0, 0, 0];
         assert_eq!(rt; judged(alloc, &numbers, &[0], &behind)?, is);
     }
-    // No thread; a byte behind; a byte too few; a thread of kind 3; a page of which no byte is there.
+    // No thread; a byte after; a byte too few; a thread of kind 3; a page of which no byte is there.
     let cases: [(&[u8], bool); 5] = [
         (&[0, 0, 0, 0], false),
         (&[1, 0, 2, 7, 0, 0, 0, 0, 0, 0], false),
@@ -75,7 +75,7 @@ fn bounds(rt: HostRuntime) -> Result<(), Fail> {
     Ok(())
 }
 
-// So many threads that are gone, and so many that wait.
+// So many threads that have exited, and so many that wait.
 fn crowd(alloc: Global, gone: u16, waiting: u16) -> Result<Vec<u8>, Fail> {
     let mut behind = Vec::new(alloc);
     behind.extend_from_slice(&gone.wrapping_add(waiting).to_le_bytes())?;

@@ -10,13 +10,14 @@ use std::alloc::Global;
 use std::test::Fail;
 use test_files::{WRITES, replaced};
 
-// The bytes of the start state's pages from the k-th on, from 0, begin at 162 + 4,101 k. It has 17: one of code and 16 of stack.
+// The bytes of the start state's pages from the k-th on, from 0, begin at 162 + 4,101 k. It has 17: one of code and 16
+// of stack.
 const PAGES: usize = 162;
 
 const PAGE: usize = 4101;
 
-// Up to the pages, the state behind the first turn: a step, no input, an empty heap from 00011000 on, no end; one thread, which
-// runs at 00010058 with no clear address, 7FFFFFE0 in x2 and 1 in x10. Its other registers are 0.
+// Up to the pages, the state after the first turn: a step, no input, an empty heap from 00011000 on, no end; one
+// thread, which runs at 00010058 with no clear-on-exit address, 7FFFFFE0 in x2 and 1 in x10. Its other registers are 0.
 const BEFORE_REGISTERS: [u8; 36] = [
     1, 0, 0, 0, 0, 0, 0, 0, 0, 0, 0, 0, 0, 0, 0, 0, 0, 0x10, 1, 0, 0, 0x10, 1, 0, 0, 1, 0, 0, 0x58,
     0, 1, 0, 0, 0, 0, 0,
@@ -85,7 +86,7 @@ fn part(alloc: Global, bytes: &[u8], at: usize, count: usize) -> Result<Vec<u8>,
     patched(alloc, &rest, count, rest.len(), &[])
 }
 
-// The state behind the first turn.
+// The state after the first turn.
 fn stepped(alloc: Global, base: &[u8]) -> Result<Vec<u8>, Fail> {
     let body = patched(alloc, base, 0, 1, &[1])?;
     let body = patched(alloc, &body, 28, 1, &[0x58])?;
@@ -157,7 +158,7 @@ fn changes(rt: HostRuntime) -> Result<(), Fail> {
     Ok(())
 }
 
-// What stands behind the kind, up to the pages.
+// What follows the kind, up to the pages.
 fn stepped_fields(alloc: Global) -> Result<Vec<u8>, Fail> {
     let mut bytes = BEFORE_REGISTERS.to_vec(alloc)?;
     bytes.resize(160, 0)?;
@@ -165,7 +166,7 @@ fn stepped_fields(alloc: Global) -> Result<Vec<u8>, Fail> {
     patched(alloc, &bytes, 72, 1, &[1])
 }
 
-// The partial mark of the state behind the first turn against the start, written out from the format's tables.
+// The partial mark of the state after the first turn against the start, written out from the format's tables.
 fn stepped_partial(alloc: Global) -> Result<Vec<u8>, Fail> {
     let mut bytes = Vec::new(alloc);
     bytes.push(2)?;
@@ -186,7 +187,7 @@ fn bytes_by_hand(rt: HostRuntime) -> Result<(), Fail> {
     let partial = stepped_partial(alloc)?;
     assert_eq!(rt; partial.len(), 265);
     assert_eq!(rt; against(alloc, &body, &base)?, partial);
-    // A stored page has its bytes behind its kind.
+    // A stored page has its bytes after its kind.
     let stored = changed(alloc, &body, Change::Stored)?;
     let page = part(alloc, &stored, PAGES + 5, 4096)?;
     let written = patched(alloc, &partial, 168, 1, &[1])?;
@@ -222,7 +223,8 @@ fn spoilt(rt: HostRuntime) -> Result<(), Fail> {
     let alloc = rt.alloc();
     let base = start(alloc)?;
     let partial = stepped_partial(alloc)?;
-    // The k-th page, from 0 on, begins at 163 + 6 k with its number; its flags are 4 bytes further on, and then its kind.
+    // The k-th page, from 0 on, begins at 163 + 6 k with its number; its flags are 4 bytes further on, and then its
+    // kind.
     let cases: [(usize, &[u8], bool, bool); 15] = [
         // 3 steps; flags of 7; a break one above the heap's start
         (1, &[3], true, true),
@@ -238,7 +240,7 @@ fn spoilt(rt: HostRuntime) -> Result<(), Fail> {
         // a page fewer and one more than there are
         (161, &[16, 0], false, false),
         (161, &[18, 0], false, false),
-        // flags of 8; a third kind of content; no bytes behind the last kind that says so
+        // flags of 8; a third kind of content; no bytes after the last kind that says so
         (167, &[8], false, false),
         (168, &[2], false, false),
         (264, &[1], false, false),

@@ -21,7 +21,7 @@ fn ends_read()
     ensures no_kind { end_from (4 ∷ []) ≡ None }
 {}
 
-// pc, the clear address, and x1 to x31; a waiting thread has its address first.
+// pc, the clear-on-exit address, and x1 to x31; a waiting thread has its address first.
 fn threads()
     ensures gone { thread_bytes (Gone 5) ≡ 2 ∷ 5 ∷ 0 ∷ 0 ∷ 0 ∷ [] }
     ensures runs { thread_bytes (Runs (record { pc = 0x10054; x = 1 ∷ 2 ∷ []; held = None }) 3) ≡ 0 ∷ 0x54 ∷ 0 ∷ 1 ∷ 0 ∷ 3 ∷ 0 ∷ 0 ∷ 0 ∷ 1 ∷ 0 ∷ 0 ∷ 0 ∷ 2 ∷ 0 ∷ 0 ∷ 0 ∷ [] }

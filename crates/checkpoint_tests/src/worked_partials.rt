@@ -1,4 +1,5 @@
-//! What the definitions of partial marks say of values and bytes that stand here in full. The expected sides were written by hand.
+//! What the definitions of partial marks say of values and bytes that stand here in full. The expected sides were
+//! written by hand.
 
 ghost use Rattle.std.specs.Prelude.{◌≡◌, ◌∷◌, [], Some, None};
 ghost use Rattle.guest_state.specs.declared.end.End.TheVariants as ends;

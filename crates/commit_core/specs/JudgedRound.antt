@@ -15,8 +15,8 @@ pub data RoundEnd : Type 0 where
   squashed : RoundEnd
   over : RoundEnd
 
--- Of these results, judged from a state, these epochs are committed, and the committed state is then that. They are the longest list of
--- the first results in which each is an epoch that starts where the one before ended.
+-- Of these results, judged from a state, these epochs are committed, and the committed state is then that. They are the
+-- longest list of the first results in which each is an epoch that starts where the one before ended.
 abbrev pub IsRoundJudged : State → List Ran → List EpochRun → State → RoundEnd → Type 0
 IsRoundJudged s [] [] t end = (t ≡ s) × (end ≡ used_up)
 IsRoundJudged s [] (y ∷ runs) t end = ⊥

@@ -1,4 +1,4 @@
--- The results of a round, judged in order: what comes of each event. This project's own.
+-- The results of a round, judged in order: the effect of each event. This project's own.
 use Rattle.std.specs.Prelude.{◌≡◌, ◌≢◌, ◌⊎◌, ◌+◌, ◌-◌, ℕ, zero, suc, Bool, true, false, ◌&&◌, nat_lt, nat_le, nat_eq, if◌then◌else◌, List, [], ◌∷◌, ◌++◌, length, slice_get, slice_set, Option, Some, None}
 use Rattle.guest_kernel.specs.declared.state.State.{State}
 use Rattle.epoch_runner.specs.declared.epoch_run.EpochRun.{EpochRun}
@@ -27,7 +27,7 @@ pub record Core : Type 0 where
 abbrev pub new_core : State → (jobs : ℕ) → Core
 new_core s jobs = record { committed = s; max_jobs = jobs; jobs = []; judged = 0; closed = false }
 
--- how far a job is; none where it wasn't offered
+-- how far a job is; none if it wasn't offered
 abbrev pub stage_at : List Stage → ℕ → Option Stage
 stage_at jobs zero = None
 stage_at jobs (suc i) = slice_get jobs i
@@ -49,7 +49,7 @@ shut c = record c { closed = true }
 
 -- ---- the verdict on each event, and what the round is then
 
--- an offer is noted where it has the next number, and the round may have so many jobs
+-- an offer is noted if it has the next number, and the round may have that many jobs
 abbrev pub offered : Core → ℕ → Verdict × Core
 offered c i =
     if nat_lt 0 i && nat_le i (length c.jobs) then (Double i, c)
@@ -80,7 +80,7 @@ taken c i ran (Some Done) = (Noted, with_stage c i (Taken ran))
 taken c i ran (Some (Taken other)) = (Double i, c)
 taken c i ran (Some Judged) = (Double i, c)
 
--- the result of the next job: where its start is the committed state, and where it isn't
+-- the result of the next job: if its start is the committed state, and if it isn't
 abbrev pub IsJudged : Core → Ran → Verdict → Core → Type 0
 IsJudged c (Epoch r) verdict there =
     ((r.start ≡ c.committed) × (verdict ≡ Commit r.epoch r.out) × (there ≡ with_epoch c r))

@@ -1,4 +1,4 @@
--- The events of a round as a machine's: which may come, and what each does. This project's own.
+-- The events of a round as a machine's: which may happen, and what each does. This project's own.
 use Rattle.std.specs.Prelude.{◌≡◌, ◌≢◌, ◌⊎◌, ◌≤◌, ◌+◌, false, length, slice_get, Some}
 use Rattle.epoch_runner.specs.declared.epoch_run.Ran.{Ran}
 use Rattle.epoch_runner.specs.declared.epoch_run.Ran.TheVariants.{Epoch, Idle}
@@ -14,7 +14,7 @@ abbrev pub BecomesBy : Core → Ran → Core → Type 0
 BecomesBy c (Epoch r) there = ((r.start ≡ c.committed) × (there ≡ with_epoch c r)) ⊎ ((r.start ≢ c.committed) × (there ≡ shut c))
 BecomesBy c (Idle s) there = there ≡ shut c
 
--- the event may come here, and leads there
+-- the event may happen here, and leads there
 abbrev pub Goes : Core → Event → Core → Type 0
 Goes c (events.Offer i) there = (i ≡ length c.jobs + 1) × (i ≤ c.max_jobs) × (there ≡ with_job c)
 Goes c (events.Claim i) there = (stage_at c.jobs i ≡ Some Offered) × (there ≡ with_stage c i Claimed)
@@ -32,7 +32,7 @@ IsRefusal (Squash i) = ⊥
 IsRefusal (Over i) = ⊥
 IsRefusal Closed = Unit {0}
 
--- an event that may come is noted, and no other; a refused one changes nothing
+-- an event that may happen is noted, and no other; a refused one changes nothing
 abbrev pub NotesOrRefuses : Core → Event → Verdict → Core → Type 0
 NotesOrRefuses c e verdict there =
     ((IsRefusal verdict → ⊥) × Goes c e there) ⊎ (IsRefusal verdict × (there ≡ c) × ((other : Core) → Goes c e other → ⊥))

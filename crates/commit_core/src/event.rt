@@ -1,6 +1,6 @@
 use epoch_runner::Ran;
 
-/// What happens in a round. The events of a job come in this order. Jobs are counted from 1.
+/// What happens in a round. The events of a job are in this order. Jobs are counted from 1.
 #[derive(Drop)]
 pub enum Event {
     /// The job is in the round.

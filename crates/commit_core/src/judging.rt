@@ -83,7 +83,8 @@ impl Core {
         }
     }
 
-    /// Judges the next result as `apply` does, where an epoch is known to start in the committed state. So its start isn't compared.
+    /// Judges the next result as `apply` does. An epoch is known to start in the committed state, so its start isn't
+    /// compared.
     pub fn judge_known(&mut self) -> Verdict
         requires { (run : EpochRun) → slice_get self.old.jobs self.old.judged ≡ Some (Taken (Epoch run)) → run.start ≡ self.old.committed }
         ensures { HasApplied self.old Event.Judge result self.new }

@@ -62,7 +62,8 @@ fn tell(core: &mut Core, index: u32, ran: Ran) -> [(char, u32); 4] {
     ]
 }
 
-// A round from the guest's start: jobs by the steps before them and the steps of their own; then what the judgements answer.
+// A round from the guest's start: jobs by the steps before them and the steps of their own; then what the judgements
+// answer.
 #[derive(Clone, Copy)]
 struct Round {
     first: (u32, u32),
@@ -158,8 +159,8 @@ fn results_in_order(rt: HostRuntime) -> Result<(), Fail> {
     Ok(())
 }
 
-// What the round is by a table: the last event of each of two jobs, 0 for none to 4 for taken and 5 for committed; and whether it is
-// closed. Job 1 starts in the committed state, job 2 elsewhere.
+// What the round is by a table: the last event of each of two jobs, 0 for none to 4 for taken and 5 for committed; and
+// whether it is closed. Job 1 starts in the committed state, job 2 elsewhere.
 #[derive(Clone, Copy)]
 struct Table {
     first: u32,
@@ -270,7 +271,8 @@ fn first_other(alloc: Global, before: &[u32]) -> Result<u32, Fail> {
     Ok(59_049)
 }
 
-// Every order of five events over two jobs, from a fresh round, and from one whose jobs were all taken but for the last event.
+// Every order of five events over two jobs, from a fresh round, and from one whose jobs were all taken but for the last
+// event.
 #[test]
 fn orders_of_events(rt: HostRuntime) -> Result<(), Fail> {
     let begun: [&[u32]; 2] = [&[], &[0, 4, 1, 5, 2, 6, 3]];

@@ -139,7 +139,7 @@ same_on (Ok x) hand new_hand nodes new_nodes order memory are view err = tt
 same_on (Err e) hand new_hand nodes new_nodes order memory are view err =
     listed_is new_hand new_nodes order (listed hand nodes order) are.pages are.order (λ n. are.whole n ∙ sym (err n)) ∙ view
 
--- ---- a page put behind all others
+-- ---- a page put after all others
 
 or_none : (x : Option Page) → option_or x None ≡ x
 or_none None = refl

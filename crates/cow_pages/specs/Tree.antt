@@ -1,5 +1,5 @@
--- A tree of pages in two levels: nodes by the high ten bits of a page's number, and in each node pages by the low ten. No public
--- clause names it.
+-- A tree of pages in two levels: nodes by the high ten bits of a page's number, and in each node pages by the low ten.
+-- No public clause names it.
 use Rattle.std.specs.Prelude.{◌-◌, ◌/◌, ◌%◌, ℕ, zero, suc, List, [], ◌∷◌, ◌++◌, length, replicate, slice_get, slice_set, Option, Some, None}
 use Rattle.std.specs.Option.{option_flatten, option_map}
 use Rattle.dp_base.specs.declared.page.Page.{Page}

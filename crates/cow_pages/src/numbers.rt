@@ -37,7 +37,7 @@ impl Model for Numbers {
 }
 
 impl Rising {
-    // These numbers, and one behind them.
+    // These numbers, and one after them.
     fn with(&self, alloc: Global, number: u32) -> Result<Rising, OutOfMemory>
         ensures { IfOk result (λ rising. rising ≡ self.now ++ number ∷ []) }
     {
@@ -128,7 +128,7 @@ impl Numbers {
         &rising.numbers
     }
 
-    // Puts a page into a tree, and its number behind all others. An `Err` changes nothing.
+    // Puts a page into a tree, and its number after all others. An `Err` changes nothing.
     pub fn put_page(
         &mut self,
         alloc: Global,

@@ -1,5 +1,5 @@
-// The root: nodes by the high ten bits of the numbers of their pages. Tables share roots, and each gets its own on the way to a
-// store.
+// The root: nodes by the high ten bits of the numbers of their pages. Tables share roots, and each gets its own on the
+// way to a store.
 ghost use Rattle.std.specs.Prelude.{◌≡◌, ◌<◌, ◌^◌, [], IfOk, OnErr, OnOk, Some};
 ghost use Rattle.std.specs.Option.{option_copied, option_map};
 ghost use Rattle.cow_pages.specs.Tree.{entry_put, leaf, leaf_of, leaf_put, leaf_without, slots_of, slots_without};

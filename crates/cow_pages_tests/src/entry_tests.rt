@@ -1,6 +1,6 @@
-// Stores to pages that have the same entry in hand, in a table and in shares of it. An entry is the sum of the page's number and of its
-// part above the low ten bits, modulo 16. So the pages at 00010000, 00020000, 00030000, 00040000 and 0040F000 have entry 0, and the
-// one at 00011000 has entry 1.
+// Stores to pages that have the same entry in hand, in a table and in shares of it. An entry is the sum of the page's
+// number and of its part above the low ten bits, modulo 16. So the pages at 00010000, 00020000, 00030000, 00040000 and
+// 0040F000 have entry 0, and the one at 00011000 has entry 1.
 use crate::page_tests::map;
 use cow_pages::Pages;
 use dp_base::{Access, Mem, OutOfMemory, Width};

@@ -5,7 +5,8 @@ use dp_base::{Access, Mem, OutOfMemory, Width};
 use std::alloc::Global;
 use std::test::Fail;
 
-// The addresses of the first and last page of the first node, the first page of the second, and the last that can be mapped.
+// The addresses of the first and last page of the first node, the first page of the second, and the last that can be
+// mapped.
 fn starts() -> [u32; 4] {
     [0, 0x003f_f000, 0x0040_0000, 0xffff_e000]
 }
@@ -60,8 +61,8 @@ fn number_at(pages: &Pages, place: usize) -> Option<u32> {
     }
 }
 
-// The number of the third page, where the second node's only page is unmapped and mapped again: in a share from before, when it is
-// unmapped, and at the end.
+// The number of the third page, where the second node's only page is unmapped and mapped again: in a share from before,
+// when it is unmapped, and at the end.
 fn emptied(alloc: Global) -> Result<(Option<u32>, Option<u32>, Option<u32>), OutOfMemory> {
     let mut pages = of_nodes(alloc)?;
     let share = pages.share(alloc)?;

@@ -1,5 +1,6 @@
-// First stores to pages that are shared, which copy them. With ample memory each of them stores. `tests/out_of_memory.sh` makes each
-// allocation of each test fail in turn: one that a store needs has to be answered by `OutOfMemory`, and to leave both tables.
+// First stores to pages that are shared, which copy them. With ample memory each of them stores.
+// `tests/out_of_memory.sh` makes each allocation of each test fail in turn: one that a store needs has to be answered
+// by `OutOfMemory`, and to leave both tables.
 use crate::page_tests::two_pages;
 use cow_pages::Pages;
 use dp_base::{Access, AmoOp, Mem, OutOfMemory, Width};

@@ -1,4 +1,4 @@
--- Several texts, sent one behind another.
+-- Several texts, sent one after another.
 use Rattle.std.proofs.Common.{◌≡◌, ◌<◌, ℕ, ◌+◌, min, Bool, true, false, List, [], ◌∷◌, ◌++◌, length, take, drop, map, Bor, refl, sym, ◌∙◌, ap, subst, append_assoc, arith}
 use Rattle.std.specs.Prelude.{get_or}
 use Rattle.std.specs.List.{concat}
@@ -23,7 +23,7 @@ out_longer : (to : Stream) (a more before sent : List ℕ) → IsOutSent to a be
 out_longer Out a more before sent is = (min is.0 (length a), is.1 ∙ ap (λ (l : List ℕ). before ++ l) (sym (prefix_same is.0 a more)))
 out_longer Note a more before sent is = is
 
--- behind a whole text, a prefix of another
+-- after a whole text, a prefix of another
 out_behind : (to : Stream) (a b : List ℕ) (s t : History) (sent : List ℕ) → stream_of to t ≡ stream_of to s ++ a → stream_of (other to) t ≡ stream_of (other to) s
     → IsOutSent to b t.sent sent → IsOutSent to (a ++ b) s.sent sent
 out_behind Out a b s t sent whole same is =

@@ -43,7 +43,7 @@ module _ (bytes : List ℕ) where
     image-same : (image : List ℕ) → t.pending ≡ s.pending → IsImage t.pending image → IsImage s.pending image
     image-same image same is = subst (λ (p : Pending). IsImage p image) same is
 
-    -- the moment of a part, and the one behind it
+    -- the moment of a part, and the one after it
     out-always : IsSent Out bytes n s t → Always (IsSending Out bytes s) s (emitted Out (rest n) k t)
     out-always a = always-then (IsSending Out bytes s) s t (emitted Out (rest n) k t) a.moments
         (always-one (IsSending Out bytes s) t (emitted Out (rest n) k t) (record { pending = t.pending; sent = t.sent; piece = rest n }) refl

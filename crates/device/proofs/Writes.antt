@@ -1,4 +1,4 @@
--- A write, and a sync behind it.
+-- A write, and a sync after it.
 use Rattle.std.proofs.Common.{◌≡◌, inl, inr, ℕ, true, false, List, [], length, refl, sym, ◌∙◌, ap, subst}
 use Rattle.disk_model.specs.History.{History, IsImage, Pending, now, nothing_pending, write_pending}
 use Rattle.disk_model.specs.Moments.{Always, Then}
@@ -21,7 +21,7 @@ module _ (at : ℕ) (bytes : List ℕ) (s : History) where
   while-pending : Then (IsTorn at count s) (record { pending = torn; sent = s.sent; piece = [] })
   while-pending = torn-then torn (λ image is. is)
 
-  -- behind the write, or a part of it
+  -- after the write, or a part of it
   written-always : (disk : List ℕ) → Always (IsTorn at count s) s (after_write at count disk s)
   written-always disk = always-one (IsTorn at count s) s (after_write at count disk s) (record { pending = torn; sent = s.sent; piece = [] }) refl while-pending while-pending
 

@@ -26,7 +26,7 @@ IsOutSent Note bytes before sent = sent ≡ before
 abbrev pub IsSending : Stream → List ℕ → History → (image sent : List ℕ) → Type 0
 IsSending to bytes h image sent = IsImage h.pending image × IsOutSent to bytes h.sent sent
 
--- Of these bytes so many were sent, and nothing else happened. At every moment a prefix of them all was sent.
+-- Of these bytes the first ones were sent, and nothing else happened. At every moment a prefix of them all was sent.
 pub record IsSent (to : Stream) (bytes : List ℕ) (count : ℕ) (before after : History) : Type 0 where
   pub disk : after.disk ≡ before.disk
   pub pending : after.pending ≡ before.pending
@@ -34,21 +34,22 @@ pub record IsSent (to : Stream) (bytes : List ℕ) (count : ℕ) (before after :
   pub same : stream_of (other to) after ≡ stream_of (other to) before
   pub moments : Always (IsSending to bytes before) before after
 
--- all of them, or a prefix where it failed
+-- all of them, or a prefix if it failed
 abbrev pub Sent : Stream → List ℕ → Bool → History → History → Type 0
 Sent to bytes ok before after = (count : ℕ) × IsSent to bytes count before after × (ok ≡ true → length bytes ≤ count)
 
--- the bytes of all pieces, one piece behind another
+-- the bytes of all pieces, one piece after another
 abbrev pub joined_pieces : List (Bor (List ℕ)) → List ℕ
 joined_pieces pieces = concat (map (λ piece. piece.now) pieces)
 
 -- ---- its calls
 
--- the bytes that are left behind so many
+-- the bytes that are left after this many
 abbrev pub left_to_send : List ℕ → ℕ → List ℕ
 left_to_send bytes n = take (length bytes - n) (drop n bytes)
 
--- One emit behind another, each of all that is left, of which so many were taken; before them some were sent, behind them so many.
+-- One emit after another, each of all that is left, of which some were taken; how many were sent before them, and how
+-- many after.
 abbrev pub AreEmits : Stream → List ℕ → (sent : ℕ) → (counts : List ℕ) → (there : ℕ) → History → History → Type 0
 AreEmits to bytes sent [] there before after = (there ≡ sent) × (after ≡ before)
 AreEmits to bytes sent (k ∷ counts) there before after =

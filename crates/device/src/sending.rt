@@ -5,8 +5,8 @@ ghost use Rattle.device.specs.Sending.{SendCalls, Sent, joined_pieces};
 
 use disk_model::{Failed, Stream, World};
 
-/// Sends all of these bytes, in as many parts as it takes. At every moment of the call a prefix of them was sent, and a crash
-/// leaves on the disk what it would have left before the call.
+/// Sends all of these bytes, in as many parts as it takes. At every moment of the call a prefix of them was sent, and a
+/// crash leaves on the disk what it would have left before the call.
 ///
 /// # Errors
 ///
@@ -26,8 +26,8 @@ pub fn send_all<W: World>(world: &mut W, to: Stream, bytes: &[u8]) -> Result<(),
     Ok(())
 }
 
-/// Sends these pieces one behind another, each whole. At every moment of the call a prefix of all the pieces together was sent,
-/// and a crash leaves on the disk what it would have left before the call.
+/// Sends these pieces one after another, each whole. At every moment of the call a prefix of all the pieces together
+/// was sent, and a crash leaves on the disk what it would have left before the call.
 ///
 /// # Errors
 ///

@@ -5,7 +5,7 @@ use Rattle.std.proofs.lemmas.List.{append-nil, length-append, length-replicate, 
 use Rattle.disk_model.specs.Known.{overwritten}
 use Rattle.disk_mem.specs.Replay.{filled}
 
--- so many of one number behind them
+-- so many of one number after them
 pub length-padded : (n x : ℕ) (l : List ℕ) → length (l ++ replicate (n - length l) x) ≡ max (length l) n
 length-padded n x l = omega (arith, length-append l (replicate (n - length l) x), length-replicate {A = ℕ} (n - length l) x)
 

@@ -12,7 +12,7 @@ abbrev pub is_within : List Range → ℕ → Bool
 is_within [] i = false
 is_within (r ∷ rest) i = (nat_le r.at i && nat_lt i (r.at + r.count)) || is_within rest i
 
--- the byte at an offset, where each pending one is 1
+-- the byte at an offset, with each pending one 1
 abbrev pub byte_or_one : Pending → ℕ → ℕ
 byte_or_one p i = if is_within p.ranges i || nat_le p.least i then 1 else slice_index p.synced i
 

@@ -1,4 +1,4 @@
--- Files in memory, and what stands after each fetch. This project's own.
+-- Files in memory, and what each fetch leaves. This project's own.
 use Rattle.std.specs.Prelude.{ℕ, Bool, List, map, string_bytes}
 use Rattle.disk_model.specs.Directory.{File}
 use Rattle.disk_mem.specs.declared.fails.Fails.{Fails}

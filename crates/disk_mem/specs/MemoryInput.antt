@@ -1,4 +1,4 @@
--- An input in memory, and what stands after each of its calls. This project's own.
+-- An input in memory, and what each of its calls leaves. This project's own.
 use Rattle.std.specs.Prelude.{ℕ, ◌-◌, ◌^◌, min, nat_lt, if◌then◌else◌, Bool, false, List, [], ◌∷◌, ◌++◌, length, take, drop, slice_index, slice_index_or, zero, suc}
 use Rattle.std.specs.List.{concat}
 use Rattle.disk_model.specs.Input.{Input, took, taken, left_after}
@@ -19,20 +19,20 @@ abbrev pub cut_first : ℕ → List (List ℕ) → List (List ℕ)
 cut_first from [] = []
 cut_first from (piece ∷ rest) = drop from piece ∷ rest
 
--- of these pieces so many were given, and so many bytes of the one behind them
+-- how many of these pieces were given, and how many bytes of the next one
 abbrev pub pieces_at : List (List ℕ) → (at from : ℕ) → Pieces
 pieces_at pieces at from = record {
   given = concat (take at pieces) ++ take from (slice_index_or pieces at []);
   left = cut_first from (drop at pieces);
 }
 
--- behind a take into a buffer of this size
+-- after a take into a buffer of this size
 abbrev pub gave : ℕ → Pieces → Pieces
 gave room p = record { given = p.given ++ taken room p.left; left = left_after room p.left }
 
 -- ---- the clock
 
--- The reading with this number, counted from 0: past the list the last one again, 0 where it is empty.
+-- The reading with this number, counted from 0: past the list the last one again, 0 if it is empty.
 abbrev pub reading_at : List ℕ → ℕ → ℕ
 reading_at clocks number = slice_index clocks (min number (length clocks - 1))
 

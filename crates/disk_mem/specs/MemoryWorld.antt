@@ -1,4 +1,4 @@
--- A world in memory, and what stands after each of its calls. This project's own.
+-- A world in memory, and what each of its calls leaves. This project's own.
 use Rattle.std.specs.Prelude.{◌≡◌, ℕ, ◌⊎◌, Bool, true, false, List, [], ◌∷◌, ◌++◌}
 use Rattle.disk_model.specs.History.{History}
 use Rattle.disk_mem.specs.declared.call.Call.{Call}

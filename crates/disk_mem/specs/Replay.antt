@@ -14,7 +14,8 @@ filled at bytes = bytes ++ replicate (at - length bytes) 0
 abbrev pub start : List ℕ → History
 start bytes = record { disk = bytes; pending = nothing_pending bytes; sent = []; noted = []; past = [] }
 
--- Behind each call. One that failed by its number wrote, cut or sent nothing, but what it meant to write or cut is pending.
+-- After each call. One that failed by its number wrote, cut or sent nothing, but what it meant to write or cut is
+-- pending.
 abbrev pub after_call : Call → History → History
 after_call (Attach ok) h = h
 after_call (Len ok) h = h
@@ -27,7 +28,7 @@ after_call (Sync true) h = record (passed h) { pending = nothing_pending h.disk 
 after_call (Sync false) h = passed h
 after_call (Emit to piece taken ok) h = emitted to piece taken h
 
--- behind all of them
+-- after all of them
 unfoldable pub replay : History → List Call → History
 replay h [] = h
 replay h (call ∷ calls) = replay (after_call call h) calls

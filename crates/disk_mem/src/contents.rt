@@ -18,8 +18,8 @@ use std::marker::Model;
 
 /// A disk, what two streams have got, and the record of all calls. Clauses see the record, and the history.
 ///
-/// A change is recorded before it is made, and what it needs is allocated before that. So one that answers `OutOfMemory`
-/// changes nothing.
+/// A change is recorded before it is made, and what it needs is allocated before that. So one that answers
+/// `OutOfMemory` changes nothing.
 #[derive(Drop)]
 pub(crate) struct Contents {
     alloc: Global,
@@ -42,7 +42,7 @@ impl Model for Contents {
 }
 
 impl Contents {
-    /// An empty disk, and an empty record.
+    /// Makes an empty disk, with an empty record.
     pub fn new(alloc: Global) -> Contents
         ensures { result ≡ started [] }
     {
@@ -56,7 +56,7 @@ impl Contents {
         }
     }
 
-    /// A disk with these bytes, and an empty record.
+    /// Makes a disk with these bytes, and an empty record.
     pub fn of_disk(alloc: Global, bytes: &[u8]) -> Result<Contents, OutOfMemory>
         ensures { IfOk result (λ c. c ≡ started bytes.now) }
     {
@@ -72,7 +72,7 @@ impl Contents {
         })
     }
 
-    /// What a read of the whole disk gives. It is one of the images that a crash may leave now.
+    /// Returns what a read of the whole disk gives. It is one of the images that a crash may leave now.
     pub fn disk(&self) -> &[u8]
         ensures whole { result.now ≡ self.now.history.disk }
         ensures image { IsImage self.now.history.pending result.now }
@@ -82,8 +82,8 @@ impl Contents {
         bytes
     }
 
-    /// One of the images that a crash may leave now: 0 picks the disk without what is pending, 1 what a read gives, any other
-    /// number the disk with each pending byte 1.
+    /// Returns one of the images that a crash may leave now: 0 picks the disk without what is pending, 1 what a read
+    /// gives, any other number the disk with each pending byte 1.
     pub fn crash(&self, alloc: Global, pick: u32) -> Result<Vec<u8>, OutOfMemory>
         ensures left { IfOk result (λ bytes. bytes.items ≡ left_by pick self.now.history) }
         ensures image { IfOk result (λ bytes. IsImage self.now.history.pending bytes.items) }
@@ -102,7 +102,7 @@ impl Contents {
         Ok(marked)
     }
 
-    /// What a stream has got.
+    /// Returns what a stream has got.
     pub fn sent(&self, to: Stream) -> &[u8]
         ensures { result.now ≡ stream_of to self.now.history }
     {
@@ -112,7 +112,7 @@ impl Contents {
         }
     }
 
-    /// The record of all calls, in order. The history is their replay over the bytes that the disk had first.
+    /// Returns the record of all calls, in order. The history is their replay over the bytes that the disk had first.
     pub fn calls(&self) -> &[Call]
         ensures record { result.now ≡ self.now.calls }
         ensures replay { self.now.history ≡ replay (start self.now.first) result.now }
@@ -142,7 +142,7 @@ impl Contents {
         Ok(())
     }
 
-    /// Writes bytes at an offset, behind zero bytes if it is past the end. If not `ok` it only records the write.
+    /// Writes bytes at an offset, after zero bytes if it is past the end. If not `ok` it only records the write.
     pub fn write(&mut self, at: u64, bytes: &[u8], ok: bool) -> Result<(), OutOfMemory>
         ensures ok { OnOk result (self.new ≡ recorded (Write at bytes.now ok) self.old) }
         ensures err { OnErr result (self.new ≡ self.old) }
@@ -227,7 +227,7 @@ fn are_bytes(bytes: &[u8])
     ensures { AreBytes bytes.now }
 {}
 
-// Writes bytes at an offset, behind zero bytes if it is past the end, and records the call.
+// Writes bytes at an offset, after zero bytes if it is past the end, and records the call.
 fn overwrite(
     disk: &mut Vec<u8>,
     calls: &mut Vec<Call>,
@@ -278,7 +278,7 @@ fn send(
     }
 }
 
-// Makes room for so many bytes at an offset, with zero bytes at the end.
+// Extends the bytes with zeros, so that `count` bytes fit at an offset.
 pub(crate) fn fill_up(content: &mut Vec<u8>, start: usize, count: usize) -> Result<(), OutOfMemory>
     ensures ok { OnOk result (content.new.items ≡ filled (start + count) content.old.items) }
     ensures err { OnErr result (content.new.items ≡ content.old.items) }

@@ -6,8 +6,7 @@ ghost use Rattle.disk_mem.specs.Counted.{counted};
 
 use crate::Fails;
 
-/// Which calls of a kind fail, how many there were, and how many of them failed. Counts are at most 2^64 - 1, where they
-/// stay.
+/// Which calls of a kind fail, how many there were, and how many of them failed. Counts stop at 2^64 - 1.
 #[derive(Drop)]
 pub(crate) struct Counter {
     pub fails: Fails,
@@ -16,7 +15,7 @@ pub(crate) struct Counter {
 }
 
 impl Counter {
-    /// Before the first call.
+    /// Makes a counter before the first call.
     pub fn new(fails: Fails) -> Counter
         ensures { result ≡ record { fails = fails; calls = 0; faults = 0 } }
     {

@@ -10,7 +10,7 @@ use crate::contents::{fill_up, write_within};
 use dp_base::OutOfMemory;
 use std::alloc::Global;
 
-/// The disk without what is pending, at the least length, behind these calls on a disk that had these bytes first.
+/// The disk without what is pending, at the least length, after these calls on a disk that had these bytes first.
 pub(crate) fn kept_bytes(
     alloc: Global,
     first: &[u8],
@@ -27,7 +27,7 @@ pub(crate) fn kept_bytes(
     Ok(kept)
 }
 
-/// The same with each pending byte 1, at the greatest length.
+/// The disk with each pending byte 1, at the greatest length.
 pub(crate) fn bytes_with_ones(
     alloc: Global,
     first: &[u8],
@@ -65,7 +65,7 @@ fn make_call(disk: &mut Vec<u8>, call: &Call) -> Result<(), OutOfMemory>
     }
 }
 
-// Writes bytes at an offset, behind zero bytes if it is past the end.
+// Writes bytes at an offset, after zero bytes if it is past the end.
 fn write_filled(disk: &mut Vec<u8>, at: u64, bytes: &[u8]) -> Result<(), OutOfMemory>
     ensures { OnOk result (disk.new.items ≡ overwritten at bytes.now (filled at disk.old.items)) }
 {
@@ -75,7 +75,7 @@ fn write_filled(disk: &mut Vec<u8>, at: u64, bytes: &[u8]) -> Result<(), OutOfMe
     Ok(())
 }
 
-// What a call does to the disk without what is pending, where this is what was read before.
+// What a call does to the disk without what is pending, if this is what was read before.
 fn keep_synced(kept: &mut Vec<u8>, disk: &[u8], call: &Call) -> Result<(), OutOfMemory>
     ensures { OnOk result ((h : History) → disk.now ≡ h.disk → kept.old.items ≡ without_pending h.pending
         → kept.new.items ≡ without_pending (after_call call.now h).pending) }
@@ -131,7 +131,7 @@ fn take_synced(content: &mut Vec<u8>, disk: &[u8], ok: bool) -> Result<(), OutOf
     Ok(())
 }
 
-// Puts ones over so many bytes from an offset on, and over a gap before it.
+// Puts ones over `count` bytes from an offset on, and over a gap before it.
 fn put_ones(alloc: Global, content: &mut Vec<u8>, at: u64, count: usize) -> Result<(), OutOfMemory>
     ensures { OnOk result (content.new.items
         ≡ overwritten at (replicate count 1) (content.old.items ++ replicate ((at + count) - length content.old.items) 1)) }

@@ -22,7 +22,7 @@ impl HoldGate {
         }
     }
 
-    /// Returns whether job 1 was let through although job 2 hadn't passed.
+    /// Returns whether job 1 passed although job 2 hadn't.
     pub fn ran_out(&self) -> bool {
         self.ran_out.load(Ordering::SeqCst)
     }

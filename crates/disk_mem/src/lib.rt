@@ -1,12 +1,12 @@
-//! The outside of a recorder and of a replayer in memory: `MemWorld` is a disk and two output streams, `MemFiles` are files by name,
-//! `MemInlet` is an input in pieces, and a clock. A `HoldGate` shows whether two jobs run at once.
+//! The outside of a recorder and of a replayer in memory: `MemWorld` is a disk and two output streams, `MemFiles` are
+//! files by name, `MemInlet` is an input in pieces, and a clock. A `HoldGate` shows whether two jobs run at once.
 //!
-//! Promises: a call on a `MemWorld` fails only by its number, as the `Fails` of its kind says, or with `allocation_failed`
-//! true from then on. A fetch fails only by its number or at a name that no file has, or it answers `OutOfMemory`. A
-//! take from a `MemInlet` fails only by its number. What stands after each call is known exactly, also after one that fails.
-//! A `MemWorld` keeps a record of all its calls, and its history is the replay of that record. Its `crash` gives one of the
-//! images that a crash may leave now. Stands on `disk_model` for the
-//! traits that these meet, and on `dp_base`.
+//! Promises: a call on a `MemWorld` fails only by its number, as the `Fails` of its kind says, or with
+//! `allocation_failed` true from then on. A fetch fails only by its number or at a name that no file has, or it answers
+//! `OutOfMemory`. A take from a `MemInlet` fails only by its number. What each call leaves is known exactly, also if it
+//! fails. A `MemWorld` keeps a record of all its calls, and its history is the replay of that record. Its `crash` gives
+//! one of the images that a crash may leave now. Builds on `disk_model` for the traits that these implement, and on
+//! `dp_base`.
 //!
 //! ```text
 //! let disk = Fails::At(CallNumbers::from_vec(numbers));      // the numbers are 3

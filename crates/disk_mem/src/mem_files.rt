@@ -16,8 +16,8 @@ use std::marker::Model;
 
 /// Files by name, all in memory.
 ///
-/// Fetches are counted from 1. Those fail whose numbers its `Fails` says, and those of a name that no file has. Where several
-/// files have one name, the first is fetched.
+/// Fetches are counted from 1. Those fail whose numbers its `Fails` says, and those of a name that no file has. If
+/// several files have one name, the first is fetched.
 #[derive(Drop)]
 pub struct MemFiles {
     files: Vec<NamedFile>,
@@ -33,7 +33,7 @@ impl Model for MemFiles {
 }
 
 impl MemFiles {
-    /// These files, some of whose fetches fail.
+    /// Makes files in memory of these, some of whose fetches fail.
     pub fn new(files: Vec<NamedFile>, fails: Fails) -> MemFiles
         ensures { result ≡ of_files files.items fails }
     {
@@ -43,14 +43,15 @@ impl MemFiles {
         }
     }
 
-    /// How many fetches there were: at most 2^64 - 1, where it stays.
+    /// Returns how many fetches there were. The count stops at 2^64 - 1.
     pub fn fetches(&self) -> u64
         ensures { result ≡ self.now.fetches }
     {
         self.counter.calls
     }
 
-    /// How many fetches failed: at most 2^64 - 1, where it stays. One for which an allocation fails is not among them.
+    /// Returns how many fetches failed. The count stops at 2^64 - 1, and leaves out fetches for which an allocation
+    /// failed.
     pub fn file_fault_count(&self) -> u64
         ensures { result ≡ self.now.faults }
     {
@@ -104,7 +105,7 @@ fn find_named<'a>(files: &'a [NamedFile], name: &str) -> Option<&'a NamedFile>
     files.iter().find(|file| file.name.as_str() == name)
 }
 
-// The first bytes, at most so many.
+// The first bytes, at most `most` of them.
 fn cut_to(bytes: &[u8], most: usize) -> &[u8]
     ensures bytes { result.now ≡ take most bytes.now }
     ensures few { length result.now ≤ most }

@@ -15,7 +15,7 @@ use std::marker::Model;
 /// An input, all in memory, and a clock.
 ///
 /// Takes are counted from 1, and those fail whose numbers its `Fails` says. An empty piece is the end of the input, for
-/// good. Past its list of readings the clock gives the last one again, and 0 where the list is empty.
+/// good. Past its list of readings the clock gives the last one again, and 0 if the list is empty.
 #[derive(Drop)]
 pub struct MemInlet {
     pieces: Pieces,
@@ -35,7 +35,7 @@ impl Model for MemInlet {
 }
 
 impl MemInlet {
-    /// An input of these pieces, some of whose takes fail, and a clock with these readings.
+    /// Makes an input of these pieces, some of whose takes fail, and a clock with these readings.
     #[tactic(auto, unfolding(crate::specs::MemoryInput::first_readings))]
     pub fn new(pieces: Vec<Vec<u8>>, clocks: Vec<u64>, fails: Fails) -> MemInlet
         ensures { result ≡ of_pieces (map (λ v. v.items) pieces.items) clocks.items fails }
@@ -49,14 +49,14 @@ impl MemInlet {
         }
     }
 
-    /// How many takes there were: at most 2^64 - 1, where it stays.
+    /// Returns how many takes there were. The count stops at 2^64 - 1.
     pub fn takes(&self) -> u64
         ensures { result ≡ self.now.takes }
     {
         self.counter.calls
     }
 
-    /// How many takes failed: at most 2^64 - 1, where it stays.
+    /// Returns how many takes failed. The count stops at 2^64 - 1.
     pub fn input_fault_count(&self) -> u64
         ensures { result ≡ self.now.faults }
     {
@@ -64,7 +64,7 @@ impl MemInlet {
     }
 }
 
-// Beside the trait's clauses: which takes fail, what the clock reads, and what stands after each call.
+// Beside the trait's clauses: which takes fail, what the clock reads, and what each call leaves.
 impl Inlet for MemInlet {
     ghost input = { λ m. Some m.input };
 

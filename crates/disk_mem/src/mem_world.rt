@@ -18,12 +18,14 @@ use dp_base::OutOfMemory;
 use std::alloc::Global;
 use std::marker::Model;
 
-/// A world whose disk and streams are in memory. The disk is there from the start, empty, whatever name it is attached by.
+/// A world whose disk and streams are in memory. The disk is there from the start, empty, whatever name it is attached
+/// by.
 ///
-/// Calls on the disk are counted together, from 1, and emits by themselves. Those fail whose numbers its two `Fails` say,
-/// and those for which an allocation fails: the call is recorded, so each call needs memory. A call that fails by its number
-/// does none of its work, though what it meant to write or cut is pending. One for which an allocation fails changes nothing.
-/// A write past the end fills the gap with zero bytes. An emit takes as many bytes as the piece has, at most `piece`.
+/// Calls on the disk are counted together, from 1, and emits by themselves. Those fail whose numbers its two `Fails`
+/// say, and those for which an allocation fails: the call is recorded, so each call needs memory. A call that fails by
+/// its number does none of its work, though what it meant to write or cut is pending. One for which an allocation fails
+/// changes nothing. A write past the end fills the gap with zero bytes. An emit takes as many bytes as the piece has,
+/// at most `piece`.
 #[derive(Drop)]
 pub struct MemWorld {
     disk: Counter,
@@ -45,7 +47,7 @@ impl Model for MemWorld {
 }
 
 impl MemWorld {
-    /// An empty disk, some of whose calls fail.
+    /// Makes an empty disk, some of whose calls fail.
     pub fn new(alloc: Global, disk: Fails, sink: Fails, piece: u32) -> Result<MemWorld, OutOfMemory>
         requires { 0 < piece }
         ensures { IfOk result (λ world. world ≡ fresh disk sink piece) }
@@ -59,7 +61,7 @@ impl MemWorld {
         })
     }
 
-    /// The same world with these bytes on its disk, nothing pending, an empty record, and nothing sent.
+    /// Returns this world with these bytes on its disk, nothing pending, an empty record, and nothing sent.
     pub fn of_disk(self, alloc: Global, bytes: &[u8]) -> Result<MemWorld, OutOfMemory>
         ensures { IfOk result (λ world. world ≡ restarted bytes.now self) }
     {
@@ -73,7 +75,7 @@ impl MemWorld {
         })
     }
 
-    /// What a read of the whole disk gives. It is one of the images that a crash may leave now.
+    /// Returns what a read of the whole disk gives. It is one of the images that a crash may leave now.
     pub fn bytes(&self) -> &[u8]
         ensures whole { result.now ≡ self.now.history.disk }
         ensures image { IsImage self.now.history.pending result.now }
@@ -81,10 +83,12 @@ impl MemWorld {
         self.contents.disk()
     }
 
-    /// One of the images that a crash may leave now: 0 picks the disk without what is pending, at its least length; 1 what a
-    /// read gives, as `bytes`; any other number the disk with each pending byte 1, at its greatest length.
+    /// Returns one of the images that a crash may leave now: 0 picks the disk without what is pending, at its least
+    /// length; 1 what a read gives, as `bytes`; any other number the disk with each pending byte 1, at its greatest
+    /// length.
     ///
-    /// The greatest length may be more than any memory holds: a write far past the end that failed by its number is pending.
+    /// The greatest length may be more than any memory holds: a write far past the end that failed by its number is
+    /// pending.
     pub fn crash(&self, alloc: Global, pick: u32) -> Result<Vec<u8>, OutOfMemory>
         ensures left { IfOk result (λ bytes. bytes.items ≡ left_by pick self.now.history) }
         ensures image { IfOk result (λ bytes. IsImage self.now.history.pending bytes.items) }
@@ -92,14 +96,14 @@ impl MemWorld {
         self.contents.crash(alloc, pick)
     }
 
-    /// What a stream has got.
+    /// Returns what a stream has got.
     pub fn sent(&self, to: Stream) -> &[u8]
         ensures { result.now ≡ stream_of to self.now.history }
     {
         self.contents.sent(to)
     }
 
-    /// The record of all calls, in order. The history is their replay over the bytes that the disk had first.
+    /// Returns the record of all calls, in order. The history is their replay over the bytes that the disk had first.
     pub fn calls(&self) -> &[Call]
         ensures record { result.now ≡ self.now.calls }
         ensures replay { self.now.history ≡ replay (start self.now.first) result.now }
@@ -107,28 +111,28 @@ impl MemWorld {
         self.contents.calls()
     }
 
-    /// How many calls on the disk there were: at most 2^64 - 1, where it stays.
+    /// Returns how many calls on the disk there were. The count stops at 2^64 - 1.
     pub fn disk_calls(&self) -> u64
         ensures { result ≡ self.now.disk_calls }
     {
         self.disk.calls
     }
 
-    /// How many emits there were: at most 2^64 - 1, where it stays.
+    /// Returns how many emits there were. The count stops at 2^64 - 1.
     pub fn emits(&self) -> u64
         ensures { result ≡ self.now.emits }
     {
         self.sink.calls
     }
 
-    /// How many calls on the disk failed: at most 2^64 - 1, where it stays.
+    /// Returns how many calls on the disk failed. The count stops at 2^64 - 1.
     pub fn disk_fault_count(&self) -> u64
         ensures { result ≡ self.now.disk_faults }
     {
         self.disk.faults
     }
 
-    /// How many emits failed: at most 2^64 - 1, where it stays.
+    /// Returns how many emits failed. The count stops at 2^64 - 1.
     pub fn sink_fault_count(&self) -> u64
         ensures { result ≡ self.now.sink_faults }
     {
@@ -143,7 +147,7 @@ impl MemWorld {
     }
 }
 
-// Beside the trait's clauses: which calls fail, and what stands after each.
+// Beside the trait's clauses: which calls fail, and what each leaves.
 impl World for MemWorld {
     ghost history = { λ m. Some m.history };
 

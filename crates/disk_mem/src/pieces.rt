@@ -5,11 +5,12 @@ ghost use Rattle.disk_mem.specs.MemoryInput.{pieces_at, gave};
 
 use std::marker::Model;
 
-/// Pieces, which are given from the first byte of the first one on. Clauses see the bytes that were given, and what is left.
+/// Pieces, which are given from the first byte of the first one on. Clauses see the bytes that were given, and what is
+/// left.
 #[derive(Drop)]
 pub(crate) struct Pieces {
     pieces: Vec<Vec<u8>>,
-    // how many pieces were given, and how many bytes of the one behind them
+    // how many pieces were given, and how many bytes of the next one
     at: usize,
     from: usize,
 }
@@ -24,7 +25,7 @@ impl Model for Pieces {
 }
 
 impl Pieces {
-    /// None of them was given.
+    /// Makes pieces of which none was given.
     pub fn new(pieces: Vec<Vec<u8>>) -> Pieces
         ensures given { result.given ≡ [] }
         ensures left { result.left ≡ map (λ v. v.items) pieces.items }
@@ -46,7 +47,8 @@ impl Pieces {
         piece_at(&self.pieces, self.at).len() <= self.from
     }
 
-    /// Gives the next piece, or as much of it as the buffer holds, into the start of the buffer. Returns how many bytes.
+    /// Gives the next piece, or as much of it as the buffer holds, into the start of the buffer. Returns how many
+    /// bytes.
     pub fn give(&mut self, buf: &mut [u8]) -> usize
         ensures count { result ≡ length (taken (length buf.old) self.old.left) }
         ensures bytes { buf.new ≡ taken (length buf.old) self.old.left ++ drop result buf.old }

@@ -6,7 +6,7 @@ use std::alloc::Global;
 use std::test::Fail;
 use test_worlds::{Failing, disk_of};
 
-// The image of a pick behind three steps on a disk with these bytes, where the call with this number fails.
+// The image of a pick after three steps on a disk with these bytes, where the call with this number fails.
 fn image(
     alloc: Global,
     first: &[u8],

@@ -149,7 +149,8 @@ fn takes_of(
     Ok((taken, inlet.takes(), inlet.input_fault_count()))
 }
 
-// The pieces, how many bytes each take asks for, which takes fail, how many bytes each gives, all bytes, and the faults.
+// The pieces, how many bytes each take asks for, which takes fail, how many bytes each gives, all bytes, and the
+// faults.
 const TAKES: [([&[u8]; 3], [usize; 5], Failing, [u8; 5], &[u8], u64); 4] = [
     // A piece that is longer than the buffer, and a buffer with no room.
     (

@@ -1,9 +1,9 @@
-//! The forms of the outside in memory, as a crate above calls them: files by name, an input in pieces and a clock, a disk and two
-//! streams, the record of their calls, and what a crash leaves.
+//! The forms of the outside in memory, as a crate above calls them: files by name, an input in pieces and a clock, a
+//! disk and two streams, the record of their calls, and what a crash leaves.
 //!
-//! This crate is its tests: tables of what each call on a form of `disk_mem` answers and what stands behind it, where calls fail by
-//! their number, and where no memory is enough; and worked examples of `disk_mem`'s definitions. The values come from the model of a
-//! disk, by hand.
+//! This crate is its tests: tables of what each call on a form of `disk_mem` answers and what follows it, where calls
+//! fail by their number, and if no memory is enough; and worked examples of `disk_mem`'s definitions. The values come
+//! from the model of a disk, by hand.
 #![tactic(auto)]
 
 #[cfg(test)]

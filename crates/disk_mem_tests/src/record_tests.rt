@@ -6,7 +6,7 @@ use std::alloc::Global;
 use std::test::Fail;
 use test_worlds::{Failing, letters_of, world_of};
 
-// What five calls on the disk answer, in order, the third of which may fail, and an emit behind the first three.
+// What five calls on the disk answer, in order, the third of which may fail, and an emit after the first three.
 fn six_calls(world: &mut MemWorld) -> ([Result<(), Failed>; 5], Result<usize, Failed>) {
     let attached = world.attach("journal", true);
     let written = world.write_at(1, b"xy");
@@ -77,8 +77,9 @@ fn records_each_call(rt: HostRuntime) -> Result<(), Fail> {
     Ok(())
 }
 
-// Behind the six calls, of the same world with these bytes on its disk: whether it has these and nothing was sent on Note, how many
-// calls are recorded, the counts of calls and faults of the disk, and of emits, and what an emit takes then.
+// After the six calls, of the same world with these bytes on its disk: whether it has these and nothing was sent on
+// Note, how many calls are recorded, the counts of calls and faults of the disk, and of emits, and what an emit takes
+// then.
 fn restarted_with(
     alloc: Global,
     bytes: &[u8],

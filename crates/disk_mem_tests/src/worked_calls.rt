@@ -80,7 +80,7 @@ fn clocks()
     ensures noted { noted 7 (5 ∷ []) ≡ 5 ∷ 7 ∷ [] }
 {}
 
-// What a crash leaves of a disk of five bytes behind a write over two of them and one past the end, and behind a cut.
+// What a crash leaves of a disk of five bytes after a write over two of them and one past the end, and after a cut.
 #[tactic(auto, unfolding(disk_mem::specs::Crashing::with_ones))]
 fn crashes()
     ensures kept { left_by 0 (after_call (Write 5 (8 ∷ 8 ∷ []) true) (after_call (Write 1 (9 ∷ 9 ∷ []) true) (start (1 ∷ 2 ∷ 3 ∷ 4 ∷ 5 ∷ [])))) ≡ 1 ∷ 2 ∷ 3 ∷ 4 ∷ 5 ∷ [] }

@@ -13,7 +13,7 @@ fn images_of_a_disk_at_rest()
     ensures longer { IsImage (nothing_pending (1 ∷ 2 ∷ [])) (1 ∷ 2 ∷ 0 ∷ []) → ⊥ }
 {}
 
-// A write of one byte is pending: over the second of two, and behind both.
+// A write of one byte is pending: over the second of two, and after both.
 fn images_of_a_pending_write()
     ensures any_byte { IsImage (write_pending 1 1 (nothing_pending (1 ∷ 2 ∷ []))) (1 ∷ 9 ∷ []) }
     ensures another_place { IsImage (write_pending 1 1 (nothing_pending (1 ∷ 2 ∷ []))) (9 ∷ 2 ∷ []) → ⊥ }

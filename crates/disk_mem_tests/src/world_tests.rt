@@ -43,8 +43,8 @@ fn fail_as(world: &mut MemWorld, letters: &[u8]) -> bool {
     first && second && third && fourth && fifth && sixth && seventh
 }
 
-// Whether seven calls failed and are recorded as these letters say, and left these bytes; the counts of calls and faults of the
-// disk, and of emits and their faults; and whether an allocation failed.
+// Whether seven calls failed and are recorded as these letters say, and left these bytes; the counts of calls and
+// faults of the disk, and of emits and their faults; and whether an allocation failed.
 fn seven_calls_as(
     alloc: Global,
     disk: Failing,
@@ -92,7 +92,8 @@ fn disk_calls_fail_by_number(rt: HostRuntime) -> Result<(), Fail> {
     Ok(())
 }
 
-// Whether an emit takes as much as this says. It has no clause, so that its caller carries nothing of the world's contract.
+// Whether an emit takes as much as this says. It has no clause, so that its caller carries nothing of the world's
+// contract.
 fn takes(world: &mut MemWorld, to: Stream, piece: &[u8], wanted: Result<usize, Failed>) -> bool {
     world.emit(to, piece) == wanted
 }
@@ -107,8 +108,8 @@ fn take_as(world: &mut MemWorld, taken: [Result<usize, Failed>; 4]) -> bool {
     is_first && is_second && is_third && is_fourth
 }
 
-// Whether four emits take as much as these say, and the streams got these bytes; the counts of emits and their faults, and of calls on
-// the disk; and whether an allocation failed.
+// Whether four emits take as much as these say, and the streams got these bytes; the counts of emits and their faults,
+// and of calls on the disk; and whether an allocation failed.
 fn four_emits_as(
     alloc: Global,
     sink: Failing,
@@ -186,7 +187,7 @@ fn emits_in_pieces(rt: HostRuntime) -> Result<(), Fail> {
     Ok(())
 }
 
-// What a write on a disk of five bytes answers, whether it leaves these, and the length behind it.
+// What a write on a disk of five bytes answers, whether it leaves these, and the length after it.
 fn written_as(
     alloc: Global,
     at: u64,
@@ -199,7 +200,7 @@ fn written_as(
     Ok((answer, is_after, world.len()))
 }
 
-// An offset, bytes that are written there, and what the disk has behind that.
+// An offset, bytes that are written there, and what the disk has after that.
 const WRITES: [(u64, &[u8], &[u8]); 7] = [
     (0, b"xy", b"xycde"),
     (1, b"xy", b"axyde"),
@@ -219,7 +220,7 @@ fn writes(rt: HostRuntime) -> Result<(), Fail> {
     Ok(())
 }
 
-// How many bytes a read of that disk gives into a buffer of four, and whether the buffer has these bytes behind it.
+// How many bytes a read of that disk gives into a buffer of four, and whether the buffer has these bytes after it.
 fn read_as(
     alloc: Global,
     at: u64,
@@ -231,7 +232,7 @@ fn read_as(
     Ok((answer, buf.as_slice() == after))
 }
 
-// An offset, how many bytes are read there, and the buffer behind that.
+// An offset, how many bytes are read there, and the buffer after that.
 const READS: [(u64, usize, &[u8]); 4] = [
     (0, 4, b"abcd"),
     (3, 2, b"de.."),
@@ -279,8 +280,9 @@ fn cuts(rt: HostRuntime) -> Result<(), Fail> {
     Ok(())
 }
 
-// What a write far past the end and one within answer on a disk of three bytes; whether the disk is these bytes behind each,
-// and whether an allocation failed by then; how many faults there are behind the first, and how many calls are recorded.
+// What a write far past the end and one within answer on a disk of three bytes; whether the disk is these bytes after
+// each, and whether an allocation failed by then; how many faults there are after the first, and how many calls are
+// recorded.
 fn past_all_memory(
     alloc: Global,
     at: u64,
@@ -312,7 +314,8 @@ fn fails_past_all_memory(rt: HostRuntime) -> Result<(), Fail> {
     Ok(())
 }
 
-// What two appends to a disk of two bytes answer, where calls fail from this one on, and whether they leave these bytes.
+// What two appends to a disk of two bytes answer, where calls fail from this one on, and whether they leave these
+// bytes.
 fn appended_as(
     alloc: Global,
     from: u64,

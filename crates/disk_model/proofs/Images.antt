@@ -6,7 +6,7 @@ use Rattle.disk_model.specs.Known.{overwritten}
 
 -- ---- one write is pending
 
--- what stands before its range stays
+-- what is before its range stays
 pub image-before : (at count : ℕ) (disk image : List ℕ) → IsImage (write_pending at count (nothing_pending disk)) image → at ≤ length disk → take at image ≡ take at disk
 image-before at count disk image is within =
     ext_get_or 0 (take at image) (take at disk)
@@ -22,7 +22,7 @@ image-past-end count disk image is =
     ∙ ap (λ (l : List ℕ). l ++ drop (length disk) image)
     (image-before (length disk) count disk image is (omega arith) ∙ take_all (length disk) disk (omega arith))
 
--- what stands behind its range stays, and nothing more does
+-- what follows its range stays, and nothing more does
 pub image-behind : (at count : ℕ) (disk image : List ℕ) → IsImage (write_pending at count (nothing_pending disk)) image → at + count ≤ length disk → drop (at + count) image ≡ drop (at + count) disk
 image-behind at count disk image is within =
     let same : length image ≡ length disk = omega (arith, is.no_shorter, is.no_longer, within) in

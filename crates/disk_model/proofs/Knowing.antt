@@ -11,7 +11,7 @@ pub known-map : {A : Type 0} (R S : Step A) (a b : Option A) → ((s t : A) → 
 known-map R S None b f h = tt
 known-map R S (Some s) b f h = (h.0, h.1, f s h.0 h.2)
 
--- one step behind another
+-- one step after another
 pub known-then : {A : Type 0} (R S T : Step A) (a b c : Option A) → ((s t u : A) → R s t → S t u → T s u) → IfKnown R a b → IfKnown S b c → IfKnown T a c
 known-then R S T None b c f h k = tt
 known-then {A} R S T (Some s) b c f h k =

@@ -25,7 +25,7 @@ always-start P s here = record { moments = []; past = sym (append-nil s.past); e
 pub always-one : (P : Claim) (s t : History) (m : Moment) → t.past ≡ s.past ++ m ∷ [] → Then P m → Then P (now t) → Always P s t
 always-one P s t m grown during here = record { moments = m ∷ []; past = grown; each = (during, tt); last = here }
 
--- one call behind another
+-- one call after another
 pub always-then : (P : Claim) (s t u : History) → Always P s t → Always P t u → Always P s u
 always-then P s t u a b = record {
   moments = a.moments ++ b.moments;

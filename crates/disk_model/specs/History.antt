@@ -23,8 +23,8 @@ abbrev pub IsOutside : List Range → ℕ → Type 0
 IsOutside [] i = ⊤
 IsOutside (r ∷ rest) i = ((i < r.at) ⊎ (r.at + r.count ≤ i)) × IsOutside rest i
 
--- What a crash may leave: each written range, and all past the old end or past a cut, may hold any bytes, and the length
--- may be any from the least to the greatest. Other bytes stay.
+-- What a crash may leave: each written range, and all past the old end or past a cut, may hold any bytes, and the
+-- length may be any from the least to the greatest. Other bytes stay.
 pub record IsImage (p : Pending) (image : List ℕ) : Type 0 where
   pub no_shorter : p.least ≤ length image
   pub no_longer : length image ≤ p.greatest
@@ -35,7 +35,7 @@ pub record IsImage (p : Pending) (image : List ℕ) : Type 0 where
 abbrev pub nothing_pending : List ℕ → Pending
 nothing_pending disk = record { synced = disk; ranges = []; least = length disk; greatest = length disk }
 
--- a write of so many bytes at an offset is pending too
+-- a write of this many bytes at an offset is pending too
 abbrev pub write_pending : (at count : ℕ) → Pending → Pending
 write_pending at count p = record p {
   ranges = record { at = at; count = count } ∷ p.ranges;
@@ -44,13 +44,14 @@ write_pending at count p = record p {
 
 -- ---- moments
 
--- a moment within a call or behind it: what is pending on the disk, what Out had got, and the piece that it was being sent
+-- a moment within a call or after it: what is pending on the disk, what Out had got, and the piece that it was being
+-- sent
 pub record Moment : Type 0 where
   pub pending : Pending
   pub sent : List ℕ
   pub piece : List ℕ
 
--- a crash at that moment may leave this on the disk, with so much sent: any prefix of the piece was
+-- a crash at that moment may leave this on the disk, with this sent: any prefix of the piece was
 pub record MayLeave (m : Moment) (image sent : List ℕ) : Type 0 where
   pub on_disk : IsImage m.pending image
   pub taken : ℕ
@@ -68,7 +69,7 @@ pub record History : Type 0 where
   -- the moments of each call so far
   pub past : List Moment
 
--- the moment behind the last call
+-- the moment after the last call
 abbrev pub now : History → Moment
 now h = record { pending = h.pending; sent = h.sent; piece = [] }
 

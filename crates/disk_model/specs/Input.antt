@@ -1,5 +1,5 @@
--- What may be known of an input: the bytes that it has given, the pieces that it has left, whether its end was seen, and the
--- readings of its clock. This project's own.
+-- What may be known of an input: the bytes that it has given, the pieces that it has left, whether its end was seen,
+-- and the readings of its clock. This project's own.
 use Rattle.std.specs.Prelude.{◌≡◌, ◌⊎◌, ℕ, Bool, true, false, ◌||◌, ◌&&◌, nat_lt, ◌-◌, ◌^◌, List, [], ◌∷◌, ◌++◌, length, take, drop, Option}
 
 pub record Input : Type 0 where
@@ -25,7 +25,7 @@ abbrev pub taken : ℕ → List (List ℕ) → List ℕ
 taken room [] = []
 taken room (piece ∷ rest) = take room piece
 
--- what is left of a piece, and those behind it: a piece of which nothing is left is gone
+-- what is left of a piece, and those after it: a piece of which nothing is left is dropped
 abbrev pub behind : List ℕ → List (List ℕ) → List (List ℕ)
 behind [] rest = rest
 behind (b ∷ more) rest = (b ∷ more) ∷ rest
@@ -36,7 +36,7 @@ left_after room [] = []
 left_after room ([] ∷ rest) = [] ∷ rest
 left_after room ((b ∷ more) ∷ rest) = behind (drop room (b ∷ more)) rest
 
--- behind a take; a buffer with no room sees no end
+-- after a take; an empty buffer sees no end
 abbrev pub took : ℕ → Input → Input
 took room i = record i {
   given = i.given ++ taken room i.left;
@@ -58,7 +58,7 @@ Gave bytes i there = there.given ≡ i.given ++ bytes
 abbrev pub IsLast : ℕ → List ℕ → Type 0
 IsLast reading readings = (front : List ℕ) × (readings ≡ front ++ reading ∷ [])
 
--- The readings with one more. They are counted in a word: behind 2^64 - 1 of them one that is the last again isn't noted.
+-- The readings with one more. They are counted in a word: after 2^64 - 1 of them one that equals the last isn't noted.
 abbrev pub IsNoted : ℕ → (before after : List ℕ) → Type 0
 IsNoted reading before after =
     (after ≡ before ++ reading ∷ []) ⊎ ((after ≡ before) × IsLast reading before × (length before ≡ 2 ^ 64 - 1))

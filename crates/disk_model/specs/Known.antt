@@ -1,4 +1,4 @@
--- What may be known or not, as a history. Where it isn't known these say nothing. This project's own.
+-- What may be known or not, as a history. If it isn't known these say nothing. This project's own.
 use Rattle.std.specs.Prelude.{◌≡◌, ◌≤◌, ℕ, ◌+◌, List, ◌++◌, length, take, drop, Option, Some, None, ⊤}
 use Rattle.disk_model.specs.History.{History}
 
@@ -7,7 +7,7 @@ abbrev pub known_disk : Option History → Option (List ℕ)
 known_disk None = None
 known_disk (Some h) = Some h.disk
 
--- Where what was before is known, what is after is known too, and this step leads from one to the other.
+-- If what was before is known, what is after is known too, and this step leads from one to the other.
 abbrev pub IfKnown : {A : Type 0} → (A → A → Type 0) → Option A → Option A → Type 0
 IfKnown step None after = ⊤
 IfKnown {A} step (Some before) after = (there : A) × (after ≡ Some there) × step before there

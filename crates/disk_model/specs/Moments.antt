@@ -7,7 +7,7 @@ use Rattle.disk_model.specs.History.{History, MayLeave, Moment, now}
 abbrev pub Then : (List ℕ → List ℕ → Type 0) → Moment → Type 0
 Then P m = (image sent : List ℕ) → MayLeave m image sent → P image sent
 
--- At every moment from one history to a later one, within each call, between the calls and behind the last, all that a
+-- At every moment from one history to a later one, within each call, between the calls and after the last, all that a
 -- crash may leave has P.
 pub record Always (P : List ℕ → List ℕ → Type 0) (before after : History) : Type 0 where
   -- those within the calls

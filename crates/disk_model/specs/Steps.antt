@@ -8,7 +8,7 @@ use Rattle.disk_model.specs.Known.{overwritten}
 
 -- ---- reads, which extend nothing
 
--- A read from an offset on gave so many bytes into the start of a buffer.
+-- A read from an offset on gave this many bytes into the start of a buffer.
 abbrev pub IsRead : Option (List ℕ) → (at : ℕ) → (old new : List ℕ) → ℕ → Type 0
 IsRead None at old new n = ⊤
 IsRead (Some disk) at old new n = (n ≡ min (length old) (length disk - at)) × (new ≡ take n (drop at disk) ++ drop n old)
@@ -23,7 +23,7 @@ disk_changed disk pending h = record h {
   past = h.past ++ record { pending = pending; sent = h.sent; piece = [] } ∷ [];
 }
 
--- behind a write that gave the disk this content, whole or in part
+-- after a write that gave the disk this content, whole or in part
 abbrev pub after_write : (at count : ℕ) → (disk : List ℕ) → History → History
 after_write at count disk h = disk_changed disk (write_pending at count h.pending) h
 
@@ -36,7 +36,7 @@ Wrote at bytes false h there = (there ≡ h) ⊎ ((disk : List ℕ) × (there �
 abbrev pub cut_pending : ℕ → Pending → Pending
 cut_pending size p = record p { least = min p.least size; greatest = max p.greatest size }
 
--- behind a cut that gave the disk this content, whole or in part
+-- after a cut that gave the disk this content, whole or in part
 abbrev pub truncated : (size : ℕ) → (disk : List ℕ) → History → History
 truncated size disk h = disk_changed disk (cut_pending size h.pending) h
 
@@ -61,7 +61,7 @@ abbrev pub stream_of : Stream → History → List ℕ
 stream_of Out h = h.sent
 stream_of Note h = h.noted
 
--- behind an emit of a piece of which so many bytes were taken; Out alone counts at a moment
+-- after an emit of a piece of which this many bytes were taken; Out alone counts at a moment
 abbrev pub emitted : Stream → List ℕ → ℕ → History → History
 emitted Out piece count h = record h {
   sent = h.sent ++ take count piece;

@@ -6,8 +6,8 @@ ghost use Rattle.disk_model.specs.Directory.{File, IsFetched};
 use dp_base::OutOfMemory;
 use std::alloc::{AllocError, Global};
 
-/// How many bytes of a file a fetch returns at most: one more than a guest's file may have, so that a longer file is seen
-/// to be too long.
+/// How many bytes of a file a fetch returns at most: one more than a guest's file may have, so that a longer file is
+/// seen to be too long.
 pub const MAX_FETCH_BYTES: usize = 1_048_577;
 
 /// Why a file was not fetched.
@@ -45,7 +45,7 @@ pub trait Files {
     /// The files, if they are known.
     ghost directory: { Self → Option (List File) };
 
-    /// How often a fetch has failed: at most 2^64 - 1, where it stays.
+    /// How often a fetch has failed. The count stops at 2^64 - 1.
     ghost file_faults: { Self → ℕ };
 
     /// Returns the file's bytes, at most `MAX_FETCH_BYTES` of them.

@@ -6,16 +6,16 @@ ghost use Rattle.disk_model.specs.Known.{IfKnown};
 
 use crate::Failed;
 
-/// An input, which comes in pieces, and a clock.
+/// An input, which is read in pieces, and a clock.
 pub trait Inlet {
     /// What is known of the input. Of a real one nothing is known.
     ghost input: { Self → Option Input };
 
-    /// How often a take has failed: at most 2^64 - 1, where it stays.
+    /// How often a take has failed. The count stops at 2^64 - 1.
     ghost input_faults: { Self → ℕ };
 
-    /// Takes bytes into the start of the buffer: the next piece, or as much of it as the buffer holds, and its rest is then the
-    /// next piece. Returns how many. 0 in a buffer that isn't empty is the end of the input, for good.
+    /// Takes bytes into the start of the buffer: the next piece, or as much of it as the buffer holds, and its rest is
+    /// then the next piece. Returns how many. 0 in a buffer that isn't empty is the end of the input, for good.
     ///
     /// # Errors
     ///

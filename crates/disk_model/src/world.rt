@@ -9,7 +9,7 @@ ghost use Rattle.disk_model.specs.Steps.{IsRead, Wrote, Truncated, Synced, Emitt
 #[derive(Clone, Copy, Debug, PartialEq, Eq)]
 pub struct Failed;
 
-/// Where an emit goes.
+/// The stream of an emit.
 #[derive(Clone, Copy, Debug, PartialEq, Eq)]
 pub enum Stream {
     /// What the guest writes.
@@ -20,22 +20,22 @@ pub enum Stream {
 
 /// A disk, which is one row of bytes, and two output streams.
 ///
-/// A call that answers `Failed` may have done any part of its work. Its clause `history` says what may stand after it.
+/// A call that answers `Failed` may have done any part of its work. Its clause `history` says what may hold after it.
 pub trait World {
     /// What is known of the disk, of what was sent, and of each moment so far. Of a real world nothing is known.
     ghost history: { Self → Option History };
 
-    /// How often a call on the disk has failed: at most 2^64 - 1, where it stays.
+    /// How often a call on the disk has failed. The count stops at 2^64 - 1.
     ghost disk_faults: { Self → ℕ };
 
-    /// How often an emit has failed: at most 2^64 - 1, where it stays.
+    /// How often an emit has failed. The count stops at 2^64 - 1.
     ghost sink_faults: { Self → ℕ };
 
     /// Names the file that the other calls mean. With `make` it is made if there is none.
     ///
     /// # Errors
     ///
-    /// `Failed` if the file can't be had, also if `make` is false and there is none.
+    /// `Failed` if the file can't be opened, also if `make` is false and there is none.
     fn attach(&mut self, name: &str, make: bool) -> Result<(), Failed>
         ensures history { history self.new ≡ history self.old }
         ensures cause { IsErr result → Rose (disk_faults self.old) (disk_faults self.new) }
@@ -62,8 +62,8 @@ pub trait World {
         ensures count { disk_faults self.old ≤ disk_faults self.new }
         ensures sink { sink_faults self.new ≡ sink_faults self.old };
 
-    /// Writes bytes over those from offset `at` on, and on past the end. What is said of the content holds if `at` is at
-    /// most the disk's length. Until a sync succeeds the write is pending: a crash may leave any bytes in its range.
+    /// Writes bytes over those from offset `at` on, and on past the end. What is said of the content holds if `at` is
+    /// at most the disk's length. Until a sync succeeds the write is pending: a crash may leave any bytes in its range.
     fn write_at(&mut self, at: u64, bytes: &[u8]) -> Result<(), Failed>
         ensures written { OnOk result (IsWritten (known_disk (history self.old)) at bytes.now
             (known_disk (history self.new))) }

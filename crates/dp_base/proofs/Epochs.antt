@@ -64,7 +64,7 @@ clock_end reading = Some (Clock reading.0, reading.1)
 abbrev answer_kind : ℕ × List ℕ → Option (Answer × List ℕ)
 answer_kind kind = cond (eqb kind.0 0) (read_at kind.1) (cond (eqb kind.0 1) (clock_at kind.1) None)
 
--- an answer behind its kind
+-- an answer after its kind
 abbrev TakesAnswer : ℕ → List ℕ → Answer × List ℕ → Type 0
 TakesAnswer kind bytes x = (rest : List ℕ) × (answer x.0 ≡ little_bytes 1 kind ++ rest) × Splits bytes rest x.1 × IsAnswer x.0
 
@@ -194,7 +194,7 @@ counted_answers answers = little_bytes 4 (length answers) ++ flat_map answer ans
 abbrev counted_slices : List Slice → List ℕ → List ℕ
 counted_slices slices behind = little_bytes 4 (length slices) ++ (flat_map slice slices ++ behind)
 
--- so many, behind their number
+-- so many, after their number
 pub counted_taken : {X : Type 0} (item : List ℕ → Option (X × List ℕ)) (encode : X → List ℕ) (Is : X → Type 0) → IsPrefixCode item encode Is → (bytes : List ℕ) (count : ℕ × List ℕ) (x : List X × List ℕ) → AreBytes bytes
     → number_at 4 bytes ≡ Some count → many_at item count.0 count.1 ≡ Some x → Splits bytes (little_bytes 4 (length x.0) ++ flat_map encode x.0) x.1 × (length x.0 ≡ count.0) × (length x.0 < 2 ^ 32) × AllByRecursion Is x.0
 counted_taken item encode Is laws bytes count x fits count-is x-is =

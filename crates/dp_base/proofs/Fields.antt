@@ -152,7 +152,7 @@ code_from item encode Is found taken = record {
 pub number_code : (n : ℕ) → IsPrefixCode (number_at n) (little_bytes n) (λ x. x < 256 ^ n)
 number_code n = code_from (number_at n) (little_bytes n) (λ x. x < 256 ^ n) (number_found n) (number_taken n)
 
--- ---- bytes behind their length
+-- ---- bytes after their length
 
 pub length_prefixed_taken : (n : ℕ) (bytes : List ℕ) (size : ℕ × List ℕ) (text : List ℕ × List ℕ) → AreBytes bytes → number_at n bytes ≡ Some size → bytes_at size.0 size.1 ≡ Some text
     → Splits bytes (little_bytes n (length text.0) ++ text.0) text.1 × (length text.0 ≡ size.0) × (length text.0 < 256 ^ n) × AreBytes text.0

@@ -19,7 +19,7 @@ pub many_none : {X : Type 0} (item : List ℕ → Option (X × List ℕ)) (bytes
 unfolding many_at
 many_none item bytes = refl
 
--- one more, behind those that were taken
+-- one more, after those that were taken
 pub many_more : {X : Type 0} (item : List ℕ → Option (X × List ℕ)) (i : ℕ) (bytes : List ℕ) (taken : List X × List ℕ) (next : X × List ℕ)
     → many_at item i bytes ≡ Some taken → item taken.1 ≡ Some next → many_at item (suc i) bytes ≡ Some (taken.0 ++ next.0 ∷ [], next.1)
 unfolding many_at
@@ -53,12 +53,12 @@ none_further {X} item (suc i) (suc n) bytes taken lt so_far none =
 
 -- ---- as a reader goes on
 
--- so many answers stand at the start, and these bytes are behind them
+-- so many answers are at the start, and these bytes are after them
 pub record AnswersSoFar (i : ℕ) (bytes rest : List ℕ) : Type 0 where
   pub taken : List Answer
   pub are : many_at answer_at i bytes ≡ Some (taken, rest)
 
--- so many slices stand at the start, with these steps together, and these bytes are behind them
+-- so many slices are at the start, with these steps together, and these bytes are after them
 pub record SlicesSoFar (i : ℕ) (bytes : List ℕ) (steps : ℕ) (rest : List ℕ) : Type 0 where
   pub taken : List Slice
   pub are : many_at slice_at i bytes ≡ Some (taken, rest)

@@ -55,7 +55,7 @@ record_found body rest fits =
 pub record_code : IsPrefixCode record_at record_of IsBody
 record_code = code_from record_at record_of IsBody record_found record_taken
 
--- ---- frames, which are records with the gate moved behind them
+-- ---- frames, which are records with the gate moved after them
 
 pub frame_split : (body rest : List ℕ) → frame body ++ rest ≡ length_prefixed body ++ closed_gate ∷ rest
 frame_split body rest = append_assoc (length_prefixed body) (closed_gate ∷ []) rest

@@ -2,8 +2,8 @@
 use Rattle.std.specs.Prelude.{◌≡◌, List, ◌++◌, ℕ, length, Option, Some, None, ◌==◌, if◌then◌else◌}
 use Rattle.dp_base.specs.Field.{AreBytes, ◌>>=◌}
 
--- `encode` is a prefix-free code of the values that `Is` holds of, and `decode` is its decoder: it takes one value from the
--- start of bytes, and gives the bytes behind it
+-- `encode` is a prefix-free code of the values that `Is` holds of, and `decode` is its decoder: it takes one value from
+-- the start of bytes, and gives the bytes after it
 pub record IsPrefixCode {X : Type 0} (decode : List ℕ → Option (X × List ℕ)) (encode : X → List ℕ) (Is : X → Type 0) : Type 0 where
   -- what is encoded is decoded, whatever follows
   pub decoded : (x : X) (rest : List ℕ) → Is x → decode (encode x ++ rest) ≡ Some (x, rest)
@@ -13,7 +13,7 @@ pub record IsPrefixCode {X : Type 0} (decode : List ℕ → Option (X × List �
   -- no encoding is a prefix of another
   pub prefix_free : (x y : X) (more others : List ℕ) → Is x → Is y → encode x ++ more ≡ encode y ++ others → (x ≡ y) × (more ≡ others)
 
--- the value whose encoding uses up all the bytes: none where bytes are left over
+-- the value whose encoding uses up all the bytes: none if bytes are left
 abbrev pub whole : {X : Type 0} → (List ℕ → Option (X × List ℕ)) → List ℕ → Option X
 whole decode bytes = do
   found ← decode bytes

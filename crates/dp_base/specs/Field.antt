@@ -12,10 +12,10 @@ abbrev pub ◌>>=◌ : {A B : Type 0} → Option A → (A → Option B) → Opti
 None >>= f = None
 (Some x) >>= f = f x
 
--- the first n bytes, and those behind them
+-- the first n bytes, and those after them
 abbrev pub bytes_at : ℕ → List ℕ → Option (List ℕ × List ℕ)
 bytes_at n bytes = if nat_lt (length bytes) n then None else Some (take n bytes, drop n bytes)
 
--- the number in the first n bytes, and the bytes behind them
+-- the number in the first n bytes, and the bytes after them
 abbrev pub number_at : ℕ → List ℕ → Option (ℕ × List ℕ)
 number_at n bytes = if nat_lt (length bytes) n then None else Some (little_number n bytes, drop n bytes)

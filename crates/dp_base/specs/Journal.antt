@@ -1,6 +1,6 @@
 -- The bytes of a journal, format DPJ1. This project's own; docs/JOURNAL.md shows them.
--- Each value has an encoding (`header`, `record_of`, `epoch_body`), and beside it stands what a reader accepts
--- at the start of bytes (`header_at`, `record_at`, `epoch_body_at`): the value, and the bytes behind it.
+-- Each value has an encoding (`header`, `record_of`, `epoch_body`), and with it what a reader accepts at the start of
+-- bytes (`header_at`, `record_at`, `epoch_body_at`): the value, and the bytes after it.
 use Rattle.std.specs.Prelude.{◌^◌, ◌<◌, ◌≤◌, ℕ, zero, suc, List, [], ◌∷◌, ◌++◌, length, sum_by, Option, Some, None, ◌==◌, ◌&&◌, nat_lt, nat_le, if◌then◌else◌}
 use Rattle.std.specs.List.{flat_map, AllByRecursion}
 use Rattle.std.specs.Str.{bytes_eq}
@@ -47,7 +47,7 @@ IsGuest guest = (length guest < 2 ^ 32) × AreBytes guest
 
 -- ---- encodings
 
--- a gate: what is behind an open one counts, what is behind a closed one does not
+-- a gate, the commit byte: what follows an open one counts, what follows a closed one does not
 abbrev pub open_gate : ℕ
 open_gate = 1
 
@@ -58,18 +58,18 @@ closed_gate = 0
 abbrev pub magic : List ℕ
 magic = 0x44 ∷ 0x50 ∷ 0x4a ∷ 0x31 ∷ []
 
--- what stands behind the header's gate
+-- what follows the header's gate
 abbrev pub header_body : List ℕ → List ℕ
 header_body guest = magic ++ (little_bytes 4 (length guest) ++ guest)
 
 abbrev pub header : List ℕ → List ℕ
 header guest = open_gate ∷ header_body guest
 
--- a body behind its length
+-- a body after its length
 abbrev pub length_prefixed : List ℕ → List ℕ
 length_prefixed body = little_bytes 4 (length body) ++ body
 
--- what an append writes behind the closed gate: the record, and the next closed gate
+-- what an append writes after the closed gate: the record, and the next closed gate
 abbrev pub frame : List ℕ → List ℕ
 frame body = length_prefixed body ++ closed_gate ∷ []
 
@@ -114,14 +114,14 @@ slice_at bytes = do
   steps ← number_at 4 tid.1
   if nat_lt 0 tid.0 && nat_lt 0 steps.0 then Some (record { tid = record { 0 = tid.0 }; steps = steps.0 }, steps.1) else None
 
--- the bytes of a read, behind its kind
+-- the bytes of a read, after its kind
 unfoldable pub read_at : List ℕ → Option (Answer × List ℕ)
 read_at bytes = do
   size ← number_at 2 bytes
   taken ← bytes_at size.0 size.1
   if nat_le size.0 MAX_CALL_BYTES then Some (Read taken.0, taken.1) else None
 
--- a reading of the clock, behind its kind
+-- a reading of the clock, after its kind
 unfoldable pub clock_at : List ℕ → Option (Answer × List ℕ)
 clock_at bytes = do
   reading ← number_at 8 bytes
@@ -132,7 +132,7 @@ answer_at bytes = do
   kind ← number_at 1 bytes
   if kind.0 == 0 then read_at kind.1 else if kind.0 == 1 then clock_at kind.1 else None
 
--- so many of a kind, one after another
+-- `count` of a kind, one after another
 unfoldable pub many_at : {X : Type 0} → (List ℕ → Option (X × List ℕ)) → ℕ → List ℕ → Option (List X × List ℕ)
 many_at item zero bytes = Some ([], bytes)
 many_at item (suc n) bytes = do

@@ -46,11 +46,11 @@ has_flag flag p = p.flags / flag % 2 == 1
 abbrev pub byte_in : ℕ → ℕ → Page → Option ℕ
 byte_in flag offset p = if has_flag flag p then Some (slice_index p.bytes offset) else None
 
--- the byte at an address, where its page has the flag
+-- the byte at an address, if its page has the flag
 abbrev pub byte_with : ℕ → Memory → ℕ → Option ℕ
 byte_with flag memory address = page_at memory (address / PAGE_BYTES) >>= byte_in flag (address % PAGE_BYTES)
 
--- the bytes from an address on, so many; none where one lies on no page, or on a page without the flag
+-- `count` bytes from an address on; none if one is on no page, or on a page without the flag
 unfoldable pub bytes_with : ℕ → Memory → (address count : ℕ) → Option (List ℕ)
 bytes_with flag memory address zero = Some []
 bytes_with flag memory address (suc count) = do
@@ -92,7 +92,7 @@ loaded width address memory = option_map (little_number (width_bytes width)) (by
 abbrev pub may_store : Width → ℕ → Memory → Bool
 may_store width address memory = is_some (bytes_with 2 memory address (width_bytes width))
 
--- behind a store of a value's low bytes, which changes nothing where it may not store
+-- after a store of a value's low bytes, which changes nothing if it may not store
 abbrev pub stored : Width → ℕ → ℕ → Memory → Memory
 stored width address value memory = if may_store width address memory then put_bytes address (little_bytes (width_bytes width) value) memory else memory
 
@@ -113,13 +113,13 @@ amo_result Max old value = if is_below_signed old value then value else old
 amo_result MinU old value = if nat_lt old value then old else value
 amo_result MaxU old value = if nat_lt old value then value else old
 
--- the old word, where each byte of it may be read and written
+-- the old word, if each byte of it may be read and written
 abbrev pub amo_word : ℕ → Memory → Option ℕ
 amo_word address memory = do
   old ← loaded Four address memory
   if may_store Four address memory then Some old else None
 
--- behind an AMO whose old word is known; it changes nothing where there is none
+-- after an AMO whose old word is known; it changes nothing if there is none
 abbrev pub after_amo_of : AmoOp → ℕ → ℕ → Memory → Option ℕ → Memory
 after_amo_of op address value memory None = memory
 after_amo_of op address value memory (Some old) = put_bytes address (little_bytes 4 (amo_result op old value)) memory
@@ -137,7 +137,7 @@ abbrev pub allowed : Bool → Access (Unit {0})
 allowed true = Done tt
 allowed false = Denied
 
--- an SC's answer, where its reservation stands
+-- an SC's answer, if its reservation is valid
 abbrev pub stored_answer : Bool → Access Bool
 stored_answer true = Done true
 stored_answer false = Denied

@@ -1,4 +1,4 @@
--- What is lent from bytes or from a table, as the value that it stands for. This project's own.
+-- What is borrowed from bytes or from a table, as its value. This project's own.
 use Rattle.dp_base.specs.declared.answer.Answer.{Answer}
 use Rattle.dp_base.specs.declared.answer.Answer.TheVariants as answers
 use Rattle.dp_base.specs.declared.answer_view.AnswerView.{AnswerView}

@@ -1,4 +1,4 @@
-// What an access to memory asks for, and what it comes to.
+// What an access to memory asks for, and its outcome.
 ghost use Rattle.std.specs.Prelude.{◌≡◌};
 ghost use Rattle.dp_base.specs.Memory.{amo_result};
 
@@ -38,7 +38,7 @@ pub enum AmoOp {
 }
 
 impl AmoOp {
-    /// Returns the word that an AMO stores where it found this old word.
+    /// Returns the word that an AMO stores if it found this old word.
     #[inline(always)]
     pub fn result(self, old: u32, value: u32) -> u32
         ensures { result ≡ amo_result self old value }

@@ -1,4 +1,4 @@
-/// An answer that stands in bytes: what a read took is lent, not copied.
+/// An answer in encoded bytes. The bytes of a read are borrowed, not copied.
 #[derive(Clone, Copy, Debug, PartialEq, Eq)]
 pub enum AnswerView<'a> {
     /// The bytes that a read took, at most 4,096. None: the input has ended.

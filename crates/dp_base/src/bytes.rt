@@ -17,28 +17,28 @@ impl Model for Bytes {
 }
 
 impl Bytes {
-    /// The bytes of a `Vec`, which it keeps as it is.
+    /// Makes bytes of a `Vec`, which it keeps as it is.
     pub fn from_vec(items: Vec<u8>) -> Self
         ensures { result ≡ items.items }
     {
         Bytes { items }
     }
 
-    /// The `Vec`, with no copy.
+    /// Returns the `Vec`, with no copy.
     pub fn into_vec(self) -> Vec<u8>
         ensures { result.items ≡ self }
     {
         self.items
     }
 
-    /// The bytes, lent.
+    /// Borrows the bytes.
     pub fn as_slice(&self) -> &[u8]
         ensures { result.now ≡ self.now }
     {
         &self.items
     }
 
-    /// How many bytes there are.
+    /// Returns how many bytes there are.
     pub fn len(&self) -> usize
         ensures { result ≡ length self.now }
     {

@@ -7,7 +7,7 @@ ghost use Rattle.dp_base.specs.Field.{bytes_at, number_at};
 use crate::OutOfMemory;
 use byteorder::{ByteOrder, LittleEndian};
 
-/// The first byte, and the bytes behind it. None: there is no byte.
+/// Returns the first byte and the bytes after it, or `None` if there is no byte.
 pub fn read_u8(bytes: &[u8]) -> Option<(u8, &[u8])>
     ensures { option_map (λ x. (x.0, x.1.now)) result ≡ number_at 1 bytes.now }
 {
@@ -17,7 +17,7 @@ pub fn read_u8(bytes: &[u8]) -> Option<(u8, &[u8])>
     }
 }
 
-/// The number in the first 2 bytes, and the bytes behind them. None: there are fewer.
+/// Returns the number in the first 2 bytes and the bytes after them, or `None` if there are fewer.
 pub fn read_u16(bytes: &[u8]) -> Option<(u16, &[u8])>
     ensures { option_map (λ x. (x.0, x.1.now)) result ≡ number_at 2 bytes.now }
 {
@@ -27,7 +27,7 @@ pub fn read_u16(bytes: &[u8]) -> Option<(u16, &[u8])>
     Some((LittleEndian::read_u16(bytes), &bytes[2..]))
 }
 
-/// The number in the first 4 bytes, and the bytes behind them. None: there are fewer.
+/// Returns the number in the first 4 bytes and the bytes after them, or `None` if there are fewer.
 pub fn read_u32(bytes: &[u8]) -> Option<(u32, &[u8])>
     ensures { option_map (λ x. (x.0, x.1.now)) result ≡ number_at 4 bytes.now }
 {
@@ -37,7 +37,7 @@ pub fn read_u32(bytes: &[u8]) -> Option<(u32, &[u8])>
     Some((LittleEndian::read_u32(bytes), &bytes[4..]))
 }
 
-/// The number in the first 8 bytes, and the bytes behind them. None: there are fewer.
+/// Returns the number in the first 8 bytes and the bytes after them, or `None` if there are fewer.
 pub fn read_u64(bytes: &[u8]) -> Option<(u64, &[u8])>
     ensures { option_map (λ x. (x.0, x.1.now)) result ≡ number_at 8 bytes.now }
 {
@@ -47,7 +47,7 @@ pub fn read_u64(bytes: &[u8]) -> Option<(u64, &[u8])>
     Some((LittleEndian::read_u64(bytes), &bytes[8..]))
 }
 
-/// The first `count` bytes, and the bytes behind them. None: there are fewer.
+/// Returns the first `count` bytes and the bytes after them, or `None` if there are fewer.
 pub fn read_bytes(bytes: &[u8], count: usize) -> Option<(&[u8], &[u8])>
     ensures { option_map (λ x. (x.0.now, x.1.now)) result ≡ bytes_at count bytes.now }
 {

@@ -14,7 +14,7 @@ use crate::{Answer, OutOfMemory, Slice};
 /// Before a header or a record that counts.
 pub const OPEN_GATE: u8 = 1;
 
-/// Behind the last record that counts: nothing from here on does.
+/// After the last record that counts: nothing from here on does.
 pub const CLOSED_GATE: u8 = 0;
 
 /// The first byte of an epoch's body.
@@ -32,7 +32,7 @@ pub const READ_KIND: u8 = 0;
 /// The first byte of an answer to a call of the clock.
 pub const CLOCK_KIND: u8 = 1;
 
-/// Adds what stands behind the header's gate: the format's name, and the guest file behind its length.
+/// Appends what follows the header's gate: the format's name, the guest file's length and the guest file.
 pub fn write_header_body(out: &mut Vec<u8>, guest: &[u8]) -> Result<(), OutOfMemory>
     requires { length guest.now < 2 ^ 32 }
     ensures added { OnOk result (out.new.items ≡ out.old.items ++ header_body guest.now) }
@@ -44,7 +44,7 @@ pub fn write_header_body(out: &mut Vec<u8>, guest: &[u8]) -> Result<(), OutOfMem
     Ok(())
 }
 
-/// Adds a record behind its gate, and the closed gate of the next one.
+/// Appends what follows a record's gate: its length, its body and the closed gate of the next record.
 pub fn write_frame(out: &mut Vec<u8>, body: &[u8]) -> Result<(), OutOfMemory>
     requires some { 0 < length body.now }
     requires few { length body.now ≤ MAX_BODY_BYTES }
@@ -57,7 +57,7 @@ pub fn write_frame(out: &mut Vec<u8>, body: &[u8]) -> Result<(), OutOfMemory>
     Ok(())
 }
 
-/// Adds the body of an epoch's record: its kind, its slices behind their number, and its answers behind theirs.
+/// Appends the body of an epoch's record: its kind, its slices after their count, and its answers after theirs.
 pub fn write_epoch_body(
     out: &mut Vec<u8>,
     slices: &[Slice],

@@ -1,5 +1,5 @@
-//! The plain readers of the journal's bytes: each takes one value from the start, as `specs/Journal.antt` accepts it, and
-//! gives the bytes behind it. They take no memory.
+//! Readers of the journal's bytes. Each reads one value at the start, as `specs/Journal.antt` accepts it, and returns
+//! the bytes after it. They take no memory.
 
 ghost use Rattle.std.specs.Prelude.{◌≡◌, ℕ, List, option_map, is_some};
 ghost use Rattle.dp_base.specs.Journal.{answer_at, clock_at, epoch_body_at, many_at, read_at, slice_at, steps_of};
@@ -11,8 +11,8 @@ use crate::journal::{CLOCK_KIND, EPOCH_KIND, READ_KIND};
 use crate::limits::{MAX_CALL_BYTES, MAX_EPOCH_STEPS};
 use crate::{AnswerView, Slice, Tid};
 
-/// The slice at the start, and the bytes behind it. `None`: there are fewer than 6 bytes, or the thread or the number of
-/// steps is 0.
+/// Returns the slice at the start and the bytes after it. Returns `None` if there are fewer than 6 bytes, or if the
+/// thread or the number of steps is 0.
 #[tactic(auto, unfolding(crate::specs::Journal::slice_at))]
 pub fn read_slice(bytes: &[u8]) -> Option<(Slice, &[u8])>
     ensures { option_map (λ x. (x.0, x.1.now)) result ≡ slice_at bytes.now }
@@ -27,8 +27,8 @@ pub fn read_slice(bytes: &[u8]) -> Option<(Slice, &[u8])>
     }
 }
 
-/// The answer at the start, and the bytes behind it. `None`: it isn't there whole, it is of no known kind, or it is a read
-/// of more than 4,096 bytes.
+/// Returns the answer at the start and the bytes after it. Returns `None` if it isn't there whole, if its kind isn't
+/// known, or if it is a read of more than 4,096 bytes.
 #[tactic(auto, unfolding(crate::specs::Journal::answer_at))]
 pub fn read_answer(bytes: &[u8]) -> Option<(AnswerView<'_>, &[u8])>
     ensures { option_map (λ x. (answer_of_view x.0, x.1.now)) result ≡ answer_at bytes.now }
@@ -43,7 +43,7 @@ pub fn read_answer(bytes: &[u8]) -> Option<(AnswerView<'_>, &[u8])>
     }
 }
 
-// What a read took, behind its kind.
+// The bytes of a read, after its kind.
 #[tactic(auto, unfolding(crate::specs::Journal::read_at))]
 fn read_input(bytes: &[u8]) -> Option<(AnswerView<'_>, &[u8])>
     ensures { option_map (λ x. (answer_of_view x.0, x.1.now)) result ≡ read_at bytes.now }
@@ -57,7 +57,7 @@ fn read_input(bytes: &[u8]) -> Option<(AnswerView<'_>, &[u8])>
     }
 }
 
-// A reading of the clock, behind its kind.
+// A reading of the clock, after its kind.
 #[tactic(auto, unfolding(crate::specs::Journal::clock_at))]
 fn read_clock(bytes: &[u8]) -> Option<(AnswerView<'_>, &[u8])>
     ensures { option_map (λ x. (answer_of_view x.0, x.1.now)) result ≡ clock_at bytes.now }
@@ -66,7 +66,7 @@ fn read_clock(bytes: &[u8]) -> Option<(AnswerView<'_>, &[u8])>
     Some((AnswerView::Clock(reading), rest))
 }
 
-/// Whether the bytes are the body of an epoch's record, and no byte more.
+/// Returns whether the bytes are the body of an epoch's record, and no byte more.
 pub fn is_epoch_body(bytes: &[u8]) -> bool
     ensures { result ≡ is_some (whole epoch_body_at bytes.now) }
 {
@@ -76,7 +76,7 @@ pub fn is_epoch_body(bytes: &[u8]) -> bool
     }
 }
 
-// The bytes behind the body of an epoch.
+// The bytes after the body of an epoch.
 #[tactic(auto, unfolding(crate::specs::Journal::epoch_body_at))]
 fn skip_epoch_body(bytes: &[u8]) -> Option<&[u8]>
     ensures { option_map (λ x. x.now) result ≡ option_map (λ x. x.1) (epoch_body_at bytes.now) }
@@ -93,8 +93,8 @@ fn skip_epoch_body(bytes: &[u8]) -> Option<&[u8]>
     }
 }
 
-/// How many steps the first `count` slices have together, and the bytes behind these. `None`: one of them isn't there
-/// whole, or its thread or number of steps is 0.
+/// Returns how many steps the first `count` slices have together, and the bytes after them. Returns `None` if one of
+/// them isn't there whole, or if its thread or number of steps is 0.
 pub fn skip_slices(count: u32, bytes: &[u8]) -> Option<(u64, &[u8])>
     ensures { option_map {U = ℕ × List ℕ} (λ x. (x.0, x.1.now)) result
         ≡ option_map (λ x. (steps_of x.0, x.1)) (many_at slice_at count bytes.now) }
@@ -109,7 +109,7 @@ pub fn skip_slices(count: u32, bytes: &[u8]) -> Option<(u64, &[u8])>
     Some((steps, rest))
 }
 
-// The bytes behind so many answers.
+// The bytes after this many answers.
 fn skip_answers(count: u32, bytes: &[u8]) -> Option<&[u8]>
     ensures { option_map (λ x. x.now) result ≡ option_map (λ x. x.1) (many_at answer_at count bytes.now) }
 {

@@ -28,12 +28,12 @@ pub fn records()
     ensures { IsPrefixCode record_at record_of IsBody }
 {}
 
-/// What an append writes determines the body and all that stands behind it.
+/// What an append writes determines the body and all that follows it.
 pub fn frames()
     ensures { (a b x y : List ℕ) → IsBody a → IsBody b → frame a ++ x ≡ frame b ++ y → (a ≡ b) × (x ≡ y) }
 {}
 
-/// What stands behind a closed gate is no header and no record.
+/// What follows a closed gate is no header and no record.
 pub fn closed_gates()
     ensures header { (rest : List ℕ) → header_at (closed_gate ∷ rest) ≡ None }
     ensures record { (rest : List ℕ) → record_at (closed_gate ∷ rest) ≡ None }
@@ -54,8 +54,8 @@ pub fn epochs()
     ensures { IsPrefixCode epoch_body_at epoch_body IsEpoch }
 {}
 
-/// What is decoded from all of the bytes, with none left over: an encoding gives its value, and bytes that give a value are
-/// its encoding.
+/// Decoding all of the bytes, with none left: an encoding gives its value, and bytes that give a value are its
+/// encoding.
 pub fn whole_values()
     ensures numbers { (n : ℕ) → IsWholeCode (number_at n) (little_bytes n) (λ x. x < 256 ^ n) }
     ensures headers { IsWholeCode header_at header IsGuest }
@@ -74,7 +74,7 @@ pub fn lengths()
         length (epoch_body e) ≡ 9 + 6 * length e.slices + length (flat_map answer e.answers) }
 {}
 
-/// The body of an epoch is the body of a record, where it is short enough.
+/// The body of an epoch is the body of a record if it is short enough.
 pub fn epochs_fit_records()
     ensures { (e : Epoch) → IsEpoch e → length (epoch_body e) ≤ MAX_BODY_BYTES → IsBody (epoch_body e) }
 {}

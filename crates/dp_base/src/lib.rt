@@ -1,13 +1,12 @@
-//! What every other crate of the recorder speaks of: thread numbers, slices and answers, logs of them, the limits, a
-//! guest's memory (`Mem`, `specs/Memory.antt`), the fields of the journal, and the definitions of the journal's bytes
-//! (`specs/Journal.antt`).
+//! What all other crates share: thread numbers, slices and answers, logs of them, the limits, a guest's memory (`Mem`,
+//! `specs/Memory.antt`), the fields of the journal, and the definitions of the journal's bytes (`specs/Journal.antt`).
 //!
 //! Promises: what a field writer adds is what the reader of the same width takes, and no byte more; a journal
 //! value has one encoding, and no encoding is a prefix of another; `journal_reader` takes from bytes what the
-//! definitions accept, and no more; a `Log` is the list of what was put into it, in order. Stands on `byteorder`
+//! definitions accept, and no more; a `Log` is the list of what was put into it, in order. Builds on `byteorder`
 //! for numbers in bytes.
 //!
-//! An epoch becomes the bytes that an append writes behind the closed gate:
+//! An epoch becomes the bytes that an append writes after the closed gate:
 //!
 //! ```text
 //! let mut body = Vec::new(alloc);

@@ -18,7 +18,7 @@ pub const FIRST_STACK_PAGE: u32 = 0x7fff0;
 /// Pages of thread 1's stack.
 pub const STACK_PAGES: u32 = 16;
 
-/// Where thread 1's stack pointer (x2) starts.
+/// The stack pointer (x2) of thread 1 at the start.
 pub const STACK_POINTER: u32 = 0x7fff_ffe0;
 
 /// Threads that a guest may make in a run, the first included.
@@ -33,13 +33,13 @@ pub const MAX_CALL_BYTES: u32 = 4096;
 /// Steps of one epoch at most.
 pub const MAX_EPOCH_STEPS: u32 = 1_000_000;
 
-/// An epoch ends behind the step at which its output, or the bytes that it read, are so many.
+/// An epoch ends after the step at which it has written or read this many bytes.
 pub const EPOCH_END_BYTES: u32 = 65_536;
 
 /// Bytes of a journal record's body at most.
 pub const MAX_BODY_BYTES: u32 = 16_777_216;
 
-/// Bytes of a journal at most: the recorder's room, and as much of a file as is read.
+/// Maximum length of a journal in bytes. A recorder writes no more, and a replay reads no more of a file.
 pub const MAX_JOURNAL_BYTES: u64 = 1 << 30;
 
 /// Workers of a recording or a replay at most.

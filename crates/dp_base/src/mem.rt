@@ -5,19 +5,19 @@ ghost use Rattle.dp_base.specs.Memory.{after_amo, allowed, amo_word, answer_of, 
 
 use crate::{Access, AmoOp, OutOfMemory, Width};
 
-/// A memory that harts load from and store to. Where its pages are known, each access is exact and never busy, and an
-/// `Err` changes nothing. Where they aren't, only this is said: it counts how often it answers `Busy`, and how often a
-/// conditional store answers `Done(false)`.
+/// A memory that harts load from and store to. If its pages are known, each access is exact and never busy, and an
+/// `Err` changes nothing. If they aren't, the contract says only this: the memory counts how often it answers `Busy`,
+/// and how often a conditional store answers `Done(false)`.
 pub trait Mem {
     ghost use Rattle.std.specs.Prelude.{List, Option};
     ghost use Rattle.dp_base.specs.Counts.{Contention};
     ghost use Rattle.dp_base.specs.declared.page.Page.{Page};
 
-    /// The pages, where they are known.
+    /// The pages, if they are known.
     ghost memory: { Self → Option (List Page) };
 
-    /// How often it has answered `Busy`, and how often a conditional store has answered `Done(false)`: each at most
-    /// 2^64 - 1, where it stays.
+    /// How often it has answered `Busy`, and how often a conditional store has answered `Done(false)`. Each count stops
+    /// at 2^64 - 1.
     ghost contention: { Self → Contention };
 
     /// Fetches the word at an address. Each byte must be executable.
@@ -57,7 +57,7 @@ pub trait Mem {
         ensures same { IfSome (memory self.old) (λ pages. memory self.new ≡ Some pages) }
         ensures counted { Counted result (contention self.old) (contention self.new) };
 
-    /// Stores a word, as SC does where its reservation stands, and returns whether it has. Each byte must be writable.
+    /// Stores a word, as an SC does whose reservation is valid. Returns whether it stored. Each byte must be writable.
     fn store_conditional(&mut self, address: u32, value: u32) -> Result<Access<bool>, OutOfMemory>
         ensures answer { IfSome (memory self.old) (λ pages. IfOk result (λ answer. answer
             ≡ stored_answer (may_store Width.Four address pages))) }

@@ -1,5 +1,5 @@
-/// One page of a guest's memory: its number (its address divided by 4,096), who may use it (execute 1, write 2, read 4), and
-/// its bytes.
+/// One page of a guest's memory: its number (its address divided by 4,096), who may use it (execute 1, write 2, read
+/// 4), and its bytes.
 #[derive(Drop)]
 pub struct Page {
     pub number: u32,

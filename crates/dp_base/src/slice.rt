@@ -1,6 +1,6 @@
 use crate::Tid;
 
-/// A time slice: so many turns of one thread, one after another.
+/// A time slice: a number of turns of one thread, one after another.
 #[derive(Clone, Copy, Debug, PartialEq, Eq)]
 pub struct Slice {
     /// Whose turns.

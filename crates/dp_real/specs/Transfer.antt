@@ -1,4 +1,5 @@
--- What a transfer that fails has done to the bytes that a writer holds and a reader has left, where those are known. This crate's own.
+-- What a transfer that fails has done to the bytes that a writer holds and a reader has left, if those are known. This
+-- crate's own.
 use Rattle.std.specs.Prelude.{◌<◌, ℕ, List, Option, length, take}
 use Rattle.std.specs.Io.KnownBytes.{Appends, Consumes}
 
@@ -6,6 +7,6 @@ use Rattle.std.specs.Io.KnownBytes.{Appends, Consumes}
 abbrev pub AppendsStart : Option (List ℕ) → Option (List ℕ) → List ℕ → Type 0
 AppendsStart old new bytes = (count : ℕ) × (count < length bytes) × Appends old new (take count bytes)
 
--- they lost what stands at the start of a buffer, or nothing, and not so much that it is full
+-- they lost what is at the start of a buffer, or nothing, and fewer bytes than the buffer has
 abbrev pub ConsumesStart : Option (List ℕ) → Option (List ℕ) → List ℕ → Type 0
 ConsumesStart old new buf = (count : ℕ) × (count < length buf) × Consumes old new (take count buf)

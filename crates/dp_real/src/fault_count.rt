@@ -8,13 +8,13 @@ use disk_model::Failed;
 /// How often calls of one kind have failed, and what the system refused last.
 #[derive(Drop)]
 pub(crate) struct FaultCount {
-    /// At most 2^64 - 1, where it stays.
+    /// The count, which stops at 2^64 - 1.
     pub faults: u64,
     pub last: Option<Refusal>,
 }
 
 impl FaultCount {
-    /// Before the first fault.
+    /// Makes a count before the first fault.
     pub fn new() -> FaultCount
         ensures { result.faults ≡ 0 }
     {

@@ -3,7 +3,8 @@ use std::fs::File;
 use std::io::{self, Read, Write};
 use std::os::unix::fs::FileExt;
 
-/// A file from an offset on, as a reader and a writer. The file's own position stays. The system refuses offsets from 2^63 on.
+/// A file from an offset on, as a reader and a writer. The file's own position stays. The system refuses offsets from
+/// 2^63 on.
 #[derive(Drop)]
 pub(crate) struct FileAt<'a> {
     pub file: &'a File,

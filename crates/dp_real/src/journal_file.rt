@@ -9,10 +9,11 @@ use std::io::{self, ErrorKind};
 use std::os::fd::AsRawFd;
 use std::os::unix::fs::MetadataExt;
 
-// How the system names the files of standard output and standard error. Without /proc they aren't found, and count as other files.
+// How the system names the files of standard output and standard error. Without /proc they aren't found, and count as
+// other files.
 const STREAM_PATHS: [&str; 2] = ["/proc/self/fd/1", "/proc/self/fd/2"];
 
-/// An open journal. Its lock is given back where it is dropped.
+/// An open journal. Its lock is released when it is dropped.
 #[derive(Drop)]
 pub(crate) struct JournalFile {
     file: File,
@@ -21,8 +22,9 @@ pub(crate) struct JournalFile {
 }
 
 impl JournalFile {
-    /// Opens and locks the regular file with this path. With `make` it is made if there is none, the lock is exclusive, and the file
-    /// and its name are synced. Without, the lock is shared, and a file that can't be written is opened for reading alone.
+    /// Opens and locks the regular file with this path. With `make` it is made if there is none, the lock is exclusive,
+    /// and the file and its name are synced. Without, the lock is shared, and a file that can't be written is opened
+    /// for reading alone.
     pub(crate) fn open(
         runtime: &HostRuntime,
         name: &str,
@@ -155,8 +157,8 @@ fn open_file(runtime: &HostRuntime, name: &str, make: bool) -> io::Result<File> 
     }
 }
 
-// The same file under a number that no standard stream has. Where a stream was closed before the program began, the file may
-// have got the stream's number, and what is meant for the stream would land in it.
+// The file under a number that no standard stream has. If a stream was closed before the program began, the file may
+// have got the stream's number, and what is meant for the stream would be written to it.
 fn apart_from_streams(file: File) -> io::Result<File> {
     if file.as_raw_fd() <= 2 {
         file.try_clone()

@@ -1,12 +1,13 @@
-//! The outside as it is: a journal's file with standard output and standard error, standard input with the system's clock,
-//! and files by name.
+//! The outside as it is: a journal's file with standard output and standard error, standard input with the system's
+//! clock, and files by name.
 //!
-//! Promises: each form meets its trait: a call fails only where its own count of faults rises, or is at its greatest value, no
-//! count falls, and no count is touched by a call of another kind. A reader or a writer whose bytes are known gives, or takes, the
-//! next of them. Of what the system's own files, streams and clock hold nothing is known: what the system does is trusted, and
-//! tested. A read or a write is tried again if a signal interrupts it, until `MAX_INTERRUPTS` have, and if it would block, until it
-//! doesn't. Each form keeps the last refusal of the system. A journal's file is locked while it is attached, and a write or a sync
-//! of it fails if another program has removed it or changed its length. Stands on `disk_model` for the traits.
+//! Promises: each implementation meets its trait: a call fails only if its own count of faults rises, or is at its
+//! greatest value, no count falls, and no count is changed by a call of another kind. A reader or a writer whose bytes
+//! are known gives, or takes, the next of them. Nothing is known of what the system's own files, streams and clock
+//! hold: what the system does is trusted, and tested. A read or a write is tried again if a signal interrupts it, until
+//! `MAX_INTERRUPTS` have, and if it would block, until it doesn't. Each implementation keeps the last refusal of the
+//! system. A journal's file is locked while it is attached, and a write or a sync of it fails if another program has
+//! removed it or changed its length. Builds on `disk_model` for the traits.
 //!
 //! ```text
 //! let mut files = RealFiles::new(rt);

@@ -10,9 +10,10 @@ use std::fs;
 use std::io::{self, Read};
 use std::time::Clock;
 
-/// The system's files. A name is a path, from the program's folder on where it doesn't begin with a slash.
+/// The system's files. A name is a path, from the program's folder on if it doesn't begin with a slash.
 ///
-/// A fetch reads at most `MAX_FETCH_BYTES` bytes and looks at no more of the file. It fails where there is no file, or a folder.
+/// A fetch reads at most `MAX_FETCH_BYTES` bytes and looks at no more of the file. It fails if there is no file, or a
+/// folder.
 #[derive(Drop)]
 pub struct RealFiles {
     runtime: HostRuntime,
@@ -20,7 +21,7 @@ pub struct RealFiles {
 }
 
 impl RealFiles {
-    /// The files of this system.
+    /// Makes the files of this system.
     pub fn new(runtime: HostRuntime) -> RealFiles
         ensures no_fault { result.file_faults.faults ≡ 0 }
     {
@@ -30,7 +31,7 @@ impl RealFiles {
         }
     }
 
-    /// What the system last refused of a file.
+    /// Returns what the system last refused of a file.
     pub fn file_refusal(&self) -> Option<Refusal>
         ensures { result ≡ self.now.file_faults.last }
     {

@@ -13,10 +13,10 @@ use std::time::{Duration, SystemTime, UNIX_EPOCH};
 
 /// A reader, standard input in a program, and the system's clock.
 ///
-/// A take is one read of at most 65,536 bytes: it waits until there is a byte, also where the read would block, and gives what is
-/// there. Once a read gave the end
-/// it stays the end, and nothing more is read. The clock gives nanoseconds since the beginning of 1970 UTC, as the system's
-/// wall clock has them: 0 before 1970 and where it can't be read, and 2^64 - 1 for all that is later. It may go back.
+/// A take is one read of at most 65,536 bytes: it waits until there is a byte, also if the read would block, and gives
+/// what is there. Once a read has given the end, the end stays, and nothing more is read. The clock gives nanoseconds
+/// since the beginning of 1970 UTC, as the system's wall clock has them: 0 before 1970 and if it can't be read, and
+/// 2^64 - 1 for all that is later. It may go back.
 #[derive(Drop)]
 pub struct RealInlet<R: Read> {
     runtime: HostRuntime,
@@ -26,7 +26,7 @@ pub struct RealInlet<R: Read> {
 }
 
 impl RealInlet<Stdin> {
-    /// Standard input.
+    /// Makes an inlet of standard input.
     pub fn new(runtime: HostRuntime) -> RealInlet<Stdin>
         ensures no_fault { result.input_faults.faults ≡ 0 }
         ensures no_end { result.ended ≡ false }
@@ -36,7 +36,7 @@ impl RealInlet<Stdin> {
 }
 
 impl<R: Read> RealInlet<R> {
-    /// This reader.
+    /// Makes an inlet of this reader.
     pub fn of_reader(runtime: HostRuntime, reader: R) -> RealInlet<R>
         ensures no_fault { result.input_faults.faults ≡ 0 }
         ensures no_end { result.ended ≡ false }
@@ -50,7 +50,7 @@ impl<R: Read> RealInlet<R> {
         }
     }
 
-    /// What the system last refused of the input.
+    /// Returns what the system last refused of the input.
     pub fn input_refusal(&self) -> Option<Refusal>
         ensures { result ≡ self.now.input_faults.last }
     {

@@ -11,8 +11,8 @@ use std::io::{self, ErrorKind};
 
 /// A file of the system as the disk, with standard output as Out and standard error as Note.
 ///
-/// Before an attach that succeeds each call on the disk fails. An emit is one write. It fails where the stream is closed, and
-/// where it takes nothing. Where a stream would block it waits.
+/// Before an attach that succeeds each call on the disk fails. An emit is one write. It fails if the stream is closed,
+/// or if it takes nothing. If a stream would block, it waits.
 #[derive(Drop)]
 pub struct RealWorld {
     runtime: HostRuntime,
@@ -22,7 +22,7 @@ pub struct RealWorld {
 }
 
 impl RealWorld {
-    /// The streams of this system, and no file yet.
+    /// Makes a world of the streams of this system, and no file yet.
     pub fn new(runtime: HostRuntime) -> RealWorld
         ensures no_fault { (result.disk_faults.faults ≡ 0) × (result.sink_faults.faults ≡ 0) }
     {
@@ -34,14 +34,14 @@ impl RealWorld {
         }
     }
 
-    /// What the system last refused of the disk.
+    /// Returns what the system last refused of the disk.
     pub fn disk_refusal(&self) -> Option<Refusal>
         ensures { result ≡ self.now.disk_faults.last }
     {
         self.disk_faults.last
     }
 
-    /// What the system last refused of the streams.
+    /// Returns what the system last refused of the streams.
     pub fn sink_refusal(&self) -> Option<Refusal>
         ensures { result ≡ self.now.sink_faults.last }
     {
@@ -77,19 +77,19 @@ impl World for RealWorld {
 
     ghost sink_faults = { λ w. w.sink_faults.faults };
 
-    /// Opens the file with this path for reading and writing, or for reading alone if `make` is false and it can't be written:
-    /// its writes, cuts and syncs may fail then. With `make` it is made if there is none, its length stays if there is one, and
-    /// the file and the entry of its name in its folder are synced, so that an `Ok` finds both again after a crash. The
-    /// folder's own name is not synced.
+    /// Opens the file with this path for reading and writing, or for reading alone if `make` is false and it can't be
+    /// written: its writes, cuts and syncs may fail then. With `make` it is made if there is none, its length stays if
+    /// there is one, and the file and the entry of its name in its folder are synced, so that an `Ok` finds both again
+    /// after a crash. The folder's own name is not synced.
     ///
-    /// The file is locked until this world is dropped or attaches again: with `make` against all other worlds, of other programs
-    /// too, and without against those that attached with `make`.
+    /// The file is locked until this world is dropped or attaches again: with `make` against all other worlds, of other
+    /// programs too, and without against those that attached with `make`.
     ///
     /// # Errors
     ///
-    /// `Failed` if the path is of something else than a regular file, if the file can't be had, if it is also standard output or
-    /// standard error, if it can't be locked, and, with `make`, if the file or its folder can't be synced. A file that was made
-    /// stays then, empty.
+    /// `Failed` if the path is of something else than a regular file, if the file can't be opened, if it is also
+    /// standard output or standard error, if it can't be locked, and, with `make`, if the file or its folder can't be
+    /// synced. A file that was made stays then, empty.
     fn attach(&mut self, name: &str, make: bool) -> Result<(), Failed> {
         self.journal = None;
         match JournalFile::open(&self.runtime, name, make) {

@@ -144,8 +144,8 @@ fn files_that_are_fetched(rt: HostRuntime) -> Result<(), Fail> {
     Ok(())
 }
 
-// A stream that would block at its first call if it has interrupts at all, interrupts the next ones, and then gives or takes a few
-// bytes a call, as long as some are left.
+// A stream that would block at its first call if it has interrupts at all, interrupts the next ones, and then gives or
+// takes a few bytes a call, as long as some are left.
 #[derive(Drop)]
 struct Slow {
     would_block: bool,
@@ -233,7 +233,7 @@ fn streams_that_interrupt(rt: HostRuntime) -> Result<(), Fail> {
     Ok(())
 }
 
-// Bytes come as they are there, the end stays the end, and a take that fails is counted.
+// Bytes are given as they are there, the end stays, and a take that fails is counted.
 #[test]
 fn an_input_is_taken(rt: HostRuntime) -> Result<(), Fail> {
     let mut buf = [b'.'; 4];
@@ -249,7 +249,7 @@ fn an_input_is_taken(rt: HostRuntime) -> Result<(), Fail> {
     Ok(())
 }
 
-// A day in 2020 is behind us, and no reading is before the one before it.
+// The clock is past a day in 2020, and no reading is earlier than the one before it.
 #[test]
 fn the_clock_goes_on(rt: HostRuntime) -> Result<(), Fail> {
     let mut inlet = RealInlet::new(rt);

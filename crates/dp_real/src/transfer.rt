@@ -1,5 +1,5 @@
-// Reads and writes that go on where a signal interrupts them, where they would block, or where only a part was done. What is said of
-// bytes holds where they are known: of a system's own file they aren't.
+// Reads and writes that go on if a signal interrupts them, if they would block, or if only a part was done. What is
+// said of bytes holds if they are known: those of a system's own file aren't.
 ghost use Rattle.std.specs.Prelude.{◌≡◌, ◌<◌, ◌≤◌, IfOk, OnErr, OnOk, length, drop, take};
 ghost use Rattle.std.specs.Io.KnownBytes.{Appends, Consumes, IsAtEnd, ReadConsumes, WriteAppends};
 ghost use Rattle.dp_real.specs.Transfer.{AppendsStart, ConsumesStart};
@@ -17,8 +17,8 @@ const WAIT_MILLIS: u64 = 1;
 // Bytes that one read into the start of a buffer gives at most: as many as a round takes.
 const PIECE_BYTES: usize = 65_536;
 
-// What comes after a read or write that failed. Returns the number of interrupts with this one, and waits first if the stream would
-// block. `None` if the call isn't to be tried again.
+// What follows a read or write that failed. Returns the number of interrupts with this one, and waits first if the
+// stream would block. `None` if the call isn't to be tried again.
 fn interrupts_so_far<C: Clock>(clock: &C, before: u32, error: &io::Error) -> Option<u32> {
     match error.kind() {
         ErrorKind::WouldBlock => {
@@ -52,7 +52,8 @@ pub(crate) fn read_some<C: Clock, R: Read>(
     Err(ErrorKind::TimedOut.into())
 }
 
-/// The same, of at most 65,536 bytes. The buffer stays as it is behind those that were given, and whole if the read fails.
+/// Reads at most 65,536 bytes once. The buffer keeps its bytes after those that were given, and all of them if the read
+/// fails.
 pub(crate) fn read_start<C: Clock, R: Read>(
     clock: &C,
     reader: &mut R,
@@ -72,8 +73,8 @@ pub(crate) fn read_start<C: Clock, R: Read>(
     Ok(count)
 }
 
-/// Reads until the buffer is full or the reader is at its end. Returns how many bytes were given. If a read fails, those that were
-/// given before it, fewer than the buffer's, stand at its start.
+/// Reads until the buffer is full or the reader is at its end. Returns how many bytes were given. If a read fails, the
+/// bytes that were given before it are at the buffer's start, fewer than it has.
 pub(crate) fn fill<C: Clock, R: Read>(
     clock: &C,
     reader: &mut R,

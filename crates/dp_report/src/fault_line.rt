@@ -11,7 +11,8 @@ use device::send_pieces;
 use disk_model::{Stream, World};
 use itoa::Buffer;
 
-/// Emits the status's line on Note, its newline included. At `Ok` there is no line, and no call is made. Takes no memory.
+/// Emits the status's line on Note, its newline included. At `Ok` there is no line, and no call is made. Takes no
+/// memory.
 ///
 /// # Errors
 ///

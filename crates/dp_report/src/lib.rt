@@ -1,9 +1,9 @@
 //! What the program says of itself: the line of a report, the line and the number of each status.
 //!
-//! Promises: each line is, byte for byte, the one in the tables of `specs/Texts.antt`. A status's line is emitted without
-//! taking memory, so that `OutOfMemory` can be told too, and after a failed emit a prefix of it was sent and nothing else.
-//! Stands on `device` for what is sent, on `guest_state` for how a guest ended, on `dp_base` and `disk_model`, and on `itoa`
-//! and `hex` for digits.
+//! Promises: each line is, byte for byte, the one in the tables of `specs/Texts.antt`. A status's line is emitted
+//! without taking memory, so that `OutOfMemory` can be reported too, and after a failed emit a prefix of it was sent
+//! and nothing else. Builds on `device` for what is sent, on `guest_state` for how a guest ended, on `dp_base` and
+//! `disk_model`, and on `itoa` and `hex` for digits.
 //!
 //! ```text
 //! let text = line(alloc, &report)?;                 // epochs 9 squashes 0 steps 9 sent 3 end exit 0 state 5e7e..

@@ -5,7 +5,8 @@ use guest_state::End;
 pub struct Report {
     /// How many epochs the journal has.
     pub epochs: u32,
-    /// How many epochs were run and not committed, since they didn't start where the one before ended: none in a replay.
+    /// How many epochs were run and not committed, since they didn't start where the one before ended: none in a
+    /// replay.
     pub squashes: u32,
     /// How many steps the guest took.
     pub steps: u64,

@@ -26,7 +26,8 @@ pub enum Status {
     BadEpoch(u32),
     /// The guest took this many steps, as many as it may, and hasn't ended.
     StepLimit(u64),
-    /// The next record ends past the journal's room: the journal's end, and how many bytes are needed from there on.
+    /// The next record ends past the journal's maximum length: the journal's end, and how many bytes are needed from
+    /// there on.
     JournalFull { end: u64, need: u64 },
     /// An allocation failed.
     OutOfMemory,
@@ -37,7 +38,7 @@ pub enum Status {
 }
 
 impl Status {
-    /// The number with which the program ends.
+    /// Returns the number with which the program ends.
     pub fn number(self) -> u8
         ensures { result ≡ status_number self }
     {

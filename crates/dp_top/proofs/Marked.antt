@@ -28,7 +28,8 @@ own_mark s = no_other (state_bytes s) _ refl
 own_partial : (base s : State) → is_right_if (applied (checkpoint_of base) (partial_of (checkpoint_of base) (checkpoint_of s))) s ≡ true
 own_partial base s = ap (λ c. is_right_if c s) (back (checkpoint_of base) (checkpoint_of s)) ∙ own_mark s
 
--- The records after a mark play from the mark's state as their base. A mark that isn't there, after the last epoch, leaves another base.
+-- The records after a mark play from the mark's state as their base. A mark that isn't there, after the last epoch,
+-- leaves another base.
 marks_play : (all : Bool) (later : List Epoch) (every since : ℕ) (base s : State) (number : ℕ) (rest : List Record) (tail : Tail) (q : Played)
     → ((n : ℕ) → play_from (base_then every since base s) s n rest tail ≡ q) → (later ≡ [] → (b : State) (n : ℕ) → play_from b s n rest tail ≡ q)
     → play_from base s number (kept all later (marks_at every since base s) ++ rest) tail ≡ q

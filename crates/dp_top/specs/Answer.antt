@@ -49,7 +49,7 @@ status_of_inspection (Err inspections.DiskFault) = statuses.DiskFault
 status_of_inspection (Err inspections.OutputFault) = statuses.OutputFault
 status_of_inspection (Err inspections.OutOfMemory) = statuses.OutOfMemory
 
--- of a self-test without a line; the last row never comes
+-- of a self-test without a line; the last row is never reached
 abbrev pub status_of_self_test : SelfTestFault → Status
 status_of_self_test (tests.StepLimit steps) = statuses.StepLimit steps
 status_of_self_test (tests.JournalFull end need) = statuses.JournalFull end need

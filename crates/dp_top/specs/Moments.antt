@@ -12,8 +12,8 @@ use Rattle.recorder.specs.Moments.{IsRecording}
 use Rattle.dp_report.specs.declared.report.Report.{Report}
 use Rattle.dp_top.specs.SelfTesting.{MadeRecording, self_test_line}
 
--- The image is a recording of the guest whose file has this name, from its start, with a mark after every so many epochs, and what was said is
--- a prefix of its output.
+-- The image is a recording of the guest whose file has this name, from its start, with a mark after every `every`
+-- epochs, and what was sent is a prefix of its output.
 pub record IsRecordingOf (name : List ℕ) (every : ℕ) (files : Option (List File)) (i j : Option Input) (image said : List ℕ) : Type 0 where
   pub guest : List ℕ
   pub fetched : IsFetched files name guest
@@ -29,7 +29,8 @@ StandsFor name every files i j before image sent = (said : List ℕ) × (sent �
 abbrev pub IsStill : History → (image sent : List ℕ) → Type 0
 IsStill before image sent = IsImage before.pending image × (sent ≡ before.sent)
 
--- Every moment of a record command: on a disk that was empty, with nothing pending, it stands; on one that wasn't empty all is still.
+-- Every moment of a record command: on a disk that was empty, with nothing pending, it holds; on one that wasn't empty
+-- nothing changes.
 abbrev pub EveryMoment : (name : List ℕ) → (every : ℕ) → (files : Option (List File)) → (i j : Option Input) → History → History → Type 0
 EveryMoment name every files i j s t = (s.disk ≡ [] → IsSynced s → Always (StandsFor name every files i j s) s t) × (0 < length s.disk → Always (IsStill s) s t)
 
@@ -37,7 +38,7 @@ EveryMoment name every files i j s t = (s.disk ≡ [] → IsSynced s → Always 
 abbrev pub StillThroughout : History → History → Type 0
 StillThroughout s t = Always (IsStill s) s t
 
--- what an inspection lists: nothing where there is no journal
+-- what an inspection lists: nothing if there is no journal
 abbrev pub listing_of : Option Reading → List ℕ
 listing_of None = []
 listing_of (Some r) = inspection r

@@ -1,4 +1,4 @@
--- What a command comes to, by its status. This project's own.
+-- The outcome of a command, by its status. This project's own.
 use Rattle.std.specs.Prelude.{◌≡◌, ◌⊎◌, ℕ, Bool, false, List, [], Option, Some, None, Result, String}
 use Rattle.std.specs.declared.alloc.Global.{Global}
 use Rattle.device.specs.Sending.{Sent}
@@ -29,7 +29,8 @@ use Rattle.dp_top.specs.Answer.{status_of, status_of_inspection, status_of_repla
 use Rattle.dp_top.specs.SelfTesting.{SelfTestedTo}
 use Rattle.dp_top.specs.Asking.{Asked, AskedInspection, AskedReplay, AskedSelfTest}
 
--- The file of this name, which is of bytes, is a guest, and its recording with these options came to this, by a racer that told this at first.
+-- The file of this name, which is of bytes, is a guest, and its recording with these options had this outcome, by a
+-- racer with these known offers at first.
 pub record RecordedAs (tells : Tells) (name : List ℕ) (options : Options) (files : Option (List File)) (i j : Option Input) (before after : Option History) (answer : Result Report RecordFault) : Type 0 where
   pub bytes : List ℕ
   pub of_bytes : AreBytes bytes
@@ -38,26 +39,27 @@ pub record RecordedAs (tells : Tells) (name : List ℕ) (options : Options) (fil
   pub recorded : Recorded bytes tells (start_state bytes) options i j before after answer
   pub moments : EachMoment bytes options.mark (start_state bytes) i j before after
 
--- What a record command results in, before its status's line is sent on Note. Nothing was done, since the guest's file could not be
--- read, or is refused, or memory ran out; or the guest was recorded, and the status is that of the recording's answer.
+-- What a record command results in, before its status's line is sent on Note. Nothing was done, since the guest's file
+-- could not be read, or is refused, or memory ran out; or the guest was recorded, and the status is that of the
+-- recording's answer.
 abbrev pub CameTo : Tells → (name : List ℕ) → Options → Option (List File) → (i j : Option Input) → (before after : Option History) → Status → Type 0
 CameTo tells name options files i j before after status =
     (((status ≡ statuses.GuestFault) ⊎ (status ≡ statuses.OutOfMemory)) × (j ≡ i) × (after ≡ before))
     ⊎ ((bytes : List ℕ) × (fault : ℕ) × (status ≡ statuses.BadImage fault) × IsFetched files name bytes × (image_fault bytes ≡ Some fault) × (j ≡ i) × (after ≡ before))
     ⊎ ((answer : Result Report RecordFault) × (status ≡ status_of answer) × RecordedAs tells name options files i j before after answer)
 
--- What a replay command comes to, before its status is told on Note: a replay of the bytes that the disk reads as.
+-- The outcome of a replay command, before its status is sent on Note: a replay of the bytes that the disk reads as.
 abbrev pub ReplayedTo : Option History → Option History → Status → Type 0
 ReplayedTo before after status = (answer : Result Report ReplayFault) × (status ≡ status_of_replay answer)
     × OnDisk (known_disk before) (λ bytes. Replayed (reads bytes) before after answer)
 
--- What an inspection comes to, before its status is told on Note: a listing of the bytes that the disk reads as.
+-- The outcome of an inspection, before its status is sent on Note: a listing of the bytes that the disk reads as.
 abbrev pub InspectedTo : Option History → Option History → Status → Type 0
 InspectedTo before after status = (answer : Result (Unit {0}) InspectFault) × (status ≡ status_of_inspection answer)
     × OnDisk (known_disk before) (λ bytes. Inspected (reads bytes) before after answer)
 
--- The words aren't taken, or ask for a recording, a replay, an inspection or a self-test that came to this. Only a recording takes from the
--- input or reads the clock.
+-- The words aren't taken, or ask for a recording, a replay, an inspection or a self-test that came to this. Only a
+-- recording takes from the input or reads the clock.
 abbrev pub Did : Tells → List (String Global) → Option (List File) → (i j : Option Input) → (before after : Option History) → Status → Type 0
 Did tells words files i j before after status =
     ((status ≡ statuses.Usage) × (are_taken words ≡ false) × (j ≡ i) × (after ≡ before))
@@ -67,8 +69,8 @@ Did tells words files i j before after status =
     ⊎ (AskedInspection words × (j ≡ i) × InspectedTo before after status)
     ⊎ ((a : AskedSelfTest words) × (j ≡ i) × SelfTestedTo a.n before after status)
 
--- The command came to this, and then the status's line was sent on Note: all of it, or a prefix. At Ok it has no line: the
--- report's has been sent by then, and an inspection and a self-test have none.
+-- The command came to this, and then the status's line was sent on Note: all of it, or a prefix. At Ok it has no line:
+-- the report's has been sent by then, and an inspection and a self-test have none.
 abbrev pub RanCommand : Tells → List (String Global) → Option (List File) → (i j : Option Input) → (before after : Option History) → Status → (told : Bool) → Type 0
 RanCommand tells words files i j before after status told = (done : Option History) × Did tells words files i j before done status × IfKnown (Sent Note (status_line status) told) done after
 

@@ -1,5 +1,5 @@
--- What a self-test comes to: a made guest is recorded in memory, from nothing but its number, and the line of its report is sent. This
--- project's own.
+-- The outcome of a self-test: a made guest is recorded in memory, from nothing but its number, and the line of its
+-- report is sent. This project's own.
 use Rattle.std.specs.Prelude.{◌≡◌, ◌++◌, ℕ, Bool, true, false, List, [], codes, decimal, replicate, Option, Some, Result, Ok, Err}
 use Rattle.std.proofs.Common.{refl}
 use Rattle.std.proofs.lemmas.Bool.{leb-true, ltb-true}
@@ -49,11 +49,11 @@ default_options = record {
   room_range = leb-true MAX_JOURNAL_BYTES MAX_JOURNAL_BYTES refl;
 }
 
--- what the racer of this number tells
+-- the known offers of the racer of this number
 abbrev pub chaos_tells : ℕ → Tells
 chaos_tells n state supply plan = Some (chaos n state supply plan)
 
--- An input without a byte, whose end was seen or wasn't, and a clock that was read so many times and read 0 each time.
+-- An input without a byte, whose end was seen or wasn't, and a clock that was read `count` times and read 0 each time.
 abbrev pub no_input : (ended : Bool) → (readings : ℕ) → Input
 no_input ended readings = record { given = []; left = []; ended = ended; readings = replicate readings 0 }
 
@@ -65,7 +65,8 @@ pub record MadeRecording (n : ℕ) (answer : Result Report RecordFault) : Type 0
   pub recorded : Recorded (guest_file n) (chaos_tells n) (start_state (guest_file n)) default_options
       (Some (no_input false 0)) (Some (no_input ended readings)) (Some (start [])) (Some left) answer
 
--- Why there is no report of it. Its disk was empty, its input never fails, and a call on its world fails only if an allocation does.
+-- Why there is no report of it. Its disk was empty, its input never fails, and a call on its world fails only if an
+-- allocation does.
 abbrev pub of_recording : RecordFault → SelfTestFault
 of_recording (faults.StepLimit steps) = tests.StepLimit steps
 of_recording (faults.JournalFull end need) = tests.JournalFull end need

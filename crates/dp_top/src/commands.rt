@@ -26,20 +26,28 @@ use std::alloc::Global;
 use std::sync::Wait;
 use std::thread::Threads;
 
-/// Does what the words say. `NAME record GUEST JOURNAL` with its options records the guest whose file GUEST names, with the input
-/// and the clock of the inlet, into the journal JOURNAL of the world, which is made if there is none, and sends the guest's output
-/// on Out. `NAME replay JOURNAL`
-/// replays the journal, which isn't written, from itself alone, and sends the output of its epochs on Out. `NAME inspect JOURNAL` sends on Out
-/// a line for each record of the journal, runs none of them, and doesn't write the journal. `NAME selftest N` makes guest N, records it in
-/// memory by `ChaosRacer::new(N)` with the options that a recording has by default, without input and with a clock that always reads 0,
-/// replays it with one worker and with four, and sends `selftest N: ` and the report's line on Out. On Note goes the report's line at
-/// `Ok`, which an inspection and a self-test don't have, and the status's line else. The world comes back whatever happens.
+/// Runs one command, as its arguments say. The world is returned whatever happens.
 ///
-/// The words are looked at first. For a recording then come the guest's file, its image, and the disk: after `Usage`,
-/// `GuestFault` and a recording's `BadImage` the disk is as it was, and has met no fault. For a replay then come the disk, the
-/// journal's guest and its records, and for an inspection the disk and the journal's records. A status's line that can't be sent changes no status. A recording's jobs run on threads of the runtime
-/// `rt`, at most as many as the words' `--workers`. They start in states that the racer offers, at most `--ahead` in a round, and before each
-/// of them its worker passes the gate. The parts of a journal between marks are replayed on as many threads as the words of a replay say.
+/// - `NAME record GUEST JOURNAL` with its options records the guest in the file GUEST, with the input and the clock of
+///   the inlet, into the journal JOURNAL of the world, which is made if there is none. It sends the guest's output on
+///   Out.
+/// - `NAME replay JOURNAL` replays the journal from itself alone, doesn't write it, and sends the output of its epochs
+///   on Out.
+/// - `NAME inspect JOURNAL` sends a line for each record of the journal on Out, runs none of them, and doesn't write
+///   the journal.
+/// - `NAME selftest N` makes guest N, records it in memory by `ChaosRacer::new(N)` with the default options of a
+///   recording, without input and with a clock that always reads 0, replays it with one worker and with four, and sends
+///   `selftest N: ` and the report's line on Out.
+///
+/// At `Ok` the report's line is sent on Note, which an inspection and a self-test don't have. Otherwise the status's
+/// line is. If that line can't be sent, the status stays the same.
+///
+/// The arguments are read first. A recording then reads the guest's file, its image, and the disk: after `Usage`,
+/// `GuestFault` and a recording's `BadImage` the disk is as it was, and no fault of it was met. A replay then reads the
+/// disk, the journal's guest and its records, and an inspection the disk and the journal's records. A recording's jobs
+/// run on threads of the runtime `rt`, at most `--workers` of them. They start in states that the racer offers, at most
+/// `--ahead` in a round, and before each of them its worker passes the gate. The parts of a journal between marks are
+/// replayed on at most `--workers` threads.
 pub fn run<
     R: Threads + Wait + Sync,
     F: Files,
@@ -57,17 +65,18 @@ pub fn run<
     racer: Q,
     gate: &G,
 ) -> (W, Status)
-    // What stands, by the status, and what was sent on Note. The line is cut off only where an emit has failed, and at `OutputFault` one more
-    // than the answer's.
+    // What is left, by the status, and what was sent on Note. The line is cut off only if an emit has failed, and at
+    // `OutputFault` one more than the answer's.
     ensures ran { (told : Bool) × (faults : ℕ)
         × RanCommand (Q.tells racer) words.now (F.directory files.old) (I.input inlet.old) (I.input inlet.new) (W.history world) (W.history result.0) result.1 told
         × (W.sink_faults world ≤ faults) × (faults ≤ W.sink_faults result.0)
         × (result.1 ≡ Status.OutputFault → Rose (W.sink_faults world) faults)
         × (told ≡ false → Rose faults (W.sink_faults result.0)) }
 
-    // At whatever moment a recording is stopped, within a call or between two: what a crash leaves on a disk that was empty, with nothing
-    // pending, is no journal, and nothing was sent; or whole epochs in order that are one run of the guest on its input, of whose
-    // output a prefix was sent. On a disk that wasn't empty, and where no journal is attached, nothing is written or sent.
+    // At whatever moment a recording is stopped, within a call or between two: what a crash leaves on a disk that was
+    // empty, with nothing pending, is no journal, and nothing was sent; or whole epochs in order that are one run of
+    // the guest on its input, of whose output a prefix was sent. On a disk that wasn't empty, and if no journal is
+    // attached, nothing is written or sent.
     ensures every_moment { (asked : Asked words.now) →
         IfKnown (EveryMoment asked.guest asked.options.mark (F.directory files.old) (I.input inlet.old) (I.input inlet.new)) (W.history world) (W.history result.0) }
     ensures still { (result.1 ≡ Status.Usage) ⊎ (result.1 ≡ Status.GuestFault)
@@ -82,8 +91,8 @@ pub fn run<
     ensures every_listing_moment { AskedInspection words.now → OnDisk (known_disk (W.history world))
         (λ bytes. EachListingMoment (reads bytes) (W.history world) (W.history result.0)) }
 
-    // A self-test uses nothing of the files, the input and the disk. At every moment of it the disk is as it was, and a prefix of
-    // its line was sent.
+    // A self-test uses nothing of the files, the input and the disk. At every moment of it the disk is as it was, and a
+    // prefix of its line was sent.
     ensures unused { AskedSelfTest words.now → (files.new ≡ files.old) × (inlet.new ≡ inlet.old)
         × (W.disk_faults result.0 ≡ W.disk_faults world) }
     ensures every_test_moment { (asked : AskedSelfTest words.now) →
@@ -93,7 +102,7 @@ pub fn run<
     ensures none { result.1 ≡ Status.Ok → (I.input_faults inlet.new ≡ I.input_faults inlet.old)
         × (W.sink_faults result.0 ≡ W.sink_faults world) }
 
-    // When each refusal comes.
+    // When each refusal is answered.
     ensures usage { result.1 ≡ Status.Usage → are_taken words.now ≡ false }
     ensures not_taken { are_taken words.now ≡ false → (result.1 ≡ Status.Usage) ⊎ (result.1 ≡ Status.OutOfMemory) }
     ensures guest_fault { result.1 ≡ Status.GuestFault → Rose (F.file_faults files.old) (F.file_faults files.new) }

@@ -1,5 +1,5 @@
-//! The two halves together: what a recording leaves plays to what it was. A call of such a function costs nothing, and hands
-//! the law to the caller's proof.
+//! The two halves together: what a recording leaves plays to what it was. A call of such a function costs nothing, and
+//! hands the law to the caller's proof.
 
 ghost use Rattle.std.specs.Prelude.{◌≡◌, ◌++◌, ℕ, List, Option, None, Some, Ok};
 ghost use Rattle.dp_base.specs.Field.{AreBytes};
@@ -15,8 +15,8 @@ ghost use Rattle.recorder.specs.declared.options.Options.{Options};
 ghost use Rattle.recorder.specs.Moments.{IsRecording};
 ghost use Rattle.recorder.specs.Recording.{HasRoom, Recorded, Run, records, report_of};
 
-/// The journal of a run, however far it came, plays to its end if it has room: to the run's whole output, and to the state in which the run
-/// ends.
+/// The journal of a run, however far it went, plays to its end if it isn't too long: to the run's whole output, and to
+/// the state in which the run ends.
 pub fn a_run_plays_to_its_end()
     ensures { (guest : List ℕ) (tells : Tells) (options : Options) (r : Run tells options (start_state guest)) → IsGuestFile guest → AreBytes guest →
         HasRoom guest options (records r) →
@@ -30,8 +30,8 @@ pub fn a_run_plays_to_its_end()
     guest_kernel::laws::a_run_is_as_long_as_its_slices();
 }
 
-/// A journal that a recording answered `Ok` for plays to exactly the output that the recording sent, and to the report that it
-/// gave, but for the squashes, of which a replay has none.
+/// A journal that a recording answered `Ok` for plays to exactly the output that the recording sent, and to the report
+/// that it gave, but for the squashes, of which a replay has none.
 pub fn a_recording_plays_as_it_was()
     ensures { (guest : List ℕ) (tells : Tells) (options : Options) (i j : Option Input) (before after : History) (report : Report) → IsGuestFile guest → AreBytes guest →
         Recorded guest tells (start_state guest) options i j (Some before) (Some after) (Ok report) →
@@ -46,16 +46,16 @@ pub fn a_recording_plays_as_it_was()
     guest_kernel::laws::a_run_is_as_long_as_its_slices();
 }
 
-/// Whatever a crash leaves of a recording plays to its run: to the whole output of its epochs, of which a prefix was sent by then, and to the
-/// state in which they end. Where it leaves no journal there is nothing to play.
+/// Whatever a crash leaves of a recording plays to its run: to the whole output of its epochs, of which a prefix was
+/// sent by then, and to the state in which they end. If it leaves no journal, there is nothing to play.
 pub fn a_crash_plays_to_its_run()
     ensures recording { (guest : List ℕ) (every : ℕ) (i j : Option Input) (image said : List ℕ) → IsGuestFile guest → (r : IsRecording guest every (start_state guest) i j image said) →
         plays_to (reads image) ≡ played (record { output = r.output; stop = Ok r.end }) }
     ensures none { (image : List ℕ) → reads image ≡ None → plays_to (reads image) ≡ no_journal }
 {}
 
-/// A replay of what a crash left of a recording, if it answers `Ok`, sends exactly the output of its epochs, and reports exactly the state in
-/// which they end.
+/// A replay of what a crash left of a recording, if it answers `Ok`, sends exactly the output of its epochs, and
+/// reports exactly the state in which they end.
 pub fn a_crash_is_replayed()
     ensures { (guest : List ℕ) (every : ℕ) (i j : Option Input) (image said : List ℕ) (before after : History) (report : Report) → IsGuestFile guest →
         (r : IsRecording guest every (start_state guest) i j image said) → Replayed (reads image) (Some before) (Some after) (Ok report) →

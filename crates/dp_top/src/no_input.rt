@@ -6,7 +6,7 @@ use disk_model::{Failed, Inlet};
 pub(crate) struct NoInput {
     /// Whether the end was seen.
     pub ended: bool,
-    /// How often the clock was read: at most 2^64 - 1, where it stays.
+    /// How often the clock was read. The count stops at 2^64 - 1.
     pub readings: u64,
 }
 

@@ -14,7 +14,7 @@ use std::alloc::Global;
 use std::marker::Model;
 use std::thread::Threads;
 
-/// A replay with so many workers that sent and reported what its recording did. Only `check_replay` makes one.
+/// A replay with this many workers that sent and reported what its recording did. Only `check_replay` makes one.
 #[derive(Drop)]
 pub(crate) struct Agreed {
     workers: u32,
@@ -28,12 +28,13 @@ impl Model for Agreed {
     ghost view = { λ agreed. agreed.workers };
 }
 
-/// Replays what was recorded in a world in memory, with so many workers. The replay has to send what the recording sent, and its report has
-/// to be this one without squashes.
+/// Replays what was recorded in a world in memory, with this many workers. The replay has to send what the recording
+/// sent, and its report has to be this one without squashes.
 ///
 /// # Errors
 ///
-/// Returns `OutOfMemory` if memory runs out, and `Differs` if the replay is refused, or sends or reports something else.
+/// Returns `OutOfMemory` if memory runs out, and `Differs` if the replay is refused, or sends or reports something
+/// else.
 pub(crate) fn check_replay<R: Threads + Sync>(
     rt: &R,
     alloc: Global,

@@ -13,8 +13,8 @@ pub(crate) enum SelfTestFault {
     JournalFull { end: u64, need: u64 },
     /// An allocation failed.
     OutOfMemory,
-    /// A replay sent or reported something else than the recording. It is proved that none does. So this tells of a program that was built
-    /// wrong, or of a machine that is broken.
+    /// A replay sent or reported something else than the recording. It is proved that none does. So the program was
+    /// built wrong, or the machine is broken.
     Differs,
 }
 

@@ -32,9 +32,9 @@ use std::alloc::Global;
 use std::sync::Wait;
 use std::thread::Threads;
 
-/// Tests the program on the made guest `n`, and sends `selftest N: ` and the report of its recording on Out. The guest is recorded in memory, by
-/// `ChaosRacer::new(n)`, with the options that `record` has by default, no input, and a clock that always reads 0. The recording is replayed
-/// with one worker and with four. Nothing else is done to the world.
+/// Tests the program on the made guest `n`, and sends `selftest N: ` and the report of its recording on Out. The guest
+/// is recorded in memory, by `ChaosRacer::new(n)`, with the options that `record` has by default, no input, and a clock
+/// that always reads 0. The recording is replayed with one worker and with four. Nothing else is done to the world.
 pub(crate) fn test_guest<R: Threads + Wait + Sync, W: World>(
     rt: &R,
     alloc: Global,

@@ -7,7 +7,8 @@ use std::thread::Threads;
 
 #[test]
 fn readings_of_the_clock(rt: HostRuntime) -> Result<(), Fail> {
-    // the pieces, the clock, and the steps of an epoch and of a slice at most; the journal's bytes and how many takes, the output, and the note
+    // the pieces, the clock, and the steps of an epoch and of a slice at most; the journal's bytes and how many takes,
+    // the output, and the note
     let cases: [(&[&[u8]], &[u64], (&str, &str), Came, &[u8], &[u8]); 7] = [
         // One epoch has one reading.
         (
@@ -89,7 +90,8 @@ fn readings_of_the_clock(rt: HostRuntime) -> Result<(), Fail> {
 
 #[test]
 fn one_reading(rt: HostRuntime) -> Result<(), Fail> {
-    // the pieces, the clock, and the steps of an epoch and of a slice at most; the journal's bytes and how many takes, the output, and the note
+    // the pieces, the clock, and the steps of an epoch and of a slice at most; the journal's bytes and how many takes,
+    // the output, and the note
     let cases: [(&[&[u8]], &[u64], (&str, &str), Came, &[u8], &[u8]); 4] = [
         (
             &[],

@@ -1,5 +1,5 @@
-// Each take of an input fails in turn: by itself, and with all behind it. The recording stops there, and what it has committed plays.
-// The values come from the model that `read_tests` has.
+// Each take of an input fails in turn: by itself, and with all after it. The recording stops there, and what it has
+// committed plays. The values come from the model that `read_tests` has.
 use super::*;
 use crate::recorded::{Came, came_to, ok};
 use dp_report::Status;
@@ -79,7 +79,7 @@ fn two_reads(rt: HostRuntime) -> Result<(), Fail> {
             "take {take}"
         );
     }
-    // behind the last take
+    // after the last take
     let note =
         b"epochs 3 squashes 0 steps 8 sent 0 end exit 0 state 44e085ae0ee54d6520e1458b2e88945eb49ddcda4841a97589c6f175eb5502b3\n";
     let inlet = inlet_of(rt.alloc(), pieces, &[], Failing::From(3))?;
@@ -145,7 +145,7 @@ fn a_filter(rt: HostRuntime) -> Result<(), Fail> {
             "take {take}"
         );
     }
-    // behind the last take
+    // after the last take
     let note =
         b"epochs 5 squashes 0 steps 73 sent 13 end exit 0 state 6f725d84139e9a028e6f0f6e9f1e768c718a5f46199438ae67fa25343a1b5d3a\n";
     let inlet = inlet_of(rt.alloc(), pieces, &[], Failing::From(5))?;
@@ -209,7 +209,7 @@ fn two_readers(rt: HostRuntime) -> Result<(), Fail> {
             "take {take}"
         );
     }
-    // behind the last take
+    // after the last take
     let note =
         b"epochs 5 squashes 0 steps 96 sent 13 end exit 2 state 1d19ffd48666c0dae372e74ccf7e2988d6041491d0ccb4011211af7b8322f7c8\n";
     let inlet = inlet_of(rt.alloc(), pieces, &[], Failing::From(5))?;
@@ -267,7 +267,7 @@ fn a_reader_and_a_counter(rt: HostRuntime) -> Result<(), Fail> {
             "take {take}"
         );
     }
-    // behind the last take
+    // after the last take
     let note =
         b"epochs 5 squashes 0 steps 85 sent 3 end exit 2 state 154bc5033b99f5e951ec42bf2618a994376fdaf8946ca6005eff43aff40d4c33\n";
     let inlet = inlet_of(rt.alloc(), pieces, &[], Failing::From(4))?;

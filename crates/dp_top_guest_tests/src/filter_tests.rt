@@ -1,4 +1,5 @@
-// A filter of inputs of many lengths, in pieces of many sizes, recorded and replayed; and the windows that such inputs come in.
+// A filter of inputs of many lengths, in pieces of many sizes, recorded and replayed; and the windows that such inputs
+// come in.
 use super::*;
 use crate::recorded::{Came, STEPS, came_to, ok};
 use disk_mem::{Fails, MemInlet};

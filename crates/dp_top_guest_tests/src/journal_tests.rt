@@ -15,8 +15,8 @@ fn journal_of_words(alloc: Global, words: &[u32], bodies: &[&[u8]]) -> Result<Ve
     Ok(journal_of(alloc, &file_of(alloc, words)?, bodies)?)
 }
 
-// The bodies of epochs of one slice of thread 1: two steps, of which one reads `abc`; three, of which the first sees the end; and five,
-// of which one takes a reading of 5.
+// The bodies of epochs of one slice of thread 1: two steps, of which one reads `abc`; three, of which the first sees
+// the end; and five, of which one takes a reading of 5.
 const READS: &[u8] = b"\x00\x01\x00\x00\x00\x01\x00\x02\x00\x00\x00\x01\x00\x00\x00\x00\x03\x00abc";
 
 const SEES_END: &[u8] = b"\x00\x01\x00\x00\x00\x01\x00\x03\x00\x00\x00\x01\x00\x00\x00\x00\x00\x00";

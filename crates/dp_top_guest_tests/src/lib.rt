@@ -1,7 +1,8 @@
-//! Guests in machine words, what a guest's file has behind its headers, from the entry on: some share words between threads, some read
-//! input and call for the clock.
+//! Guests in machine words, what a guest's file has after its headers, from the entry on: some share words between
+//! threads, some read input and call for the clock.
 //!
-//! They are recorded and replayed by the tests of this crate, whose values come from a model of the machine apart from ours.
+//! They are recorded and replayed by the tests of this crate, whose values come from a model of the machine apart from
+//! ours.
 #![tactic(auto)]
 
 mod readers;

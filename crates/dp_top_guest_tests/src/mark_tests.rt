@@ -6,8 +6,8 @@ use std::test::Fail;
 use test_files::WRITES;
 use test_worlds::{Failing, disk_of, file_named, inlet_of, texts_of};
 
-// The nine epochs take 20 bytes each, after the 134 bytes of the header, the guest and the closed gate. After the ninth the guest has ended.
-// A mark of this guest takes 270 bytes: it stores nothing.
+// The nine epochs take 20 bytes each, after the 134 bytes of the header, the guest and the closed gate. After the ninth
+// the guest has ended. A mark of this guest takes 270 bytes: it stores nothing.
 #[test]
 fn marks_by_the_words(rt: HostRuntime) -> Result<(), Fail> {
     let alloc = rt.alloc();

@@ -52,8 +52,8 @@ fn ran_by<R: Threads + Wait + Sync, Q: Racer + Drop + Send, G: Gate + Sync>(
     ))
 }
 
-// Whether a world has the journal of `WRITES` in epochs of 2, 2, 2, 2 and 1 steps, and its output and its report with this digit as
-// the squashes.
+// Whether a world has the journal of `WRITES` in epochs of 2, 2, 2, 2 and 1 steps, and its output and its report with
+// this digit as the squashes.
 fn is_in_five_epochs(alloc: Global, world: &MemWorld, squashes: u8) -> Result<bool, Fail> {
     let journal = journal_of(
         alloc,
@@ -70,8 +70,8 @@ fn is_in_five_epochs(alloc: Global, world: &MemWorld, squashes: u8) -> Result<bo
     )
 }
 
-// ChaosRacer 0 offers the states between the epochs: one round. ChaosRacer 1 spoils the first offer of each round: five rounds. ChaosRacer 2
-// offers nothing: five rounds of one job.
+// ChaosRacer 0 offers the states between the epochs: one round. ChaosRacer 1 spoils the first offer of each round: five
+// rounds. ChaosRacer 2 offers nothing: five rounds of one job.
 #[test]
 fn rounds_of_chaos(rt: HostRuntime) -> Result<(), Fail> {
     let alloc = rt.alloc();
@@ -84,8 +84,8 @@ fn rounds_of_chaos(rt: HostRuntime) -> Result<(), Fail> {
     Ok(())
 }
 
-// Offers one state of `WRITES`, with the greatest step count, after hints of a thread that is never made: the greatest number of steps, and
-// an SC that stores.
+// Offers one state of `WRITES`, with the greatest step count, after hints of a thread that is never made: the greatest
+// number of steps, and an SC that stores.
 fn wild_racer(alloc: Global) -> Result<WildRacer, Fail> {
     let tid = Tid(u16::MAX);
     let mut counts = Vec::new(alloc);
@@ -103,8 +103,8 @@ fn wild_racer(alloc: Global) -> Result<WildRacer, Fail> {
     Ok(WildRacer::new(list))
 }
 
-// The first epoch is run without the hints, and the state in which the second would start is squashed. In rounds of one job nobody is asked
-// for offers.
+// The first epoch is run without the hints, and the state in which the second would start is squashed. In rounds of one
+// job nobody is asked for offers.
 #[test]
 fn an_offer_that_no_run_has(rt: HostRuntime) -> Result<(), Fail> {
     let alloc = rt.alloc();
@@ -182,8 +182,9 @@ fn without_squashes(alloc: Global, note: &[u8]) -> Result<(String, String), Fail
     ))
 }
 
-// Two threads that race, in epochs of so many steps, at most so many in a round, by so many workers, with a mark after so many epochs. How
-// the recording is cut, and what the guest writes, differs from run to run. The replay of each sends the same.
+// Two threads that race, in epochs of so many steps, at most so many in a round, by so many workers, with a mark after
+// so many epochs. How the recording is cut, and what the guest writes, differs from run to run. The replay of each
+// sends the same.
 #[test]
 fn a_race_is_replayed(rt: HostRuntime) -> Result<(), Fail> {
     let alloc = rt.alloc();

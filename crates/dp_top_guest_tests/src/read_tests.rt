@@ -1,5 +1,5 @@
-// Guests that read input, and one that asks for none, recorded and replayed. The values come from a model apart from ours, which runs the
-// words by the ISA's text, the input by its pieces, and the schedule by its rules.
+// Guests that read input, and one that asks for none, recorded and replayed. The values come from a model apart from
+// ours, which runs the words by the ISA's text, the input by its pieces, and the schedule by its rules.
 use super::*;
 use crate::recorded::{Came, ok, recorded};
 use std::alloc::Global;
@@ -9,7 +9,8 @@ use test_files::EXITS_WORDS;
 
 #[test]
 fn two_reads(rt: HostRuntime) -> Result<(), Fail> {
-    // the pieces, the clock, and the steps of an epoch and of a slice at most; the journal's bytes and how many takes, the output, and the note
+    // the pieces, the clock, and the steps of an epoch and of a slice at most; the journal's bytes and how many takes,
+    // the output, and the note
     let cases: [(&[&[u8]], &[u64], (&str, &str), Came, &[u8], &[u8]); 7] = [
         // The second read sees the end.
         (
@@ -94,7 +95,8 @@ fn two_reads(rt: HostRuntime) -> Result<(), Fail> {
 // What a guest doesn't ask for changes nothing.
 #[test]
 fn no_input_is_asked_for(rt: HostRuntime) -> Result<(), Fail> {
-    // the pieces, the clock, and the steps of an epoch and of a slice at most; the journal's bytes and how many takes, the output, and the note
+    // the pieces, the clock, and the steps of an epoch and of a slice at most; the journal's bytes and how many takes,
+    // the output, and the note
     let cases: [(&[&[u8]], &[u64], (&str, &str), Came, &[u8], &[u8]); 3] = [
         (
             &[],
@@ -139,7 +141,8 @@ fn no_input_is_asked_for(rt: HostRuntime) -> Result<(), Fail> {
 
 #[test]
 fn edges_of_a_read(rt: HostRuntime) -> Result<(), Fail> {
-    // the pieces, the clock, and the steps of an epoch and of a slice at most; the journal's bytes and how many takes, the output, and the note
+    // the pieces, the clock, and the steps of an epoch and of a slice at most; the journal's bytes and how many takes,
+    // the output, and the note
     let cases: [(&[&[u8]], &[u64], (&str, &str), Came, &[u8], &[u8]); 4] = [
         // What the read that may not write would have got, the next one gets.
         (
@@ -193,7 +196,8 @@ fn edges_of_a_read(rt: HostRuntime) -> Result<(), Fail> {
 
 #[test]
 fn two_readers(rt: HostRuntime) -> Result<(), Fail> {
-    // the pieces, the clock, and the steps of an epoch and of a slice at most; the journal's bytes and how many takes, the output, and the note
+    // the pieces, the clock, and the steps of an epoch and of a slice at most; the journal's bytes and how many takes,
+    // the output, and the note
     let cases: [(&[&[u8]], &[u64], (&str, &str), Came, &[u8], &[u8]); 10] = [
         // Thread 2 sees the end first.
         (
@@ -296,7 +300,8 @@ fn two_readers(rt: HostRuntime) -> Result<(), Fail> {
 
 #[test]
 fn a_reader_and_a_counter(rt: HostRuntime) -> Result<(), Fail> {
-    // the pieces, the clock, and the steps of an epoch and of a slice at most; the journal's bytes and how many takes, the output, and the note
+    // the pieces, the clock, and the steps of an epoch and of a slice at most; the journal's bytes and how many takes,
+    // the output, and the note
     let cases: [(&[&[u8]], &[u64], (&str, &str), Came, &[u8], &[u8]); 6] = [
         // While thread 2 waits, thread 1 goes on, to the epoch's end.
         (

@@ -1,5 +1,5 @@
-// Guests that read input and call for the clock, in machine words. They read to the stack, or to its first pages, from 7FFF0000
-// (hexadecimal) on.
+// Guests that read input and call for the clock, in machine words. They read to the stack, or to its first pages, from
+// 7FFF0000 (hexadecimal) on.
 
 /// Reads ten bytes, reads ten bytes again, and exits with the second answer.
 pub const READS_TWICE: [u32; 8] = [
@@ -22,7 +22,8 @@ pub const READS_CLOCK: [u32; 5] = [
     0x0000_0073,
 ];
 
-/// Reads so many bytes at a time as the word behind these says, and writes them, until the end of the input; then exits with 0.
+/// Reads so many bytes at a time as the word after these says, and writes them, until the end of the input; then exits
+/// with 0.
 pub const FILTER: [u32; 19] = [
     0x0000_0297,
     0x04c2_8293,
@@ -45,8 +46,9 @@ pub const FILTER: [u32; 19] = [
     0x0000_0073,
 ];
 
-/// Reads no bytes, reads from another descriptor, reads to where a byte past the stack's end and to where a page may not be written, reads
-/// three bytes, and reads 4,097 bytes to the stack's last page. Writes the six answers as words, the three bytes, and what the last read got.
+/// Reads no bytes, reads from another descriptor, reads to where a byte past the stack's end and to where a page may
+/// not be written, reads three bytes, and reads 4,097 bytes to the stack's last page. Writes the six answers as words,
+/// the three bytes, and what the last read got.
 pub const READ_EDGES: [u32; 48] = [
     0x7fff_0437,
     0x0000_0513,
@@ -98,8 +100,8 @@ pub const READ_EDGES: [u32; 48] = [
     0x0000_0073,
 ];
 
-/// Two threads that read two bytes at a time, and each writes them behind its number, until the end of the input. Each exits with its
-/// number.
+/// Two threads that read two bytes at a time, and each writes them after its number, until the end of the input. Each
+/// exits with its number.
 pub const TWO_READERS: [u32; 28] = [
     0x0000_0517,
     0x0205_0513,
@@ -131,7 +133,8 @@ pub const TWO_READERS: [u32; 28] = [
     0x0000_0073,
 ];
 
-/// Thread 2 reads a byte at a time and writes it, and ends the guest with 2 at the end of the input; thread 1 counts meanwhile, and yields.
+/// Thread 2 reads a byte at a time and writes it, and ends the guest with 2 at the end of the input; thread 1 counts
+/// meanwhile, and yields.
 pub const READER_AND_COUNTER: [u32; 27] = [
     0x0000_0517,
     0x0305_0513,

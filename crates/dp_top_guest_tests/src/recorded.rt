@@ -53,7 +53,8 @@ fn ran<R: Threads + Wait + Sync>(
 // The steps of an epoch and of a slice at most, if no option says.
 pub(crate) const STEPS: (&str, &str) = ("20000", "1000");
 
-// A recording without marks of a guest of these words, on an empty disk, with so many steps of an epoch and of a slice at most.
+// A recording without marks of a guest of these words, on an empty disk, with so many steps of an epoch and of a slice
+// at most.
 pub(crate) fn record<R: Threads + Wait + Sync>(
     rt: &R,
     alloc: Global,

@@ -1,5 +1,5 @@
-// Guests of several threads, recorded in several epochs and slices, and replayed. The values come from a model apart from ours, which
-// runs the words by the ISA's text and the schedule's rules.
+// Guests of several threads, recorded in several epochs and slices, and replayed. The values come from a model apart
+// from ours, which runs the words by the ISA's text and the schedule's rules.
 use super::*;
 use crate::recorded::{STEPS, ok, recorded};
 use std::alloc::Global;

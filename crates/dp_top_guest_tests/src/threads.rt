@@ -1,8 +1,8 @@
-// Guests of several threads, in machine words: what a guest's file has behind its headers, from the entry on. Each shares words
-// on the first page of its stack, from 7FFF0000 (hexadecimal) on.
+// Guests of several threads, in machine words: what a guest's file has after its headers, from the entry on. Each
+// shares words on the first page of its stack, from 7FFF0000 (hexadecimal) on.
 
-/// Two threads that add 1 four times each to one word, under a lock of LR, SC, futex_wait and futex_wake. Thread 1 waits for
-/// thread 2 by its clear word, and writes the sum as a digit and a line feed.
+/// Two threads that add 1 four times each to one word, under a lock of LR, SC, futex_wait and futex_wake. Thread 1
+/// waits for thread 2 by its clear word, and writes the sum as a digit and a line feed.
 pub const ADDERS: [u32; 61] = [
     0x7fff_0437,
     0x0010_0293,
@@ -67,8 +67,9 @@ pub const ADDERS: [u32; 61] = [
     0xf41f_f06f,
 ];
 
-/// A producer, thread 2, that puts three letters into one word, one after another, and yields behind each; a consumer, thread 1, that
-/// takes them, writes them with a line feed, and exits. They wait for each other by futex_wait and futex_wake.
+/// A producer, thread 2, that puts three letters into one word, one after another, and yields after each; a consumer,
+/// thread 1, that takes them, writes them with a line feed, and exits. They wait for each other by futex_wait and
+/// futex_wake.
 pub const PRODUCER_AND_CONSUMER: [u32; 62] = [
     0x7fff_0437,
     0x0000_0517,
@@ -134,7 +135,7 @@ pub const PRODUCER_AND_CONSUMER: [u32; 62] = [
     0x0000_0073,
 ];
 
-/// Two threads that each wait on a word of its own, behind a line of output: a deadlock.
+/// Two threads that each wait on a word of its own, after a line of output: a deadlock.
 pub const DEADLOCKED: [u32; 30] = [
     0x7fff_0437,
     0x0000_0517,
@@ -171,9 +172,9 @@ pub const DEADLOCKED: [u32; 30] = [
 /// A thread that waits on the word at its stack pointer, which is as it expects, and that nobody wakes.
 pub const WAITS_ALONE: [u32; 3] = [0x0001_0513, 0x0050_0893, 0x0000_0073];
 
-/// Two threads that add 1 four times each to one word, without a lock: each loads the word, writes a letter, `a` or `b`, and stores
-/// the sum. Thread 1 waits for thread 2 by its clear word, and writes the sum as a digit and a line feed. The order of the letters
-/// and the sum depend on the schedule.
+/// Two threads that add 1 four times each to one word, without a lock: each loads the word, writes a letter, `a` or
+/// `b`, and stores the sum. Thread 1 waits for thread 2 by its clear word, and writes the sum as a digit and a line
+/// feed. The order of the letters and the sum depend on the schedule.
 pub const RACING_ADDERS: [u32; 54] = [
     0x7fff_0437,
     0x0010_0293,

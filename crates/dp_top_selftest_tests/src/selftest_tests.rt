@@ -43,7 +43,8 @@ const DISK: &[u8] = b"what was on the disk";
 // What came of a self-test: its status, what it sent on Out, and what on Note.
 type Came = (Status, Vec<u8>, Vec<u8>);
 
-// A self-test on a guest, if some emits fail and each takes so many bytes at most. Each other call on the outside fails.
+// A self-test on a guest, if some emits fail and each takes so many bytes at most. Each other call on the outside
+// fails.
 fn tested<R: Threads + Wait + Sync>(
     rt: &R,
     alloc: Global,

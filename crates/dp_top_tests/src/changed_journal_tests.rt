@@ -108,7 +108,8 @@ fn other_plays_as<R: Threads + Wait + Sync>(
     plays_as(rt, alloc, REPLAY, &other, b"", noted)
 }
 
-// In each table a row is an offset in the journal of 126 bytes, how many bytes are replaced, by what, and what comes of it.
+// In each table a row is an offset in the journal of 126 bytes, how many bytes are replaced, by what, and what comes of
+// it.
 #[test]
 fn records_refused(rt: HostRuntime) -> Result<(), Fail> {
     let malformed: &[u8] = b"dpcli: record 1 is malformed\n";
@@ -178,7 +179,8 @@ fn guests_and_lists_of_a_journal(rt: HostRuntime) -> Result<(), Fail> {
             (Status::Ok, 0),
             b"epochs 2 squashes 0 steps 3 sent 0 end exit 7 state 7721bc1cff3d699bd42bce08f27668ac407481c96f7b1c17878d62bfbd540ce7\n",
         ),
-        // the list ends at a closed gate, at one that is neither, and before a body that isn't there whole, also of the greatest length
+        // the list ends at a closed gate, at one that is neither, and before a body that isn't there whole, also of the
+        // greatest length
         (105, 1, b"\x00", (Status::Ok, 0), NONE_OF_EXITS),
         (125, 1, b"\x02", (Status::Ok, 0), NOTE_OF_EXITS),
         (
@@ -221,8 +223,8 @@ enum Body {
     // An epoch of thread 1, of three steps, and of nine.
     Three,
     Nine,
-    // A mark of the start, of the end, of the start with another byte at the end of the last page, which is 0, and of the end with a step
-    // count of 2^63.
+    // A mark of the start, of the end, of the start with another byte at the end of the last page, which is 0, and of
+    // the end with a step count of 2^63.
     Start,
     End,
     Other,
@@ -231,8 +233,8 @@ enum Body {
 
 use Body::{End, Far, Nine, Other, Start, Three};
 
-// The state in which `EXITS` ends, as a mark: by the format's tables its x17, x10, pc, end and steps are not those of the
-// start.
+// The state in which `EXITS` ends, as a mark: by the format's tables its x17, x10, pc, end and steps are not those of
+// the start.
 fn mark_of_the_end(alloc: Global) -> Result<Vec<u8>, Fail> {
     let start = mark_of_start(alloc, &EXITS)?;
     all_replaced(
@@ -316,7 +318,8 @@ fn marks_judged(rt: HostRuntime) -> Result<(), Fail> {
     Ok(())
 }
 
-// Nothing is run from a mark whose step count is 2^63: its guest would write `hi` and a newline. The mark is of the start but for that.
+// Nothing is run from a mark whose step count is 2^63: its guest would write `hi` and a newline. The mark is of the
+// start but for that.
 #[test]
 fn a_mark_of_too_many_steps(rt: HostRuntime) -> Result<(), Fail> {
     let alloc = rt.alloc();

@@ -9,7 +9,8 @@ use std::test::Fail;
 use std::thread::Threads;
 use test_worlds::{Failing, file_named, inlet_of, texts_of};
 
-/// What a run with these words comes to, where `g` is this guest, the input has these pieces, and the world has this disk.
+/// What a run with these words comes to, where `g` is this guest, the input has these pieces, and the world has this
+/// disk.
 pub(crate) fn ran<R: Threads + Wait + Sync>(
     rt: &R,
     alloc: Global,

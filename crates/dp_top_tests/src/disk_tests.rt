@@ -1,8 +1,10 @@
-// Each call on the disk fails in turn, by itself or with all after it, and each image that a crash may leave then is replayed.
+// Each call on the disk fails in turn, by itself or with all after it, and each image that a crash may leave then is
+// replayed.
 //
-// A recording attaches the disk (call 1), looks at its length (2), and begins the journal: the header's gate is written closed and
-// synced (3, 4), the header behind it (5, 6), and the gate is opened (7, 8). A record is written behind the closed gate and synced,
-// then its gate is opened: the first by the calls 9 to 12, each other one by the next four. An epoch's output is sent behind that.
+// A recording attaches the disk (call 1), looks at its length (2), and begins the journal: the header's gate is written
+// closed and synced (3, 4), the header after it (5, 6), and the gate is opened (7, 8). A record is written after the
+// closed gate and synced, then its gate is opened: the first by the calls 9 to 12, each other one by the next four. An
+// epoch's output is sent after that.
 use crate::stopped::{Faults, Left, NO_JOURNAL, Plays, what_is_left};
 use dp_report::Status;
 use dp_top_guest_tests::{FILTER, PRODUCER_AND_CONSUMER};
@@ -38,8 +40,9 @@ fn epochs_among(first: u8, mark: u8) -> u8 {
     first.saturating_sub(first / mark.saturating_add(1))
 }
 
-// How many records an image has where the calls from this one on fail, or `None` where it is no journal. The call that fails is pending:
-// if it opens a gate, that is open where each pending byte is 1; if it syncs an open gate, then also as the disk reads.
+// How many records an image has where the calls from this one on fail, or `None` where it is no journal. The call that
+// fails is pending: if it opens a gate, that is open where each pending byte is 1; if it syncs an open gate, then also
+// as the disk reads.
 fn records_of(number: u64, pick: u64, records: Records) -> Option<u8> {
     let opens = number % 4 == 3 && pick == 2;
     let syncs = number % 4 == 0 && pick >= 1;
@@ -158,7 +161,8 @@ fn each_emit_of_nine_epochs(rt: HostRuntime) -> Result<(), Fail> {
     Ok(())
 }
 
-// Four epochs, by the takes of the input: before the first take, two pieces, and the end. The guest reads four bytes at a time.
+// Four epochs, by the takes of the input: before the first take, two pieces, and the end. The guest reads four bytes at
+// a time.
 #[test]
 fn each_disk_call_of_a_filter(rt: HostRuntime) -> Result<(), Fail> {
     let mut words = FILTER.to_vec(rt.alloc())?;
@@ -182,7 +186,8 @@ fn each_disk_call_of_a_filter(rt: HostRuntime) -> Result<(), Fail> {
     Ok(())
 }
 
-// Seven epochs of 17 steps at most, in slices of 9. The four bytes of output are one write, of an epoch that isn't said here.
+// Seven epochs of 17 steps at most, in slices of 9. The four bytes of output are one write, of an epoch that isn't said
+// here.
 #[test]
 fn disk_calls_of_two_threads(rt: HostRuntime) -> Result<(), Fail> {
     let asked = ["dpcli", "record", "g", "j", "--epoch", "17", "--slice", "9"];

@@ -1,7 +1,7 @@
-// Each emit of a recording of nine epochs fails in turn, by itself and with all behind it.
+// Each emit of a recording of nine epochs fails in turn, by itself and with all after it.
 //
-// The sixth epoch's output has 3 bytes, and the report's line has 117. All of an epoch is on the disk for good before a byte of it
-// is sent, so each image is the same.
+// The sixth epoch's output has 3 bytes, and the report's line has 117. All of an epoch is on the disk for good before a
+// byte of it is sent, so each image is the same.
 use crate::stopped::{Faults, Plays, plays, recording};
 use dp_report::Status;
 use std::alloc::Global;
@@ -11,7 +11,8 @@ use std::thread::Threads;
 use test_files::WRITES_WORDS;
 use test_worlds::Failing;
 
-// What a recording came to, how many bytes it sent and left, and whether they are the first of the output and of the journal.
+// What a recording came to, how many bytes it sent and left, and whether they are the first of the output and of the
+// journal.
 #[derive(Clone, Copy, Debug, PartialEq, Eq)]
 struct Came {
     status: Status,
@@ -31,8 +32,8 @@ fn wanted(number: u64, piece: u64) -> Came {
     }
 }
 
-// A recording in epochs of one step, where these emits fail, of which one takes so many bytes at most. Its journal is looked at beside
-// a whole one.
+// A recording in epochs of one step, where these emits fail, of which one takes so many bytes at most. Its journal is
+// looked at beside a whole one.
 fn emits_failing<R: Threads + Wait + Sync>(
     rt: &R,
     alloc: Global,
@@ -146,7 +147,7 @@ fn each_emit_of_more(rt: HostRuntime) -> Result<(), Fail> {
     Ok(())
 }
 
-// Behind the last emit nothing fails.
+// After the last emit nothing fails.
 #[test]
 fn emits_behind_the_last(rt: HostRuntime) -> Result<(), Fail> {
     let all = whole(&rt, rt.alloc())?;

@@ -1,7 +1,7 @@
-// A crash in the first append: the record stands behind its gate, which is closed, open, or neither.
+// A crash in the first append: the record follows its gate, which is closed, open, or neither.
 //
-// The guest's file has 124 bytes, so the journal's header has 133, and the first record's gate is at 133. The record of one epoch of one
-// slice has 20 bytes, and the closed gate stands behind it.
+// The guest's file has 124 bytes, so the journal's header has 133, and the first record's gate is at 133. The record of
+// one epoch of one slice has 20 bytes, and the closed gate follows it.
 use crate::stopped::{Faults, Plays, Stopped, plays, recording, replay};
 use dp_report::Status;
 use std::alloc::Global;
@@ -93,10 +93,10 @@ fn other_bytes_as_the_gate(rt: HostRuntime) -> Result<(), Fail> {
     Ok(())
 }
 
-// The record's bytes are pending behind a closed gate by the calls 9 and 10: nothing of them counts.
+// The record's bytes are pending after a closed gate by the calls 9 and 10: nothing of them counts.
 #[test]
 fn a_record_behind_its_gate(rt: HostRuntime) -> Result<(), Fail> {
-    // the call that fails, and the length of each image: the frame has 20 bytes behind the gate
+    // the call that fails, and the length of each image: the frame has 20 bytes after the gate
     let cases: [(u64, [usize; 3]); 2] = [(9, [134, 134, 154]), (10, [134, 154, 154])];
     for (number, lens) in cases {
         let seen = stops(&rt, rt.alloc(), number)?;

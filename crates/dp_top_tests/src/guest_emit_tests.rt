@@ -1,4 +1,5 @@
-// Each emit fails in turn, by itself and with all behind it, of a guest that reads its input and of one with two threads.
+// Each emit fails in turn, by itself and with all after it, of a guest that reads its input and of one with two
+// threads.
 use crate::stopped::{Faults, Left, what_is_left};
 use dp_report::Status;
 use dp_top_guest_tests::{FILTER, PRODUCER_AND_CONSUMER};
@@ -57,8 +58,8 @@ fn produced<R: Threads + Wait + Sync>(
     )
 }
 
-// Four epochs, of which the second sends six bytes and the third two. The bytes of an emit at most, the emit that fails, the bytes that
-// were sent, and the epochs and the bytes that each image plays to.
+// Four epochs, of which the second sends six bytes and the third two. The bytes of an emit at most, the emit that
+// fails, the bytes that were sent, and the epochs and the bytes that each image plays to.
 #[test]
 fn each_emit_of_a_filter(rt: HostRuntime) -> Result<(), Fail> {
     let cases: [(u32, u64, usize, u8, usize); 17] = [
@@ -95,8 +96,8 @@ fn each_emit_of_a_filter(rt: HostRuntime) -> Result<(), Fail> {
     Ok(())
 }
 
-// Seven epochs, one of which, that isn't said here, sends all four bytes. The bytes of an emit at most, the emit that fails, and the bytes
-// that were sent.
+// Seven epochs, one of which, that isn't said here, sends all four bytes. The bytes of an emit at most, the emit that
+// fails, and the bytes that were sent.
 #[test]
 fn each_emit_of_two_threads(rt: HostRuntime) -> Result<(), Fail> {
     let first = produced(&rt, rt.alloc(), Failing::From(1), 4096)?.plays[0];

@@ -14,7 +14,8 @@ use test_files::{EXITS, repeated, replaced};
 use test_journals::journal_of;
 use test_worlds::{Failing, disk_of};
 
-// Writes `hi` and a newline out of a second segment of 4,097 bytes, of which the file has three, and exit_all(0): 8 steps.
+// Writes `hi` and a newline out of a second segment of 4,097 bytes, of which the file has three, and exit_all(0): 8
+// steps.
 const TWO_SEGMENTS: [u8; 151] = [
     0x7f, 0x45, 0x4c, 0x46, 0x01, 0x01, 0x01, 0x00, 0x00, 0x00, 0x00, 0x00, 0x00, 0x00, 0x00, 0x00,
     0x02, 0x00, 0xf3, 0x00, 0x01, 0x00, 0x00, 0x00, 0x74, 0x00, 0x01, 0x00, 0x34, 0x00, 0x00, 0x00,
@@ -44,8 +45,8 @@ fn recording_refused<R: Threads + Wait + Sync>(
     Ok(status)
 }
 
-// What a file comes to: the status of that recording, and that of a replay of a journal that has it. Both send the same on Note,
-// and nothing else.
+// What a file comes to: the status of that recording, and that of a replay of a journal that has it. Both send the same
+// on Note, and nothing else.
 fn refused<R: Threads + Wait + Sync>(
     rt: &R,
     alloc: Global,
@@ -159,8 +160,8 @@ fn images_of_no_byte_and_of_too_many(rt: HostRuntime) -> Result<(), Fail> {
     Ok(())
 }
 
-// What a recording left, as it came to this status: that, the journal's length, and the status of its replay, where both send the
-// same on Out and on Note.
+// What a recording left, as it came to this status: that, the journal's length, and the status of its replay, where
+// both send the same on Out and on Note.
 fn replayed_as<R: Threads + Wait + Sync>(
     rt: &R,
     alloc: Global,
@@ -218,8 +219,8 @@ fn images_accepted(rt: HostRuntime) -> Result<(), Fail> {
     Ok(())
 }
 
-// The guest of 96 bytes as a segment that ends where memory does, so that nothing is mapped at its entry; and with as many pages as there
-// may be.
+// The guest of 96 bytes as a segment that ends where memory does, so that nothing is mapped at its entry; and with as
+// many pages as there may be.
 #[test]
 fn images_at_their_bounds(rt: HostRuntime) -> Result<(), Fail> {
     let cases: [(usize, &[u8], &[u8]); 2] = [

@@ -1,9 +1,9 @@
-//! Whole runs: what the words of a command come to, on memory forms, down to each byte on the disk and on both streams; and
-//! recordings that stop at each of their calls in turn, with what a crash leaves of them: each image is replayed.
+//! Whole runs: what the words of a command come to, on memory forms, down to each byte on the disk and on both streams;
+//! and recordings that stop at each of their calls in turn, with what a crash leaves of them: each image is replayed.
 //!
-//! This crate is its tests: they call `dp_top` as a program does. The bytes of journals and the digests come from the format's
-//! tables. `stopped` records a guest over a disk and an output some of whose calls fail, asks the disk for its three images, and
-//! replays each; what an image holds comes from the calls that a recording makes, counted by hand.
+//! This crate is its tests: they call `dp_top` as a program does. The bytes of journals and the digests come from the
+//! format's tables. `stopped` records a guest over a disk and an output some of whose calls fail, asks the disk for its
+//! three images, and replays each; what an image holds comes from the calls that a recording makes, counted by hand.
 #![tactic(auto)]
 
 #[cfg(test)]

@@ -1,7 +1,7 @@
-// Journals with a mark behind the first epoch, cut anywhere.
+// Journals with a mark after the first epoch, cut anywhere.
 //
-// Of nine epochs of one step: the header's 133 bytes, nine records of 20, and a closed gate. A mark of this guest has a body of 69,880
-// bytes, and its record 5 more.
+// Of nine epochs of one step: the header's 133 bytes, nine records of 20, and a closed gate. A mark of this guest has a
+// body of 69,880 bytes, and its record 5 more.
 use crate::stopped::{Faults, NO_JOURNAL, Plays, plays, recording, replay};
 use dp_report::Status;
 use std::alloc::Global;
@@ -11,7 +11,7 @@ use std::thread::Threads;
 use test_files::{WRITES_WORDS, file_of};
 use test_worlds::Failing;
 
-// The guest behind its first step, by the format's tables: x10 is 1 and pc the second word's.
+// The guest after its first step, by the format's tables: x10 is 1 and pc the second word's.
 fn mark_behind_one_step(alloc: Global) -> Result<Vec<u8>, Fail> {
     let file = file_of(alloc, &WRITES_WORDS)?;
     let mut body = Vec::new(alloc);
@@ -22,7 +22,7 @@ fn mark_behind_one_step(alloc: Global) -> Result<Vec<u8>, Fail> {
     body.extend_from_slice(&0x0001_1000u32.to_le_bytes())?;
     body.extend_from_slice(&0x0001_1000u32.to_le_bytes())?;
     body.push(0)?;
-    // one thread, which runs: pc, no clear address, x1, x2, x3 to x9, x10 and x11 to x31
+    // one thread, which runs: pc, no clear-on-exit address, x1, x2, x3 to x9, x10 and x11 to x31
     body.extend_from_slice(&1u16.to_le_bytes())?;
     body.push(0)?;
     body.extend_from_slice(&0x0001_0058u32.to_le_bytes())?;
@@ -85,7 +85,7 @@ fn journals_with_a_mark_cut_short(rt: HostRuntime) -> Result<(), Fail> {
     let cases: [(usize, u8, usize); 13] = [
         (133, 0, 0),
         (152, 0, 0),
-        // within the mark, and right behind it
+        // within the mark, and right after it
         (153, 1, 0),
         (154, 1, 0),
         (158, 1, 0),
@@ -113,7 +113,7 @@ fn journals_with_a_mark_cut_short(rt: HostRuntime) -> Result<(), Fail> {
     Ok(())
 }
 
-// The same mark behind the second epoch isn't right, once it is there whole.
+// The same mark after the second epoch isn't right, once it is there whole.
 #[test]
 fn a_mark_of_another_place_cut_short(rt: HostRuntime) -> Result<(), Fail> {
     let journal = marked(&rt, rt.alloc(), 173)?;

@@ -61,8 +61,8 @@ fn is_right(world: &MemWorld, journal: &[u8], sent: &[u8], noted: &[u8]) -> Resu
     Ok(())
 }
 
-// The status of a replay in this world, and its number, where it sent these bytes on Out and on Note, and did no more than read the
-// disk, which has this journal.
+// The status of a replay in this world, and its number, where it sent these bytes on Out and on Note, and did no more
+// than read the disk, which has this journal.
 pub(crate) fn replays_as<R: Threads + Wait + Sync>(
     rt: &R,
     alloc: Global,
@@ -191,7 +191,7 @@ fn each_disk_call_of_a_replay_fails(rt: HostRuntime) -> Result<(), Fail> {
     Ok(())
 }
 
-// Where the calls behind the last would fail.
+// Where the calls after the last would fail.
 fn behind_the_disk_calls<R: Threads + Wait + Sync>(
     rt: &R,
     alloc: Global,
@@ -232,8 +232,8 @@ fn emits_that_fail() -> [(
     ]
 }
 
-// One emit sends the output, one the report's line, and one the status's. Rows are of one emit that fails, and of all from
-// it on.
+// One emit sends the output, one the report's line, and one the status's. Rows are of one emit that fails, and of all
+// from it on.
 #[test]
 fn each_emit_of_a_replay_fails(rt: HostRuntime) -> Result<(), Fail> {
     for (number, answer, sent, noted, noted_before) in emits_that_fail() {

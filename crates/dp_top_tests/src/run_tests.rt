@@ -10,7 +10,7 @@ use std::thread::Threads;
 use test_files::{EXITS, WRITES};
 use test_worlds::{Failing, disk_of, world_of};
 
-// The header before the guest, and what stands behind it: one epoch of one slice, thread 1 for 3 steps, and the closed
+// The header before the guest, and what follows it: one epoch of one slice, thread 1 for 3 steps, and the closed
 // gate.
 const BEFORE_GUEST: [u8; 9] = [0x01, 0x44, 0x50, 0x4a, 0x31, 0x60, 0x00, 0x00, 0x00];
 
@@ -36,8 +36,8 @@ pub(crate) fn journal_of_exits(alloc: Global) -> Result<Vec<u8>, Fail> {
     Ok(journal)
 }
 
-// What a run came to: whether it sent what was wanted on Out and on Note, how long the disk is, how many calls it had, and how many
-// calls on the disk and emits failed.
+// What a run came to: whether it sent what was wanted on Out and on Note, how long the disk is, how many calls it had,
+// and how many calls on the disk and emits failed.
 #[derive(Clone, Copy)]
 struct Came {
     status: (Status, u8),
@@ -165,8 +165,8 @@ fn options_of_a_recording(rt: HostRuntime) -> Result<(), Fail> {
     Ok(())
 }
 
-// A run of a guest of no byte, where fetches fail from this one on and each call on the disk would: its status, how many calls
-// there were on the disk, and whether this was sent on Note.
+// A run of a guest of no byte, where fetches fail from this one on and each call on the disk would: its status, how
+// many calls there were on the disk, and whether this was sent on Note.
 fn refused_as<R: Threads + Wait + Sync>(
     rt: &R,
     alloc: Global,
@@ -181,8 +181,8 @@ fn refused_as<R: Threads + Wait + Sync>(
     Ok((came.status, came.disk_calls, came.is_note))
 }
 
-// Before the disk is attached nothing is asked of it. The status's line goes out on Note, and where it can't, the status is
-// the same.
+// Before the disk is attached nothing is asked of it. The status's line goes out on Note, and where it can't, the
+// status is the same.
 #[test]
 fn refusals_before_the_disk(rt: HostRuntime) -> Result<(), Fail> {
     let usage = (Status::Usage, 2);
@@ -280,8 +280,8 @@ fn calls_that_fail() -> [(Failing, Failing, Status, (u64, u64), &'static [u8]); 
     ]
 }
 
-// What a recording of `WRITES` comes to where these calls fail: its status, whether it sent this line on Note, and how many calls on
-// the disk and emits failed.
+// What a recording of `WRITES` comes to where these calls fail: its status, whether it sent this line on Note, and how
+// many calls on the disk and emits failed.
 fn faults_of<R: Threads + Wait + Sync>(
     rt: &R,
     alloc: Global,
@@ -303,7 +303,7 @@ fn faults_of_the_world(rt: HostRuntime) -> Result<(), Fail> {
     Ok(())
 }
 
-// Behind the last call of each nothing fails.
+// After the last call of each nothing fails.
 #[test]
 fn calls_behind_the_last(rt: HostRuntime) -> Result<(), Fail> {
     let (status, _, (disk_faults, _)) = faults_of(

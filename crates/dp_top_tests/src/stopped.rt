@@ -21,8 +21,8 @@ pub(crate) struct Faults {
     pub piece: u32,
 }
 
-// What a recording came to, whether a call on the disk failed, what it sent, and what a crash leaves behind it: the image of each pick,
-// without what is pending, as it reads, and with each pending byte 1.
+// What a recording came to, whether a call on the disk failed, what it sent, and what a crash leaves after it: the
+// image of each pick, without what is pending, as it reads, and with each pending byte 1.
 #[derive(Drop)]
 pub(crate) struct Stopped {
     pub status: Status,
@@ -103,7 +103,8 @@ pub(crate) type Plays = (Status, u8, usize);
 
 pub(crate) const NO_JOURNAL: Plays = (Status::NoJournal, 0, 0);
 
-// What an image plays to, where the output begins with what a recording has sent, and the guest's whole output begins with it.
+// What an image plays to, where the output begins with what a recording has sent, and the guest's whole output begins
+// with it.
 pub(crate) fn plays<R: Threads + Wait + Sync>(
     rt: &R,
     alloc: Global,

@@ -157,7 +157,7 @@ is_usage (Ok x) = false
 is_usage (Err faults.Usage) = true
 is_usage (Err faults.OutOfMemory) = false
 
--- a fault that is no want of memory comes of words that aren't taken
+-- a fault that is no `OutOfMemory` comes of words that aren't taken
 pub line_refused : {T : Type 0} (a : App) (words : List Text) (kind : ErrorKind) (fault : WordsFault) → a ≡ command_line
     → (takes a words ≡ true → kind ≡ kinds.OutOfMemory) → fault ≡ fault_by kind → IsErrOf {T = T} (Err fault) faults.Usage → takes command_line words ≡ false
 line_refused {T = T} a words kind fault is passes by usage = go (takes command_line words) (λ ok. passes (ap (λ a. takes a words) is ∙ ok))

@@ -1,5 +1,5 @@
--- Words at which clap finds no fault are words that the command takes, where its defaults pass and no word has a rule on
--- another.
+-- Words at which clap finds no fault are words that the command takes, where its defaults pass and no word has a rule
+-- on another.
 use Rattle.std.proofs.Common.{◌≡◌, ◌∙◌, ◌&&◌, ◌||◌, ◌==◌, ℕ, Bool, cond, codes, true, false, not, zero, suc, refl, sym, ap, arith, List, [], ◌∷◌, length, drop, nat_le, nat_lt, Option, Some, None, is_some, true≢false, unwrap_or}
 use Rattle.std.proofs.lemmas.Bool.{and_parts, eqb-true, le-leb, ltb-false}
 use Rattle.std.specs.Prelude.{encode_utf8, slice_get}

@@ -1,5 +1,5 @@
--- The command line, as data of clap's definitions: a row for each word of each subcommand. Where clap builds it, it adds
--- the flag --help to each.
+-- The command line, as data of clap's definitions: a row for each argument of each subcommand. When clap builds it, it
+-- adds the flag --help to each.
 use Rattle.std.specs.Prelude.{ℕ, List, [], ◌∷◌, true, Some, codes, fold}
 use Rattle.clap.specs.Words.{App, Rule, Text, new_app, new_rule, with_rule, with_subcommand}
 use Rattle.clap.specs.Simple.{on_top}
@@ -10,7 +10,7 @@ use Rattle.clap.specs.declared.builder.value_parser.ValueParser.TheVariants as p
 abbrev pub text : Text → Rule
 text name = record (new_rule name) { action = Some Set; required = true }
 
--- --NAME NUMBER, with the bounds of the number, and what stands for it where it isn't there
+-- --NAME NUMBER, with the bounds of the number, and its default
 abbrev pub number : Text → ℕ → ℕ → Text → Rule
 number name least most default = record (new_rule name) {
   long = Some name;

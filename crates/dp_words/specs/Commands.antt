@@ -8,7 +8,7 @@ use Rattle.dp_words.specs.CommandLine.{command_line}
 use Rattle.dp_words.specs.declared.command.Command.{Command}
 use Rattle.dp_words.specs.declared.command.Command.TheVariants.{Inspect, Record, Replay, Selftest}
 
--- the text of this name: words that are taken have one, so that the empty text never stands for it
+-- the text of this name: arguments that are taken have one, so it is never the empty text
 abbrev pub text_of : Text → List Row → Text
 text_of name rows = unwrap_or (first_of name rows) []
 

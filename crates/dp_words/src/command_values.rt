@@ -73,7 +73,7 @@ fn text(alloc: Global, matches: &ArgMatches<'_>, name: &str) -> Result<Text, All
     Ok(Text::from_string(String::from_str(alloc, found(matches, name))?))
 }
 
-// The same, lent.
+// A text, borrowed.
 fn found<'m>(matches: &'m ArgMatches<'_>, name: &str) -> &'m str
     requires { HasText name.now (rows_of (found_of matches.now)) }
     ensures { result.now ≡ text_of name.now (rows_of (found_of matches.now)) }
@@ -89,7 +89,7 @@ fn number(matches: &ArgMatches<'_>, name: &str) -> u64
     found(matches, name).parse::<u64>().unwrap()
 }
 
-// The same, of a number below 2^32.
+// A number below 2^32.
 fn small_number(matches: &ArgMatches<'_>, name: &str) -> u32
     requires { HasNumber (2 ^ 32) name.now (rows_of (found_of matches.now)) }
     ensures { result ≡ number_of name.now (rows_of (found_of matches.now)) }

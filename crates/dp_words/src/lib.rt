@@ -1,9 +1,9 @@
 //! The words of a command line become a command: `record GUEST JOURNAL` and `replay JOURNAL` with their options,
 //! `inspect JOURNAL`, or `selftest N`.
 //!
-//! Promises (the contract of `parse`): it answers `Usage` only at words that the command line doesn't take, and a command
-//! only at words that it takes; the command is the one that the words say, and each number is in its range. Stands on
-//! `clap` for what a command line takes (`specs/CommandLine.antt` is ours), and on `dp_base` for the limits.
+//! Promises (the contract of `parse`): it answers `Usage` only at words that the command line doesn't take, and a
+//! command only at words that it takes; the command is the one that the words say, and each number is in its range.
+//! Builds on `clap` for what a command line takes (`specs/CommandLine.antt` is ours), and on `dp_base` for the limits.
 //!
 //! ```text
 //! match parse(alloc, &words) {

@@ -30,12 +30,12 @@ impl From<AllocError> for WordsFault {
     }
 }
 
-/// The command that the words say. The first word is the program's name, which isn't looked at.
+/// Returns the command that the arguments say. The first one is the program's name, which isn't read.
 ///
 /// # Errors
 ///
-/// `Usage` only if the command line doesn't take the words (`are_taken`): an unknown word, one too many or too few, a number
-/// out of its form or range, and a call for help or the version. `OutOfMemory` if an allocation fails.
+/// `Usage` only if the command line doesn't take the words (`are_taken`): an unknown word, one too many or too few, a
+/// number out of its form or range, and a call for help or the version. `OutOfMemory` if an allocation fails.
 pub fn parse(alloc: Global, words: &[String]) -> Result<Command, WordsFault>
     ensures taken { IfOk result (λ _. are_taken words.now ≡ true) }
     ensures command { IfOk result (λ command. command_of words.now ≡ Some command) }

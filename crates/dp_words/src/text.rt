@@ -18,21 +18,21 @@ impl Model for Text {
 }
 
 impl Text {
-    /// The text of a `String`, which it keeps as it is.
+    /// Makes a text of a `String`, which it keeps as it is.
     pub fn from_string(string: String) -> Self
         ensures { result ≡ string_bytes string }
     {
         Text { string }
     }
 
-    /// The `String`, with no copy.
+    /// Returns the `String`, with no copy.
     pub fn into_string(self) -> String
         ensures { string_bytes result ≡ self }
     {
         self.string
     }
 
-    /// The text, lent.
+    /// Borrows the text.
     pub fn as_str(&self) -> &str
         ensures { result.now ≡ self.now }
     {

@@ -6,8 +6,8 @@ use guest_state::End;
 use std::alloc::Global;
 use std::test::Fail;
 
-// A world that keeps what Note got. An emit takes seven bytes at most, and fails once `emits` is 0; each call on the disk
-// fails.
+// A world that keeps what Note got. An emit takes seven bytes at most, and fails once `emits` is 0; each call on the
+// disk fails.
 #[derive(Drop)]
 struct Notes {
     noted: Vec<u8>,
@@ -60,7 +60,7 @@ impl World for Notes {
     }
 }
 
-// What the line of a status comes to where the emit behind so many fails, and whether this was noted.
+// What the line of a status comes to where the emit after so many fails, and whether this was noted.
 fn noted(
     alloc: Global,
     status: Status,

@@ -48,8 +48,8 @@ fn words_that_are_taken(rt: HostRuntime) -> Result<(), Fail> {
     Ok(())
 }
 
-// The texts of the command that a line says, and its numbers, with zeros for those that it lacks. The texts of an inspection and of a
-// self-test begin with their name.
+// The texts of the command that a line says, and its numbers, with zeros for those that it lacks. The texts of an
+// inspection and of a self-test begin with their name.
 fn said_by(rt: &HostRuntime, line: &str) -> Result<(String, [u64; 6]), Fail> {
     let alloc = rt.alloc();
     let words = words_of(rt, line)?;

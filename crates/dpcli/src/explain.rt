@@ -8,7 +8,8 @@ use dp_words::{Command, parse};
 use std::alloc::{AllocError, Global};
 use std::io::Stdin;
 
-/// Says what the system refused, if that is the cause of this status: which file, what was tried, and the system's reason.
+/// Says what the system refused, if that is the cause of this status: which file, what was tried, and the system's
+/// reason.
 pub(crate) fn explain_fault(
     alloc: Global,
     status: Status,

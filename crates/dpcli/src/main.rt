@@ -1,5 +1,6 @@
-//! The program: does what its words say to the files, the input, the clock and the streams of the system, and ends with the
-//! status's number. `run` says on standard error what came of it; `explain` adds what the system refused, or which word is wrong.
+//! The program: does what its words say to the files, the input, the clock and the streams of the system, and ends with
+//! the status's number. `run` says on standard error what came of it; `explain` adds what the system refused, or which
+//! word is wrong.
 #![tactic(auto)]
 
 mod explain;

@@ -1,5 +1,5 @@
--- Why a file is no image: a row for each fault, and the first that applies is answered (System V ABI, edition 4.1, chapters 4
--- and 5; the limits, the stack and the end of memory are this machine's own).
+-- Why a file is no image: a row for each fault, and the first that applies is answered (System V ABI, edition 4.1,
+-- chapters 4 and 5; the limits, the stack and the end of memory are this machine's own).
 use Rattle.std.specs.Prelude.{◌+◌, ◌*◌, ℕ, Bool, List, length, take, Option, Some, None, not, ◌==◌, ◌&&◌, ◌||◌, nat_lt, nat_eq, if◌then◌else◌}
 use Rattle.std.specs.List.{list_any}
 use Rattle.std.specs.Cmp.Lexicographic.{pointwise}
@@ -40,7 +40,8 @@ has_bad_table file = (nat_lt 0 (e_phnum file) && not (e_phentsize file == 32)) |
 abbrev pub has_interpreter : List ℕ → Bool
 has_interpreter file = list_any is_interpreter (program_headers file)
 
--- one that is longer in the file than in memory, that isn't in the file, that ends past the memory, or that has a page of the stack
+-- one that is longer in the file than in memory, that isn't in the file, that ends past the memory, or that has a page
+-- of the stack
 abbrev pub is_bad_entry : List ℕ → ProgramHeader → Bool
 is_bad_entry file p = nat_lt p.p_memsz p.p_filesz || nat_lt (length file) (p.p_offset + p.p_filesz) || nat_lt MEMORY_END (p.p_vaddr + p.p_memsz) || on_the_stack p.p_vaddr p.p_memsz
 

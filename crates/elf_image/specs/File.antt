@@ -1,10 +1,11 @@
--- The fields of an ELF32 file, little-endian (System V ABI, edition 4.1, chapter 4 "ELF Header" and chapter 5 "Program Header").
+-- The fields of an ELF32 file, little-endian (System V ABI, edition 4.1, chapter 4 "ELF Header" and chapter 5 "Program
+-- Header").
 use Rattle.std.specs.Prelude.{◌+◌, ◌*◌, ℕ, Bool, List, [], ◌∷◌, drop, map, ◌==◌}
 use Rattle.std.specs.List.{filter, range_with_len}
 use Rattle.byteorder.specs.Endian.{little_number}
 use Rattle.elf_image.specs.declared.program_header.ProgramHeader.{ProgramHeader}
 
--- the number in so many bytes from an offset on
+-- the number in `count` bytes from an offset on
 unfoldable pub field : (bytes offset : ℕ) → List ℕ → ℕ
 field bytes offset file = little_number bytes (drop offset file)
 

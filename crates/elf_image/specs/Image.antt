@@ -1,4 +1,5 @@
--- The image of a file: what is in memory when the guest starts (System V ABI, edition 4.1, chapter 5 "Program Loading").
+-- The image of a file: what is in memory when the guest starts (System V ABI, edition 4.1, chapter 5 "Program
+-- Loading").
 use Rattle.std.specs.Prelude.{◌≡◌, ◌+◌, ◌-◌, ◌*◌, ◌%◌, ℕ, Bool, List, take, drop, map, slice_index_or, bit_or, fold, Option, ◌&&◌, nat_lt, nat_le}
 use Rattle.std.specs.List.{filter, find, range_with_len}
 use Rattle.std.specs.Option.{option_map, unwrap_or}
@@ -35,11 +36,11 @@ pub record IsImageOf (file : List ℕ) (image : Image) : Type 0 where
 abbrev pub has_byte : Segment → (address : ℕ) → Bool
 has_byte s address = nat_le s.addr address && nat_lt address (s.addr + s.size)
 
--- the byte at an address of a segment, which is 0 behind those of the file; none where no segment has it
+-- the byte at an address of a segment, which is 0 after those of the file; none if no segment has it
 abbrev pub byte_at : List Segment → (address : ℕ) → Option ℕ
 byte_at segments address = option_map (λ s. slice_index_or s.bytes (address - s.addr) 0) (find (λ s. has_byte s address) segments)
 
--- the bytes of a page, which are 0 where no segment has them
+-- the bytes of a page, which are 0 if no segment has them
 unfoldable pub page_bytes : List Segment → (number : ℕ) → List ℕ
 page_bytes segments number = map (λ address. unwrap_or (byte_at segments address) 0) (range_with_len (PAGE_BYTES * number) PAGE_BYTES)
 

@@ -1,5 +1,5 @@
--- The parts of memory that a file gives (System V ABI, edition 4.1, chapter 5 "Program Header": p_vaddr, p_filesz, p_memsz,
--- p_flags), and what is asked of them together.
+-- The parts of memory that a file gives (System V ABI, edition 4.1, chapter 5 "Program Header": p_vaddr, p_filesz,
+-- p_memsz, p_flags), and what is asked of them together.
 use Rattle.std.specs.Prelude.{All, ◌≡◌, ◌<◌, ◌≤◌, ◌+◌, ◌-◌, ◌*◌, ◌/◌, ℕ, Bool, false, List, [], ◌∷◌, ◌++◌, length, map, fold, max, ◌&&◌, ◌||◌, nat_lt}
 use Rattle.std.specs.List.{AllByRecursion, filter, list_any, range_with_len}
 use Rattle.std.specs.List.Sorted.{IsStrictlyIncreasing}
@@ -7,11 +7,11 @@ use Rattle.dp_base.specs.declared.limits.TheConstants.{PAGE_BYTES, PAGE_NUMBERS,
 use Rattle.elf_image.specs.declared.image.Segment.{Segment}
 use Rattle.elf_image.specs.declared.span.Span.{Span}
 
--- so many bytes from one address on, and so many from another, have a byte in common
+-- two ranges of bytes, each by its address and length, have a byte in common
 abbrev pub meet : (at count other many : ℕ) → Bool
 meet at count other many = (nat_lt 0 count && nat_lt 0 many) && (nat_lt at (other + many) && nat_lt other (at + count))
 
--- no address of a segment lies here or behind
+-- no address of a segment is this one or a later one
 abbrev pub MEMORY_END : ℕ
 MEMORY_END = 0xfffff000
 

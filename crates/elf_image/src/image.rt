@@ -9,7 +9,7 @@ use std::marker::Model;
 /// A part of a guest's memory, as its file gives it.
 #[derive(Drop)]
 pub struct Segment {
-    /// Where it lies.
+    /// Its addresses.
     pub addr: u32,
     /// Its first bytes, from the file; the rest is zero.
     pub bytes: Bytes,
@@ -20,7 +20,7 @@ pub struct Segment {
 }
 
 impl Segment {
-    /// Returns where it lies.
+    /// Returns its address range.
     pub fn span(&self) -> Span
         ensures { result ≡ span_of self.now }
     {
@@ -71,10 +71,10 @@ impl Segments {
 /// What is mapped when a guest starts.
 #[derive(Drop)]
 pub struct Image {
-    /// Where thread 1 starts.
+    /// The address at which thread 1 starts.
     pub entry: u32,
     pub segments: Segments,
-    /// Where the heap starts: at the next page's start behind the segment that ends last.
+    /// The address at which the heap starts: the start of the next page after the segment that ends last.
     pub heap: u32,
     ghost heap_is_theirs: { heap ≡ heap_start (spans_of segments) },
 }

@@ -25,8 +25,8 @@ pub enum ImageFault {
     BadTable,
     /// It wants an interpreter.
     Interp,
-    /// A segment is longer in the file than in memory, isn't in the file, ends past FFFFF000 (hexadecimal), has a page of the
-    /// stack, or has a byte of another segment; or no segment has a byte.
+    /// A segment is longer in the file than in memory, isn't in the file, ends past FFFFF000 (hexadecimal), has a page
+    /// of the stack, or has a byte of another segment; or no segment has a byte.
     BadSegment,
     /// Its pages and the 16 of the stack are more than 1,024.
     TooManyPages,
@@ -34,7 +34,7 @@ pub enum ImageFault {
 }
 
 impl ImageFault {
-    /// The number of the fault, from 1 on, or `None` for `OutOfMemory`.
+    /// Returns the number of the fault, from 1 on, or `None` for `OutOfMemory`.
     pub fn number(self) -> Option<u32>
         ensures { result ≡ number_of self }
     {

@@ -29,8 +29,9 @@ fn meets_one(span: Span, others: &[Span]) -> bool
     others.iter().any(|other| span.meets(*other))
 }
 
-/// Returns the first pages that a guest starts with, by number, rising: those that have a byte of one of the spans, and those of
-/// the stack. There is one more of them than a guest may have, where there are so many.
+/// Returns the numbers of the pages that a guest starts with, in rising order: those that have a byte of one of the
+/// spans, and those of the stack. If there are more than a guest may have, it returns the first of them, one more than
+/// a guest may have.
 pub(crate) fn first_pages(alloc: Global, spans: &[Span]) -> Result<Vec<u32>, OutOfMemory>
     requires { All (λ s. s.addr + s.size ≤ MEMORY_END) spans.now }
     ensures { IfOk result (λ numbers. numbers.items ≡ take (MAX_PAGES + 1) (start_pages spans.now)) }
@@ -69,7 +70,7 @@ fn lesser(a: Option<u32>, b: Option<u32>) -> Option<u32>
     }
 }
 
-/// Returns the start of the next page behind the span that ends last.
+/// Returns the start of the next page after the span that ends last.
 pub(crate) fn heap_start(spans: &[Span]) -> u32
     requires { All (λ s. s.addr + s.size ≤ MEMORY_END) spans.now }
     ensures { result ≡ heap_start spans.now }

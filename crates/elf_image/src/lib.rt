@@ -1,8 +1,9 @@
 //! The reader of ELF files: which files are guests, and what of them is in memory when a guest starts.
 //!
-//! Promises: `load` accepts exactly the files that no row of the table of faults applies to (`specs/Faults.antt`), answers the
-//! first row that applies else, and gives the image of the file (`specs/Image.antt`), whose segments tell the pages that they
-//! give. `laws` says what follows from the definitions alone. Stands on `dp_base` and on `byteorder`.
+//! Promises: `load` accepts exactly the files that no row of the table of faults applies to (`specs/Faults.antt`),
+//! answers the first row that applies else, and gives the image of the file (`specs/Image.antt`), whose segments give
+//! the guest's first pages. `laws` says what follows from the definitions alone. Builds on `dp_base` and on
+//! `byteorder`.
 //!
 //! ```text
 //! match load(alloc, file) {

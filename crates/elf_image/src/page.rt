@@ -11,8 +11,8 @@ use dp_base::limits::{PAGE_BYTES, PAGE_NUMBERS};
 use std::alloc::Global;
 
 impl Segments {
-    /// Returns the pages that a guest starts with, by number, rising: those that have a byte of a segment, and those of the
-    /// stack.
+    /// Returns the pages that a guest starts with, by number, rising: those that have a byte of a segment, and those of
+    /// the stack.
     pub fn start_pages(&self, alloc: Global) -> Result<Vec<u32>, OutOfMemory>
         ensures numbers { IfOk result (λ numbers. numbers.items ≡ start_pages (spans_of self.now)) }
         ensures kept { IfOk result (λ numbers. ArePageNumbers numbers.items) }
@@ -29,7 +29,7 @@ impl Segments {
         page_flags(self.as_slice(), number)
     }
 
-    /// Returns the bytes of a page, which are 0 where no segment has them.
+    /// Returns the bytes of a page, which are 0 if no segment has them.
     pub fn page_bytes(&self, number: u32) -> [u8; 4096]
         requires { number < PAGE_NUMBERS }
         ensures { result ≡ page_bytes self.now number }
@@ -38,7 +38,7 @@ impl Segments {
     }
 }
 
-// Where the segments lie.
+// The addresses of the segments.
 fn spans(alloc: Global, segments: &[Segment]) -> Result<Vec<Span>, OutOfMemory>
     ensures { IfOk result (λ spans. spans.items ≡ spans_of segments.now) }
 {
@@ -73,7 +73,7 @@ fn page_bytes(segments: &[Segment], number: u32) -> [u8; 4096]
     page
 }
 
-// Writes the bytes of a page that a segment has, which are 0 behind those of the file.
+// Writes a segment's bytes to a page. Those after the bytes of the file are 0.
 fn write_part(page: &mut [u8; 4096], segment: &Segment, number: u32)
     requires { number < PAGE_NUMBERS }
     ensures { (offset : ℕ) → offset < PAGE_BYTES → slice_index page.new offset

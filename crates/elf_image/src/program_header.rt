@@ -16,7 +16,7 @@ const PT_LOAD: u32 = 1;
 
 const PT_INTERP: u32 = 3;
 
-/// No address of a segment lies here or behind.
+/// No address of a segment is this one or a later one.
 pub(crate) const MEMORY_END: u64 = PAGE_NUMBERS as u64 * PAGE_BYTES as u64;
 
 /// An entry of the table, without p_paddr and p_align.
@@ -82,8 +82,8 @@ pub(crate) fn loaded(
     Ok(loaded)
 }
 
-/// Returns whether an entry that is loaded is longer in the file than in memory, isn't in the file, ends behind the memory, or
-/// has a page of the stack.
+/// Returns whether an entry that is loaded is longer in the file than in memory, isn't in the file, ends after the
+/// memory, or has a page of the stack.
 pub(crate) fn has_bad_entry(file: &[u8], loaded: &[ProgramHeader]) -> bool
     ensures { result ≡ list_any (is_bad_entry file.now) loaded.now }
 {
@@ -103,7 +103,7 @@ fn is_bad_entry(file: &[u8], p: ProgramHeader) -> bool
         || span.meets(STACK)
 }
 
-/// Returns where the segments of these entries lie: of each entry that has bytes in memory.
+/// Returns the address ranges of the segments of these entries: of each entry that has bytes in memory.
 pub(crate) fn spans(alloc: Global, loaded: &[ProgramHeader]) -> Result<Vec<Span>, OutOfMemory>
     ensures { IfOk result (λ spans. spans.items ≡ map entry_span (filter has_bytes loaded.now)) }
 {

@@ -19,7 +19,7 @@ impl Span {
     ghost use Rattle.elf_image.specs.Next.{IsNextPassing};
     ghost use Rattle.elf_image.specs.Segment.{has_page, meet};
 
-    /// Returns the first address behind it.
+    /// Returns the first address after it.
     pub fn end(self) -> u64
         ensures { result ≡ self.addr + self.size }
     {

@@ -1,4 +1,4 @@
--- What an appended record leaves on the disk, at every moment and behind it.
+-- What an appended record leaves on the disk, at every moment and after it.
 use Rattle.std.proofs.Common.{◌≡◌, ◌⊎◌, inl, ℕ, ◌+◌, ◌-◌, ◌≤◌, Bool, true, false, List, [], ◌∷◌, ◌++◌, length, drop, get_or, refl, sym, ◌∙◌, ap, subst, arith, append_assoc, length-append}
 use Rattle.std.specs.List.{AllByRecursion}
 use Rattle.std.proofs.lemmas.List.{append-nil}
@@ -76,7 +76,7 @@ module _ (end : ℕ) (added : List ℕ) (s : History) (guest : List ℕ) (record
     abbrev P : List ℕ → List ℕ → Type 0
     P = IsBeforeOrAfter guest records_ r s
 
-    -- the frame behind a gate that isn't open, torn or whole
+    -- the frame after a gate that isn't open, torn or whole
     frame-torn : (image sent : List ℕ) → IsTorn end (length added) s image sent → P image sent
     frame-torn image sent torn =
         let pending = subst (λ (p : Pending). IsImage (write_pending end (length added) p) image) is.stands.synced torn.0 in
@@ -89,7 +89,7 @@ module _ (end : ℕ) (added : List ℕ) (s : History) (guest : List ℕ) (record
     frame-moments ok t body = always-weaker (IsTorn end (length added) s) P s t frame-torn (body.moments is.stands.synced (omega (arith, is.at_end)))
 
     module _ (t : History) (body : IsWrittenThrough end added true s t) where
-      -- any gate, and the whole frame behind it
+      -- any gate, and the whole frame after it
       gate-torn : (image sent : List ℕ) → IsTorn (end - 1) 1 t image sent → P image sent
       gate-torn image sent torn =
           let place : end - 1 ≡ length before = omega (arith, is.at_end, size) in

@@ -1,4 +1,4 @@
--- What the bytes of a journal read as, where the gate behind the records is closed, open or torn.
+-- What the bytes of a journal read as, where the gate after the records is closed, open or torn.
 use Rattle.std.proofs.Common.{◌≡◌, ◌≢◌, ◌⊎◌, inl, inr, ℕ, zero, suc, ◌+◌, ◌-◌, ◌≤◌, List, [], ◌∷◌, ◌++◌, length, Option, Some, None, refl, sym, ◌∙◌, ap, subst, arith, append_assoc, length-append}
 use Rattle.std.specs.List.{flat_map, AllByRecursion}
 use Rattle.std.proofs.lemmas.List.{append-nil, take_all}
@@ -46,7 +46,7 @@ gate-cases zero = inr (λ e. absurd cc)
 gate-cases (suc zero) = inl refl
 gate-cases (suc (suc n)) = inr (λ e. absurd (omega arith))
 
--- behind a gate that isn't open no record stands
+-- after a gate that isn't open no record stands
 next-behind-gate : (gate : ℕ) (rest : List ℕ) → gate ≢ open_gate → AreBytes (gate ∷ rest) → next_at (gate ∷ rest) ≡ ended
 next-behind-gate gate rest shut bytes = next_none (gate ∷ rest) (look (fitting_at (gate ∷ rest)) refl)
   where
@@ -57,7 +57,7 @@ next-behind-gate gate rest shut bytes = next_none (gate ∷ rest) (look (fitting
         let same : gate ≡ open_gate = cc in
         absurd (shut same)
 
--- ---- records, and behind them none
+-- ---- records, and after them none
 
 pub reads-up-to : (guest : List ℕ) (records_ : List Record) (rest : List ℕ) → IsGuest guest → AllByRecursion IsRecord records_ → next_at rest ≡ ended → length (records guest records_ ++ rest) ≤ MAX_JOURNAL_BYTES → Reads guest records_ (records guest records_ ++ rest)
 reads-up-to guest records_ rest is are none fits =
@@ -72,7 +72,7 @@ reads-up-to guest records_ rest is are none fits =
     } in
     (place, whole file (ending guest records_ place) (subst (λ (b : List ℕ). IsMadeOf b (ending guest records_ place)) (sym (take_all MAX_JOURNAL_BYTES file fits)) made))
 
--- whatever stands behind a gate that isn't open
+-- whatever follows a gate that isn't open
 pub reads-shut : (guest : List ℕ) (records_ : List Record) (gate : ℕ) (rest image : List ℕ) → IsGuest guest → AllByRecursion IsRecord records_ → gate ≢ open_gate → AreBytes image → image ≡ records guest records_ ++ gate ∷ rest → length image ≤ MAX_JOURNAL_BYTES → Reads guest records_ image
 reads-shut guest records_ gate rest image is are shut bytes all fits =
     subst (λ (l : List ℕ). Reads guest records_ l) (sym all)

@@ -1,4 +1,4 @@
--- What `begin` comes to, by its answer. This project's own.
+-- The outcome of `begin`, by its answer. This project's own.
 use Rattle.std.specs.Prelude.{◌≡◌, ◌⊎◌, ◌<◌, ◌≤◌, ◌+◌, ℕ, false, List, [], length, Result, Ok, Err, None}
 use Rattle.dp_base.specs.Journal.{IsGuest}
 use Rattle.device.specs.Writing.{SentNothing}
@@ -26,7 +26,7 @@ Begun guest (Err begins.OutOfMemory) before after = (before.disk ≡ []) × (aft
 Begun guest (Err begins.DiskFault) before after =
     SentNothing before after × ((before.disk ≡ []) ⊎ (after ≡ before)) × BeginMoments guest before after × LeftNone guest before after
 
--- where a new journal ends, and its room; why one has no room
+-- where a new journal ends, and its maximum length; why it doesn't fit
 abbrev pub HasBegun : (guest_bytes room : ℕ) → Result Journal BeginFault → Type 0
 HasBegun size room (Ok j) = (j ≡ record { end = 10 + size; room = room; count = 0; failed = false }) × (10 + size ≤ room)
 HasBegun size room (Err (begins.InUse len)) = 0 < len
@@ -34,7 +34,7 @@ HasBegun size room (Err (begins.Full end need)) = (end ≡ 0) × (need ≡ 10 + 
 HasBegun size room (Err begins.OutOfMemory) = 10 + size ≤ room
 HasBegun size room (Err begins.DiskFault) = Unit {0}
 
--- where no fault of the disk is answered none was met: the count of its faults, before and after
+-- if no fault of the disk is answered none was met: the count of its faults, before and after
 abbrev pub MetNoFault : Result Journal BeginFault → (faults after : ℕ) → Type 0
 MetNoFault (Ok j) faults after = after ≡ faults
 MetNoFault (Err (begins.InUse len)) faults after = after ≡ faults

@@ -4,12 +4,12 @@ use Rattle.dp_base.specs.declared.limits.TheConstants.{MAX_JOURNAL_BYTES}
 use Rattle.epoch_journal.specs.declared.reading.ReadFault.{ReadFault}
 use Rattle.epoch_journal.specs.declared.reading.ReadFault.TheVariants as reads
 
--- the first bytes of the disk, where it is known
+-- the first bytes of the disk, if it is known
 abbrev pub IsReadWhole : Option (List ℕ) → List ℕ → Type 0
 IsReadWhole None bytes = ⊤
 IsReadWhole (Some disk) bytes = bytes ≡ take MAX_JOURNAL_BYTES disk
 
--- The disk has met no fault, unless the answer names one: the count of its faults, before and after.
+-- The disk had no fault, unless the answer names one: the count of its faults, before and after.
 abbrev pub MetNoOther : {A : Type 0} → Result A ReadFault → (disk disk_after : ℕ) → Type 0
 MetNoOther (Ok done) disk disk_after = disk_after ≡ disk
 MetNoOther (Err reads.OutOfMemory) disk disk_after = disk_after ≡ disk
@@ -22,7 +22,7 @@ abbrev pub IsReadSoFar : Option (List ℕ) → List ℕ → Type 0
 IsReadSoFar None bytes = ⊤
 IsReadSoFar (Some disk) bytes = bytes ≡ take (length bytes) disk
 
--- the same one chunk later; where there was none, all of it was read
+-- the same one chunk later; if there was none, all of it was read
 abbrev pub IsReadOn : Option (List ℕ) → List ℕ → (more : Bool) → Type 0
 IsReadOn None bytes more = ⊤
 IsReadOn (Some disk) bytes more = IsReadSoFar (Some disk) bytes × (more ≡ false → length disk ≤ length bytes)

@@ -1,4 +1,4 @@
--- A journal that stands on a disk: how far it is, and what the disk has. This project's own.
+-- A journal on a disk: how long it is, and what the disk has. This project's own.
 use Rattle.std.specs.Prelude.{◌≡◌, ◌≢◌, ◌<◌, ◌≤◌, ◌^◌, ℕ, Bool, List, [], ◌∷◌, ◌++◌}
 use Rattle.std.specs.List.{flat_map}
 use Rattle.dp_base.specs.Journal.{header, open_gate}
@@ -12,7 +12,7 @@ pub record Journal : Type 0 where
   pub room : ℕ
   -- how many records were acknowledged
   pub count : ℕ
-  -- whether an append met a device's fault
+  -- whether a device failed in an append
   pub failed : Bool
 
 -- what a journal always is
@@ -27,7 +27,7 @@ pub record Stands (guest : List ℕ) (records : List Record) (h : History) : Typ
   pub disk : h.disk ≡ journal_of guest records
   pub synced : IsSynced h
 
--- The same where the gate behind the records is any that isn't open. A record may be appended to it.
+-- A journal on a disk whose gate after the records is any that isn't open. A record may be appended to it.
 pub record IsShut (guest : List ℕ) (records : List Record) (h : History) : Type 0 where
   pub gate : ℕ
   pub shut : gate ≢ open_gate

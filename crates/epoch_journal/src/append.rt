@@ -14,22 +14,23 @@ use journal_text::Frame;
 /// Why a record was not appended.
 #[derive(Clone, Copy, Debug, PartialEq, Eq)]
 pub enum AppendFault {
-    /// The disk failed. What was synced begins with the journal as it was, and the record may be behind it or not; each further
-    /// append answers `Failed`.
+    /// The disk failed. What was synced begins with the journal as it was, and the record may follow it or not. Each
+    /// further append answers `Failed`.
     DiskFault,
-    /// The record ends past the room, and nothing was written: the journal's end, and the frame's length.
+    /// The record ends past the journal's maximum length, and nothing was written: the journal's end, and the frame's
+    /// length.
     Full { end: u64, need: u64 },
-    /// An append before this one met a fault of the disk, and nothing was written: how many records were acknowledged.
+    /// An append before this one failed, and nothing was written: how many records were acknowledged.
     Failed { last: u32 },
 }
 
 impl Journal {
     /// Appends a record, which is acknowledged by `Ok`. Takes no memory.
     ///
-    /// At every moment of the call, also of one that fails, a crash leaves a disk that reads as the journal as it was, or as the
-    /// one with this record behind the others. Once it has answered `Ok` only the latter is left. This holds where the journal
-    /// stands on the disk, as it does behind a `begin` or an `append` that answered `Ok`, and the gate behind its records may
-    /// also be another byte that isn't the open gate.
+    /// At every moment of the call, also of one that fails, a crash leaves a disk that reads as the journal as it was,
+    /// or as the one with this record after the others. Once it has answered `Ok` only the latter is left. This holds
+    /// if the journal is on the disk, as it is after a `begin` or an `append` that answered `Ok`. The gate after its
+    /// records may also be another byte that isn't the open gate.
     pub fn append<W: World>(&mut self, world: &mut W, added: &Frame) -> Result<(), AppendFault>
         ensures history { IfKnown (Appended self.old added.now result) (W.history world.old) (W.history world.new) }
         ensures calls { IfKnown (AppendCalls self.old added.now result) (W.history world.old) (W.history world.new) }
@@ -64,7 +65,7 @@ impl Journal {
     }
 }
 
-// Writes a frame behind the gate at the journal's end, and then opens the gate.
+// Writes a frame after the gate at the journal's end, and then opens the gate.
 fn write_record<W: World>(world: &mut W, end: u64, frame: &[u8]) -> Result<(), Failed>
     requires gate { 0 < end }
     requires fits { end + length frame.now ≤ MAX_JOURNAL_BYTES }

@@ -19,7 +19,8 @@ pub enum BeginFault {
     /// The disk has this many bytes already.
     InUse { len: u64 },
     DiskFault,
-    /// The header ends past the room: the journal's end, and how many bytes are needed from there on.
+    /// The header ends past the journal's maximum length: the journal's end, and how many bytes are needed from there
+    /// on.
     Full { end: u64, need: u64 },
     OutOfMemory,
 }
@@ -43,8 +44,9 @@ impl From<OutOfMemory> for BeginFault {
 impl Journal {
     /// Begins a journal of this guest on an empty disk, with no record. The disk's length is looked at first.
     ///
-    /// At every moment of the call, also of one that fails, a crash leaves a disk that reads as no journal, or as this guest's with
-    /// no record. Once it has answered `Ok` only the latter is left. This holds of a disk on which nothing was pending.
+    /// At every moment of the call, also of one that fails, a crash leaves a disk that reads as no journal, or as this
+    /// guest's with no record. Once it has answered `Ok` only the latter is left. This holds of a disk on which nothing
+    /// was pending.
     pub fn begin<W: World>(
         alloc: Global,
         world: &mut W,

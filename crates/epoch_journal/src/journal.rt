@@ -1,11 +1,11 @@
-// The journal on the disk: its header, and the records behind it, each behind a gate of its own.
+// The journal on the disk: its header, and the records after it, each after a gate of its own.
 //
-// A closed gate stands behind the last record. What is appended is written behind that gate and synced before the gate is
+// A closed gate follows the last record. What is appended is written after that gate and synced before the gate is
 // opened by a write of its own, which is synced too.
 
 use std::marker::Model;
 
-/// A journal that stands on a disk.
+/// A journal on a disk.
 #[derive(Drop)]
 pub struct Journal {
     pub(crate) end: u64,

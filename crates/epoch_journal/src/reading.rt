@@ -57,7 +57,7 @@ pub fn read_whole<W: World>(alloc: Global, world: &mut W) -> Result<Vec<u8>, Rea
     Ok(bytes)
 }
 
-// Reads on behind these bytes, up to 2^30 in all. Returns whether there was something.
+// Reads on after these bytes, up to 2^30 in all. Returns whether there was something.
 fn read_chunk<W: World>(world: &mut W, bytes: &mut Vec<u8>) -> Result<bool, ReadFault>
     requires { length bytes.old.items < MAX_JOURNAL_BYTES }
     ensures bytes { IfOk result (λ more. IsReadSoFar (known_disk (W.history world.old)) bytes.old.items →

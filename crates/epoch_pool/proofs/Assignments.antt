@@ -84,14 +84,14 @@ some_result w j [] [] have = have
 some_result w j [] (x ∷ rest) have = have
 some_result w j (h ∷ hs) rest have = run_some w h j (queues_last w hs (h ++ j ∷ []) rest [] have).1
 
--- what is left of the jobs, with the results of those that are behind
+-- what is left of the jobs, with the results of those that are after
 pub record Gathering (jobs : List Job) (start : List (List Job)) (w : Supplied) (left : ℕ) (all : List (List Ran)) (ordered : List Ran) : Type 0 where
   pub within : left ≤ length jobs
   pub some : 0 < length start
   pub queues : AllHaveRun (assigned (take left jobs) start) w all
   pub results : HaveRun (drop left jobs) w (reverse ordered)
 
--- the job at a place, which ends what is in front and begins what is behind
+-- the job at a place, which ends what is in front and begins what is after
 record JobAt (jobs : List Job) (m : ℕ) : Type 0 where
   job : Job
   front : take (m + 1) jobs ≡ take m jobs ++ job ∷ []

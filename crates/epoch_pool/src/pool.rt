@@ -41,8 +41,8 @@ fn run_workers<R: Threads + Sync, G: Gate + Sync>(
     thread::map_vec(rt, queues, &|queue| run_jobs(alloc, queue, supply, gate))
 }
 
-/// Runs the epochs of jobs side by side, in at most this many threads: worker 1 runs the first job, worker 2 the second, and so on in
-/// turn. Before each job its worker passes the gate. The results are in the order of the jobs.
+/// Runs the epochs of jobs side by side, in at most this many threads: worker 1 runs the first job, worker 2 the
+/// second, and so on in turn. Before each job its worker passes the gate. The results are in the order of the jobs.
 ///
 /// # Errors
 ///

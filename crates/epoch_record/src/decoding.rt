@@ -15,8 +15,8 @@ use slice_log::SliceLog;
 use std::alloc::Global;
 use syscall_log::AnswerLog;
 
-/// Returns the epoch whose record has this body. Returns `None` exactly if no epoch's record has it: also where a byte is
-/// left over.
+/// Returns the epoch whose record has this body. Returns `None` exactly if no epoch's record has it, also if a byte is
+/// left.
 pub fn decode(alloc: Global, body: &[u8]) -> Result<Option<Epoch>, OutOfMemory>
     ensures { IfOk result (λ found. option_map epoch_of found ≡ whole epoch_body_at body.now) }
 {
@@ -32,7 +32,7 @@ pub fn decode(alloc: Global, body: &[u8]) -> Result<Option<Epoch>, OutOfMemory>
     }
 }
 
-// The epoch whose body stands at the start, and the bytes behind it.
+// The epoch whose body is at the start, and the bytes after it.
 #[tactic(auto, unfolding(dp_base::specs::Journal::epoch_body_at))]
 fn read_epoch(alloc: Global, bytes: &[u8]) -> Result<Option<(Epoch, &[u8])>, OutOfMemory>
     ensures { IfOk result (λ found. option_map (λ x. (epoch_of x.0, x.1.now)) found ≡ epoch_body_at bytes.now) }
@@ -59,7 +59,7 @@ fn read_epoch(alloc: Global, bytes: &[u8]) -> Result<Option<(Epoch, &[u8])>, Out
     }
 }
 
-// So many slices at the start, and the bytes behind them.
+// The first `count` slices, and the bytes after them.
 fn read_slices(
     alloc: Global,
     count: u32,
@@ -79,7 +79,7 @@ fn read_slices(
     Ok(Some((slices, rest)))
 }
 
-// So many answers at the start, and the bytes behind them.
+// The first `count` answers, and the bytes after them.
 fn read_answers(
     alloc: Global,
     count: u32,

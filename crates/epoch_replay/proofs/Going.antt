@@ -63,7 +63,7 @@ full_is base s c right is = record { plays = λ number others tail. mark_plays b
 pub partial_is : (base s : State) (m : Partial) (right : Bool) → is_right_if (applied (checkpoint_of base) m) s ≡ right → IsMark base s (partial m) right
 partial_is base s m right is = record { plays = λ number others tail. partial_plays base s number m others tail right is; no_epoch = λ others. refl }
 
--- no record, by what stands in its place
+-- no record, by what is in its place
 abbrev none_left_plays : State → Tail → Played
 none_left_plays s (end place) = stopped (Ok s)
 none_left_plays s (bad_record number) = stopped (Err (bad_journal number))
@@ -205,7 +205,7 @@ module _ (reading : Reading) (file : List ℕ) (first now : Option History) (p :
     pub malformed : next_at (drop p.at file) ≡ bad → Replayed (Some reading) first now (Err (faults.BadJournal p.number))
     malformed is = refused (bad_journal p.number) (ends_with bad is)
 
-  -- ---- a record is left, and the next one stands at this place
+  -- ---- a record is left, and the next one is at this place
 
   module _ (next : ℕ) (r : Record) (one : list_from (drop p.at file) ≡ (r ∷ (list_from (drop next file)).0, (list_from (drop next file)).1)) where
     one_left : left_at file p.at ≡ r ∷ left_at file next

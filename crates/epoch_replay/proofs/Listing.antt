@@ -42,7 +42,7 @@ nothing_shown h = (
   quiet [] h h refl,
 )
 
--- a line is sent behind a text, whole or in part
+-- a line is sent after a text, whole or in part
 module _ (whole text line others : List ℕ) (first now later : Option History) (is : whole ≡ text ++ (line ++ others)) (shown : Shown text first now) where
   joined : whole ≡ (text ++ line) ++ others
   joined = is ∙ sym (append_assoc text line others)
@@ -59,7 +59,7 @@ module _ (whole text line others : List ℕ) (first now later : Option History) 
 -- ---- where an inspection is
 
 module _ (reading : Reading) (file : List ℕ) (first now : Option History) (here : Listing) (so_far : ListedSoFar reading file first now here) where
-  -- ---- a record is left, and the next one stands at this place
+  -- ---- a record is left, and the next one is at this place
 
   module _ (next : ℕ) (r : Record) (one : list_from (drop here.at file) ≡ (r ∷ (list_from (drop next file)).0, (list_from (drop next file)).1)) (later : Option History) where
     next_line : inspection reading ≡ so_far.text ++ (record_line here.number r ++ (record_lines (here.number + 1) (left_at file next) ++ tail_line reading.tail))
@@ -159,7 +159,7 @@ module _ (file guest : List ℕ) (n : ℕ) (size : n ≡ length guest) (first la
 pub at_reading : (o : Option Reading) (reading : Reading) (before after : Option History) (answer : Result (Unit {0}) InspectFault) → o ≡ Some reading → Inspected (Some reading) before after answer → Inspected o before after answer
 at_reading o reading before after answer is inspected = subst (λ (q : Option Reading). Inspected q before after answer) (sym is) inspected
 
--- no byte behind the first ones is read
+-- no byte after the first ones is read
 pub inspected_on_disk : (known : Option (List ℕ)) (file : List ℕ) (before after : Option History) (answer : Result (Unit {0}) InspectFault) → IsReadWhole known file → Inspected (reads file) before after answer
     → OnDisk known (λ bytes. Inspected (reads bytes) before after answer)
 inspected_on_disk None file before after answer is inspected = (file, inspected)

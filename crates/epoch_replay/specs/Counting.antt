@@ -1,4 +1,5 @@
--- What records hold, as far as their lines say it, and the same as a reader finds it in their bodies. This project's own.
+-- What records hold, as far as their lines say it, and the same as a reader finds it in their bodies. This project's
+-- own.
 use Rattle.std.specs.Prelude.{ℕ, List, length, Option, Some}
 use Rattle.dp_base.specs.Field.{◌>>=◌, number_at}
 use Rattle.dp_base.specs.Journal.{Epoch, many_at, slice_at, steps_of}

@@ -1,4 +1,4 @@
--- What an inspection comes to, by its answer, and where one is. This project's own.
+-- The outcome of an inspection, by its answer, and how far one is. This project's own.
 use Rattle.std.specs.Prelude.{◌≡◌, ◌+◌, ◌-◌, ◌≤◌, ℕ, Bool, true, false, List, [], ◌++◌, length, drop, Option, Some, None, Result, Ok, Err}
 use Rattle.disk_model.specs.History.{History}
 use Rattle.disk_model.specs.Known.{IfKnown}
@@ -18,7 +18,8 @@ abbrev pub of_read : ReadFault → InspectFault
 of_read reads.DiskFault = faults.DiskFault
 of_read reads.OutOfMemory = faults.OutOfMemory
 
--- No device has met a fault but the one that the answer names: the counts of the disk's faults and of the sink's, before and after.
+-- No device has failed but the one that the answer names: the counts of the disk's faults and of the sink's, before and
+-- after.
 abbrev pub MetNoOther : {A : Type 0} → Result A InspectFault → (disk disk_after sink sink_after : ℕ) → Type 0
 MetNoOther (Ok done) disk disk_after sink sink_after = (disk_after ≡ disk) × (sink_after ≡ sink)
 MetNoOther (Err faults.DiskFault) disk disk_after sink sink_after = sink_after ≡ sink

@@ -1,5 +1,5 @@
--- What an inspection says of a journal: a line for the guest, one for each record, and one for the list's end if no record is bad.
--- This project's own.
+-- What an inspection says of a journal: a line for the guest, one for each record, and one for the list's end if no
+-- record is bad. This project's own.
 use Rattle.std.specs.Prelude.{◌+◌, ℕ, List, [], ◌∷◌, ◌++◌, length, codes, decimal}
 use Rattle.std.specs.List.{concat}
 use Rattle.dp_base.specs.Journal.{steps_of}

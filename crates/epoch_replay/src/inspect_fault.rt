@@ -6,7 +6,8 @@ ghost use Rattle.epoch_replay.specs.declared.inspect_fault.InspectFault.TheVaria
 use disk_model::Failed;
 use epoch_journal::ReadFault;
 
-/// Why an inspection stopped before the journal's end. The disk is as it was. Records count from 1, epochs and marks together.
+/// Why an inspection stopped before the journal's end. The disk is as it was. Records count from 1, epochs and marks
+/// together.
 #[derive(Clone, Copy, Debug, PartialEq, Eq)]
 pub enum InspectFault {
     /// The disk has no journal. Nothing was sent.

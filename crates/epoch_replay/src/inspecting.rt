@@ -21,7 +21,7 @@ use itoa::Buffer;
 use journal_text::{Head, Rec, header, next_record};
 use std::alloc::Global;
 
-/// Where an inspection is in its journal.
+/// How far an inspection is in its journal.
 #[derive(Clone, Copy)]
 pub(crate) struct Listing {
     /// The offset of the next record's gate.
@@ -30,9 +30,9 @@ pub(crate) struct Listing {
     pub number: u32,
 }
 
-/// Lists the journal on the attached disk, on Out: the length of the guest's file, a line for each record, and the offset at which the
-/// list ends. Epochs and marks are numbered together. No record is run. Nothing is sent on Note. The world comes back whatever
-/// happens. The disk is read once, from its start, and isn't written.
+/// Lists the journal on the attached disk, on Out: the length of the guest's file, a line for each record, and the
+/// offset at which the list ends. Epochs and marks are numbered together. No record is run. Nothing is sent on Note.
+/// The world is returned whatever happens. The disk is read once, from its start, and isn't written.
 ///
 /// No memory is taken beside that for the journal's bytes, and none after the first line.
 ///
@@ -101,7 +101,7 @@ fn inspect_file<W: World>(world: &mut W, file: &[u8]) -> Result<(), InspectFault
     Ok(())
 }
 
-// Sends the line of the record where the inspection is, or of the list's end. Returns whether there was a record.
+// Sends the line of the record at the inspection's offset, or of the list's end. Returns whether there was a record.
 fn list_record<W: World>(
     world: &mut W,
     file: &[u8],

@@ -15,7 +15,7 @@ ghost use Rattle.epoch_replay.specs.Play.{is_right, play_from, play_of};
 ghost use Rattle.epoch_replay.specs.Parts.{IsWithinMarks, first_part, marked_parts, play_parts, stretch};
 ghost use Rattle.epoch_replay.specs.Replaying.{IsReplaying};
 
-/// A mark is right exactly where it is all that the guest is there.
+/// A mark is right exactly if it is the guest's whole state there.
 pub fn a_right_mark_is_the_state()
     ensures { (c : Checkpoint) (s : State) → IsCheckpoint c → IsEncodable s → (is_right c s ≡ true) ↔ (c ≡ checkpoint_of s) }
 {
@@ -28,9 +28,9 @@ pub fn a_crash_in_a_replay_leaves_the_disk()
         IsReplaying output before image sent → image ≡ before.disk }
 {}
 
-/// Playing records one after another is playing each stretch between two marks from its own mark: what comes of it is joined up to the first
-/// stretch that stops, or whose end isn't the next mark. A partial mark's state is taken against that of the mark before it, without
-/// any epoch.
+/// Playing records one after another is playing each stretch between two marks from its own mark: the results are
+/// joined up to the first stretch that stops, or whose end isn't the next mark. A partial mark's state is taken against
+/// that of the mark before it, without any epoch.
 pub fn a_play_is_that_of_its_stretches()
     ensures records { (base s : State) (number : ℕ) (records : List Record) (tail : Tail) → IsEncodable base →
         AllByRecursion IsRecord records → IsWithinMarks (length records) s → play_from base s number records tail

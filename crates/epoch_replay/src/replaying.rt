@@ -26,14 +26,15 @@ use journal_text::{Head, Rec, header, next_record};
 use std::alloc::Global;
 use std::thread::Threads;
 
-/// Replays the journal on the attached disk: sends the output of its epochs on Out, in order, and then the report's line on
-/// Note. The world comes back whatever happens. The disk is read once, from its start, and isn't written. With one
-/// worker the epochs run one after another. With more, the stretches between marks run side by side, at most `workers` of them, and
-/// at most 64. Where the answer is `DiskFault`, `OutputFault` or `OutOfMemory`, another number of workers may have come further, or less
-/// far. All other answers are the same for every number, and so is all that is sent then.
+/// Replays the journal on the attached disk: sends the output of its epochs on Out, in order, and then the report's
+/// line on Note. The world is returned whatever happens. The disk is read once, from its start, and isn't written. With
+/// one worker the epochs run one after another. With more, the stretches between marks run side by side, at most
+/// `workers` of them, and at most 64. If the answer is `DiskFault`, `OutputFault` or `OutOfMemory`, another number of
+/// workers may have gone further, or less far. All other answers are the same for every number, and so is all that is
+/// sent then.
 ///
-/// At every moment of the call the disk is as it was, so a crash leaves the journal, and what was sent is a prefix of the output that
-/// the journal plays to.
+/// At every moment of the call the disk is as it was, so a crash leaves the journal, and what was sent is a prefix of
+/// the output that the journal plays to.
 ///
 /// # Errors
 ///
@@ -61,8 +62,8 @@ pub fn replay<R: Threads + Sync, W: World>(
     replay_through(rt, alloc, world, workers, &OpenGate)
 }
 
-/// Replays as [`replay`] does, and passes a gate before each stretch that runs beside others: as worker and as job the stretch's number
-/// among those, from 1.
+/// Replays as [`replay`] does, and passes a gate before each stretch that runs beside others: as worker and as job the
+/// stretch's number among those, from 1.
 ///
 /// # Errors
 ///
@@ -238,7 +239,7 @@ fn play_on<R: Threads + Sync, W: World, G: Gate + Sync>(
     play_record(alloc, world, file, progress)
 }
 
-// Plays the record where the replay is. Returns whether there was one.
+// Plays the record at the replay's offset. Returns whether there was one.
 fn play_record<W: World>(
     alloc: Global,
     world: &mut W,

@@ -26,7 +26,7 @@ pub(crate) struct PartJob {
     pub stretch: Stretch,
 }
 
-/// A stretch that was run, and what it results in. It says nothing of what comes before it.
+/// A stretch that was run, and its results. It says nothing of what precedes it.
 #[derive(Drop)]
 pub(crate) struct Stretch {
     /// The gate of its first record.
@@ -47,8 +47,8 @@ pub(crate) struct Stretch {
     pub epochs: u32,
 }
 
-/// Runs a stretch of the file: its epochs up to the next mark, or up to a limit of this file. Returns `None` if an epoch can't be
-/// run. `None` says nothing of the journal: the replay runs these records itself.
+/// Runs a stretch of the file: its epochs up to the next mark, or up to a limit of this file. Returns `None` if an
+/// epoch can't be run. `None` says nothing of the journal: the replay runs these records itself.
 pub(crate) fn run_job<G: Gate>(
     alloc: Global,
     file: &[u8],
@@ -97,7 +97,8 @@ pub(crate) fn begin_at(
     })
 }
 
-/// Begins a stretch with the mark at this gate, over this base. Returns `None` if there is no mark, or if it has no state.
+/// Begins a stretch with the mark at this gate, over this base. Returns `None` if there is no mark, or if it has no
+/// state.
 pub(crate) fn begin_at_mark(
     alloc: Global,
     file: &[u8],

@@ -26,13 +26,13 @@ use std::alloc::{AllocError, Global};
 use std::thread;
 use std::thread::Threads;
 
-// A stretch is worth a thread if its work comes to this on average: about a tenth of a millisecond. Starting a thread and
-// joining it takes 3 to 15 microseconds.
+// A stretch is worth a thread if its work is this much on average: about a tenth of a millisecond. Starting a thread
+// and joining it takes 3 to 15 microseconds.
 const WORTH_A_THREAD: u64 = 16_384;
 
-/// Runs stretches side by side from where the replay is, if it is at the first record or at a mark, and takes the results in
-/// order, up to the first whose start the play doesn't reach. Returns whether the replay went on. With one worker it returns
-/// `false` at once.
+/// Runs stretches side by side from the replay's offset, if it is at the first record or at a mark, and takes the
+/// results in order, up to the first whose start the play doesn't reach. Returns whether the replay went on. With one
+/// worker it returns `false` at once.
 pub(crate) fn play_window<R: Threads + Sync, W: World, G: Gate + Sync>(
     rt: &R,
     alloc: Global,
@@ -81,8 +81,8 @@ pub(crate) fn play_window<R: Threads + Sync, W: World, G: Gate + Sync>(
     Ok(progress.at > before)
 }
 
-// The jobs of a window: one from where the replay is, and one from each of the next marks, at most `ahead` of them. The marks are opened
-// in their order, each over the one before. Empty if their stretches aren't worth their threads.
+// The jobs of a window: one from the replay's offset, and one from each of the next marks, at most `ahead` of them. The
+// marks are opened in their order, each over the one before. Empty if their stretches aren't worth their threads.
 fn jobs_from(
     alloc: Global,
     file: &[u8],
@@ -124,7 +124,7 @@ fn jobs_from(
     Ok(jobs)
 }
 
-// A stretch from where the replay is: with the mark there, or else in the replay's state.
+// A stretch from the replay's offset: with the mark there, or else in the replay's state.
 fn begin_here(
     alloc: Global,
     file: &[u8],
@@ -141,7 +141,7 @@ fn begin_here(
     }
 }
 
-// How many marks come after the record at this gate, at most `ahead`, and the gate of the last of them.
+// How many marks follow the record at this gate, at most `ahead`, and the gate of the last of them.
 fn last_mark(file: &[u8], gate: u64, ahead: u32) -> (u32, u64) {
     let mut last = gate;
     'marks: for count in 0..ahead {
@@ -153,14 +153,15 @@ fn last_mark(file: &[u8], gate: u64, ahead: u32) -> (u32, u64) {
     (ahead, last)
 }
 
-// An estimate of the work from where the replay is up to the mark at this gate: the steps, and a sixteenth of the bytes. The
-// mark's own count of steps is believed, since it decides only whether threads are started.
+// An estimate of the work from the replay's offset up to the mark at this gate: the steps, and a sixteenth of the
+// bytes. The mark's own count of steps is believed, since it decides only whether threads are started.
 fn work_up_to(file: &[u8], progress: &Progress, gate: u64) -> u64 {
     let steps = steps_of_mark(file, gate).saturating_sub(progress.state.steps);
     steps.saturating_add(gate.saturating_sub(progress.at) / 16)
 }
 
-// The count of steps in the mark at this gate: the first field after the gate, the length and the kind. 0 if it is cut off.
+// The count of steps in the mark at this gate: the first field after the gate, the length and the kind. 0 if it is cut
+// off.
 fn steps_of_mark(file: &[u8], gate: u64) -> u64 {
     if gate >= file.len() as u64 {
         return 0;
@@ -265,7 +266,8 @@ fn take_all<W: World>(
     Ok(())
 }
 
-// Takes a stretch if it begins where the replay is, in the same state and over the same base. Returns whether it was taken.
+// Takes a stretch if it begins at the replay's offset, in the same state and over the same base. Returns whether it was
+// taken.
 fn take<W: World>(
     world: &mut W,
     file: &[u8],

@@ -21,8 +21,8 @@ impl Gate for CountGate {
     }
 }
 
-// The journal has six stretches that are worth a thread: with two workers the first of each two is held until the second has begun. One
-// worker runs no stretch beside another.
+// The journal has six stretches that are worth a thread: with two workers the first of each two is held until the
+// second has begun. One worker runs no stretch beside another.
 #[test]
 fn two_stretches_run_at_once(rt: HostRuntime) -> Result<(), Fail> {
     let alloc = rt.alloc();

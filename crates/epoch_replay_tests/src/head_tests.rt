@@ -7,9 +7,9 @@ use test_worlds::Failing;
 
 const BITS: [u8; 3] = [1, 2, 0x80];
 
-// What a replay answers after each of these bits was changed in the byte at an offset of the record's head. A gate that isn't 01 ends
-// the records. So does a length that goes past the end of the file, of about 350,000 bytes. The body has 69,880 bytes (hex 110F8); one of
-// another length that is in the file, or of another kind, is malformed.
+// What a replay answers after each of these bits was changed in the byte at an offset of the record's head. A gate that
+// isn't 01 ends the records. So does a length that goes past the end of the file, of about 350,000 bytes. The body has
+// 69,880 bytes (hex 110F8); one of another length that is in the file, or of another kind, is malformed.
 const HEAD: [(usize, [Result<u32, ReplayFault>; 3]); 6] = [
     (0, [Ok(1), Ok(1), Ok(1)]),
     (1, [MALFORMED, MALFORMED, MALFORMED]),
@@ -21,8 +21,8 @@ const HEAD: [(usize, [Result<u32, ReplayFault>; 3]); 6] = [
 
 const MALFORMED: Result<u32, ReplayFault> = Err(ReplayFault::BadJournal(2));
 
-// The mark after the first epoch is record 2. Its gate comes after the header, which has 9 bytes and the guest's file, and after record 1,
-// which has 20 bytes.
+// The mark after the first epoch is record 2. Its gate comes after the header, which has 9 bytes and the guest's file,
+// and after record 1, which has 20 bytes.
 #[test]
 fn each_byte_of_a_head(rt: HostRuntime) -> Result<(), Fail> {
     let alloc = rt.alloc();

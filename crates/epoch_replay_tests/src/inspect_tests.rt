@@ -94,7 +94,8 @@ fn counts_of_an_epoch(rt: HostRuntime) -> Result<(), Fail> {
     Ok(())
 }
 
-// Epochs and marks, numbered together, of which none is judged: `w` and `h` are wrong marks, and `b` is an epoch that can't be run.
+// Epochs and marks, numbered together, of which none is judged: `w` and `h` are wrong marks, and `b` is an epoch that
+// can't be run.
 #[test]
 fn marks(rt: HostRuntime) -> Result<(), Fail> {
     let alloc = rt.alloc();

@@ -76,7 +76,7 @@ fn mark(alloc: Global, file: &[u8], epochs: u32, steps: u64) -> Result<Vec<u8>, 
     } else {
         body.push(0)?;
     }
-    // one thread, which runs: pc, no clear address, and the registers
+    // one thread, which runs: pc, no clear-on-exit address, and the registers
     body.extend_from_slice(&[1, 0, 0])?;
     body.extend_from_slice(&pc(epochs).to_le_bytes())?;
     body.extend_from_slice(&[0; 4])?;
@@ -124,8 +124,9 @@ fn body(alloc: Global, file: &[u8], letter: u8, epochs: u32) -> Result<Vec<u8>, 
     }
 }
 
-/// The journal whose records have these letters: `e` an epoch of one pass, `x` the last epoch, `b` an epoch that can't be run, `m` the
-/// mark of the guest there, `w` one of another state, `h` one of 2^63 steps, and any other letter a malformed record.
+/// The journal whose records have these letters: `e` an epoch of one pass, `x` the last epoch, `b` an epoch that can't
+/// be run, `m` the mark of the guest there, `w` one of another state, `h` one of 2^63 steps, and any other letter a
+/// malformed record.
 pub(crate) fn journal(alloc: Global, letters: &[u8]) -> Result<Vec<u8>, Fail> {
     let file = guest(alloc)?;
     let mut journal = journal_of(alloc, &file, &[])?;

@@ -1,8 +1,8 @@
 //! Replays of journals with marks, by one worker and by several, on disks in memory: each answers and sends the same.
 //!
-//! This crate is its tests. `journals` makes a journal out of letters, one for each record. Its guest writes one byte in each epoch,
-//! and an epoch is long enough that its stretch gets a thread.
-//! `partial_journals` does the same with partial marks, of a guest that stores a word.
+//! This crate is its tests. `journals` makes a journal out of letters, one for each record. Its guest writes one byte
+//! in each epoch, and an epoch is long enough that its stretch gets a thread. `partial_journals` does the same with
+//! partial marks, of a guest that stores a word.
 #![tactic(auto)]
 
 #[cfg(test)]

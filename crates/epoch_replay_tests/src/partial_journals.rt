@@ -4,7 +4,8 @@ use std::test::Fail;
 use test_files::{WRITES, file_of};
 use test_journals::journal_of;
 
-// A pass counts down from 8,192, adds 1 to x7, and stores its lowest bit in the last page of the stack. There is no end.
+// A pass counts down from 8,192, adds 1 to x7, and stores its lowest bit in the last page of the stack. There is no
+// end.
 const WORDS: [u32; 7] = [
     0x0000_2337, // lui x6, 2
     0xfff3_0313, // addi x6, x6, -1
@@ -42,7 +43,7 @@ fn fields(alloc: Global, kind: u8, hart: Hart) -> Result<Vec<u8>, Fail> {
     body.extend_from_slice(&0x0001_1000u32.to_le_bytes())?;
     body.extend_from_slice(&0x0001_1000u32.to_le_bytes())?;
     body.push(0)?;
-    // one thread, which runs: pc, no clear address, and the registers
+    // one thread, which runs: pc, no clear-on-exit address, and the registers
     body.extend_from_slice(&[1, 0, 0])?;
     body.extend_from_slice(&hart.pc.to_le_bytes())?;
     body.extend_from_slice(&[0; 4])?;
@@ -155,10 +156,10 @@ fn body(alloc: Global, file: &[u8], letter: u8, passes: u32) -> Result<Vec<u8>, 
     }
 }
 
-/// The journal whose records have these letters: `e` an epoch of one pass, `b` an epoch that can't be run, `m` a full mark of the guest
-/// there, `p` a partial one with the bytes of the page that changes, `s` one without bytes, `o` one with the bytes of the page as it is
-/// an odd number of passes later, `t` one after two more passes, `l` one with a page that no base has, and any other letter a partial
-/// mark with a byte too many.
+/// The journal whose records have these letters: `e` an epoch of one pass, `b` an epoch that can't be run, `m` a full
+/// mark of the guest there, `p` a partial one with the bytes of the page that changes, `s` one without bytes, `o` one
+/// with the bytes of the page as it is an odd number of passes later, `t` one after two more passes, `l` one with a
+/// page that no base has, and any other letter a partial mark with a byte too many.
 pub(crate) fn partial_journal(alloc: Global, letters: &[u8]) -> Result<Vec<u8>, Fail> {
     let file = file_of(alloc, &WORDS)?;
     let mut journal = journal_of(alloc, &file, &[])?;
@@ -211,7 +212,8 @@ fn stepped(steps: u32) -> Hart {
     }
 }
 
-/// The journal of the guest that writes three bytes, in nine epochs of one step, with a partial mark after each but the last.
+/// The journal of the guest that writes three bytes, in nine epochs of one step, with a partial mark after each but the
+/// last.
 pub(crate) fn each_step(alloc: Global) -> Result<Vec<u8>, Fail> {
     let mut journal = journal_of(alloc, &WRITES, &[])?;
     journal.pop();

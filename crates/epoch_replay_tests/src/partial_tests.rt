@@ -71,8 +71,8 @@ fn wrong_marks(rt: HostRuntime) -> Result<(), Fail> {
     Ok(())
 }
 
-// What a replay answers and sends if the byte at this offset is replaced. Record 2 is the first mark: its count of steps is at 159, and
-// the kind of its last page at 422. The output comes from record 11.
+// What a replay answers and sends if the byte at this offset is replaced. Record 2 is the first mark: its count of
+// steps is at 159, and the kind of its last page at 422. The output comes from record 11.
 fn changed() -> [(usize, u8, Result<u32, ReplayFault>, &'static str); 4] {
     [
         (159, 1, Ok(9), "hi\n"),

@@ -65,8 +65,8 @@ fn is_same<R: Threads + Sync>(
     )
 }
 
-/// What replays by 1, 2, 3 and 64 workers of the journal with these letters answer, and how many bytes of the guest's file each sends, if
-/// they all do the same.
+/// What replays by 1, 2, 3 and 64 workers of the journal with these letters answer, and how many bytes of the guest's
+/// file each sends, if they all do the same.
 pub(crate) fn by_all<R: Threads + Sync>(
     rt: &R,
     alloc: Global,

@@ -26,7 +26,7 @@ use Rattle.sync_hints.specs.declared.hints.Hints.{Hints}
 use Rattle.epoch_runner.specs.Hinted.{Following, any_left, at_entry, lefts}
 use Rattle.std.proofs.lemmas.Bool.{cond-false}
 
--- the slices that are over are a run, and behind it so many turns of a thread; each with the answers that it took
+-- the slices that are over are a run, and after it so many turns of a thread; each with the answers that it took
 pub record PartOfSlice (start : State) (c : Course) (tid : Tid) : Type 0 where
   pub before : List Answer
   pub taken : List Answer

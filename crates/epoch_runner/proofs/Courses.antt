@@ -49,7 +49,7 @@ pub course-alike : (n : ℕ) (w : Supplied) (bounds : Bounds) (c d : Course) →
 course-alike zero w bounds c d some is = absurd (omega (arith, some))
 course-alike (suc n) w bounds c d some is = first_step n w bounds c ∙ ap (λ o. o >>= course n w bounds) is ∙ sym (first_step n w bounds d)
 
--- behind the end there is nothing
+-- after the end there is nothing
 past_end : (n : ℕ) (w : Supplied) (bounds : Bounds) (c : Course) → next c.state w bounds (progress c) ≡ ends → course (suc n) w bounds c ≡ None
 past_end n w bounds c stops = first_step n w bounds c ∙ ap (λ x. followed w c x >>= course n w bounds) stops
 

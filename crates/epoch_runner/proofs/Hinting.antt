@@ -132,7 +132,7 @@ module _ (laws : TurnLaws) (reserved : ReservationLaw) where
           ∙ ap (λ (d : List Slice). inside_by s t d tid z.in_slice false hints) (sym held.done_is)
           ∙ ap (λ (n : ℕ). inside_by s t slices tid n false hints) (sym held.held_is)
 
-  -- the course behind the turns that were taken
+  -- the course after the turns that were taken
   record Taken (w : Supplied) (bounds : Bounds) (here : Course) (tid : Tid) (s : State) (slices : List Slice) (before : Traced) (held steps : ℕ) (f : Following) (after : State) (behind : Traced) : Type 0 where
     there : Course
     went : course steps w bounds here ≡ Some there

@@ -40,7 +40,7 @@ lefts-before counts index d some within =
     at_drop_more lefts counts (index - 1) d (omega (arith, some, within)) ∙ lefts-more (slice_index_or counts (index - 1) d) (drop ((index - 1) + 1) counts)
     ∙ ap (λ n. with_number (slice_index_or counts (index - 1) d).0.0 (slice_index_or counts (index - 1) d).1 (lefts (drop n counts))) one
 
--- ---- behind some steps of a thread
+-- ---- after some steps of a thread
 
 -- a place that isn't there is not set
 set_past : (xs : List ℕ) (i x : ℕ) → slice_get xs i ≡ None → slice_set xs i x ≡ xs

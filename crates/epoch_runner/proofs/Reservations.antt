@@ -39,7 +39,7 @@ same_parts s t w (Some x) pages input =
     ap (λ m. is_running x && not (is_unanswered w (thread_peeked m t.input (Some x)))) pages
     ∙ ap (λ i. is_running x && not (is_unanswered w (thread_peeked s.pages i (Some x)))) input
 
--- what is the same behind each slice is the same where none was begun
+-- what is the same after each slice is the same where none was begun
 closed_keeps : {X : Type 0} (of : Course → X) (c : Course) (last : Option Tid) → ((t : Tid) → of (closed_by c (Some t)) ≡ of c) → of (closed_by c last) ≡ of c
 closed_keeps of c None same = refl
 closed_keeps of c (Some t) same = same t

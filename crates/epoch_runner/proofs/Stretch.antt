@@ -68,7 +68,7 @@ pub record HasRoom (bounds : Bounds) (t : Traced) (done : List Slice) (before st
   pub little : length t.output < EPOCH_END_BYTES
   pub little_read : length (bytes_read t.answers) < EPOCH_END_BYTES
 
--- what is traced behind a turn
+-- what is traced after a turn
 abbrev pub traced_more : Traced → List ℕ → List Answer → Traced
 traced_more t output answers = record { output = t.output ++ output; answers = t.answers ++ answers }
 

@@ -79,7 +79,7 @@ undefined_at here refusal = Err (0, here)
 abbrev one_turn_from : After → Result After TurnRefusal → Result After (ℕ × After)
 one_turn_from here r = either r (undefined_at here) (λ after. Ok (joined here after))
 
--- a turn with answers left over
+-- a turn with answers left
 turn_longer : RunLaws → (s : State) (tid : Tid) (log more : List Answer) (there : After) → turn s tid log ≡ Ok there → turn s tid (log ++ more) ≡ Ok (record there { rest = there.rest ++ more })
 unfolding turns
 turn_longer laws s tid log more there is =

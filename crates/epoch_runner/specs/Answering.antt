@@ -16,13 +16,13 @@ use Rattle.turn_peek.specs.declared.peek.Peek.TheVariants as peeks
 
 -- ---- the answer to a turn
 
--- to a read, where it is known
+-- to a read, if it is known
 abbrev pub read_of : Option (List ℕ) → List Answer
 read_of None = []
 read_of (Some bytes) = Read bytes ∷ []
 
--- The answer that a turn takes, where it takes one and it is known: a read is answered by the window, a call for the clock by the
--- stamp.
+-- The answer that a turn takes, if it takes one and it is known: a read is answered by the window, a call for the clock
+-- by the stamp.
 abbrev pub answer_to : Supplied → Peek → List Answer
 answer_to w peeks.NotRunnable = []
 answer_to w peeks.Plain = []

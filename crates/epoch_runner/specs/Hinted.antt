@@ -1,4 +1,5 @@
--- Turns by hints: which thread is next by the counts and the entries of a racing run. Hints may be anything. This machine's own.
+-- Turns by hints: which thread is next by the counts and the entries of a racing run. Hints may be anything. This
+-- machine's own.
 use Rattle.std.specs.Prelude.{◌-◌, ◌==◌, ℕ, zero, suc, Bool, true, false, not, ◌&&◌, nat_lt, if◌then◌else◌, List, [], ◌∷◌, slice_get, slice_set, Option, Some, None}
 use Rattle.std.specs.List.{list_any}
 use Rattle.dp_base.specs.declared.tid.Tid.{Tid}
@@ -64,11 +65,11 @@ is_lost NotSc = false
 is_lost Won = false
 is_lost Lost = true
 
--- an entry comes into hand; rule 1 is for those whose SC didn't win
+-- an entry is begun; rule 1 is for those whose SC didn't win
 abbrev pub first_stage : SyncHint → HintStage
 first_stage entry = if is_won entry.sc then Own entry else Others entry 1
 
--- the next entry comes into hand, or none is left
+-- the next entry is begun, or none is left
 abbrev pub at_entry : List ℕ → List SyncHint → Following
 at_entry left [] = record { left = left; stage = Last 1; order = [] }
 at_entry left (entry ∷ order) = record { left = left; stage = first_stage entry; order = order }

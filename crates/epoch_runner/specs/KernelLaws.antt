@@ -1,5 +1,5 @@
--- The laws of the kernel that the proofs of this crate use, as arguments. They serve the contracts of the crate's own steps. This
--- machine's own.
+-- The laws of the kernel that the proofs of this crate use, as arguments. They serve the contracts of the crate's own
+-- steps. This machine's own.
 use Rattle.std.specs.Prelude.{◌≡◌, ◌+◌, ◌<◌, ◌≤◌, ◌++◌, ℕ, Bool, true, false, List, [], length, None, Ok}
 use Rattle.dp_base.specs.declared.answer.Answer.{Answer}
 use Rattle.dp_base.specs.declared.limits.TheConstants.{MAX_CALL_BYTES}

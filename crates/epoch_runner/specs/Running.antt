@@ -29,7 +29,7 @@ pub record HasRunEpoch (start : State) (hints : Hints) (w : Supplied) (bounds : 
   pub scheduled : IsScheduled start hints w bounds (epoch_of r.epoch) r.out r.end
   pub runs : IsRunOf start (epoch_of r.epoch) r.out r.end
 
--- where there is nothing to run: the bounds give no step, or the guest can't take one
+-- if there is nothing to run: the bounds give no step, or the guest can't take one
 pub record HasIdled (start : State) (w : Supplied) (bounds : Bounds) (s : State) : Type 0 where
   pub same : s ≡ start
   pub why : (bounds.steps ≡ 0) ⊎ (can_step start w ≡ false)

@@ -1,5 +1,5 @@
--- Whose turn it is in an epoch: the threads of a guest take slices on one processor, by hints while these can be followed and else by
--- round robin, and a supply answers their reads and their calls for the clock. This machine's own.
+-- Whose turn it is in an epoch: the threads of a guest take slices on one processor, by hints while these can be
+-- followed and else by round robin, and a supply answers their reads and their calls for the clock. This machine's own.
 use Rattle.std.specs.Prelude.{◌≡◌, ◌+◌, ℕ, zero, suc, Bool, true, false, not, ◌&&◌, ◌||◌, nat_le, nat_lt, if◌then◌else◌, List, [], ◌∷◌, ◌++◌, length, Option, Some, None, Result, Ok, Err}
 use Rattle.std.specs.Option.{option_or}
 use Rattle.dp_base.specs.declared.answer.Answer.{Answer}
@@ -38,14 +38,14 @@ pub record EpochProgress : Type 0 where
   pub output : ℕ
   pub read : ℕ
 
--- what comes next: the turn of a thread, with which a slice begins or doesn't, and what is left of the hints after it; or the epoch's
--- end
+-- what is next: the turn of a thread, with which a slice begins or doesn't, and what is left of the hints after it; or
+-- the epoch's end
 pub data NextStep : Type 0 where
   turn_of : (tid : Tid) (begins : Bool) (hints : Option Following) → NextStep
   ends : NextStep
 
--- An epoch ends if no thread can step, at its bound of steps, and after the step at which its output is long enough, or what it has
--- read.
+-- An epoch ends if no thread can step, at its bound of steps, and after the step at which its output is long enough, or
+-- what it has read.
 abbrev pub ends_epoch : State → Supplied → Bounds → EpochProgress → Bool
 ends_epoch s w bounds p = not (can_step s w) || nat_le bounds.steps p.turns || nat_le EPOCH_END_BYTES p.output || nat_le EPOCH_END_BYTES p.read
 
@@ -76,8 +76,8 @@ by_last s w bounds p (Some tid) = if slice_goes_on s w bounds p tid then turn_of
 
 -- ---- hints
 
--- A thread's turns go on in one slice, however long and whether it yields. Hints that can't be followed are dropped: a slice of the
--- round robin begins.
+-- A thread's turns go on in one slice, however long and whether it yields. Hints that can't be followed are dropped: a
+-- slice of the round robin begins.
 abbrev pub by_hinted : State → Supplied → Bounds → EpochProgress → Option HintedTurn → NextStep
 by_hinted s w bounds p (Some t) = turn_of t.tid (t.fresh || not (is_thread p.last t.tid)) (Some t.behind)
 by_hinted s w bounds p None = begins_from s w (after_last bounds p.last)

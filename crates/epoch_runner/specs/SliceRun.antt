@@ -21,7 +21,8 @@ pub record Traced : Type 0 where
   pub output : List ℕ
   pub answers : List Answer
 
--- what comes next where a slice is over, when the epoch has written and read so many bytes and may have so many steps more
+-- what is next when a slice is over, by the bytes that the epoch has written and read and the steps that it may still
+-- have
 abbrev pub next_slice : State → Supplied → (output read left least : ℕ) → NextStep
 next_slice s w output read left least =
     if not (can_step s w) || (left == 0) || nat_le EPOCH_END_BYTES output || nat_le EPOCH_END_BYTES read then ends else begins_from s w least
@@ -31,7 +32,7 @@ abbrev pub can_take : Supplied → Peek → Bool
 can_take w peeks.NotRunnable = false
 can_take w peek = not (is_unanswered w peek)
 
--- the turn is a read from a place that leaves room behind it in a u64
+-- the turn is a read from an offset after which 4,096 more fit in a u64
 abbrev pub IsEarlyRead : Peek → Type 0
 IsEarlyRead (peeks.Read place max) = place < 2 ^ 64 - MAX_CALL_BYTES
 IsEarlyRead peek = ⊥
@@ -41,7 +42,8 @@ abbrev pub inside : State → Traced → List Slice → Tid → ℕ → Bool →
 inside s t done tid in_slice yielded =
     record { state = s; output = t.output; answers = t.answers; done = done; last = Some tid; in_slice = in_slice; yielded = yielded; hints = None }
 
--- Steps of a thread that can step, at most so many, whatever its slice and its epoch have done before: each is the one that is next.
+-- Steps of a thread that can step, at most `most`, whatever its slice and its epoch have done before: each is the one
+-- that is next.
 pub record IsMoved (w : Supplied) (tid : Tid) (limit : ℕ) (s : State) (before : Traced) (steps : ℕ) (yielded : Bool) (after : State) (behind : Traced) : Type 0 where
   pub some : 0 < steps
   pub few : steps ≤ limit
@@ -51,8 +53,8 @@ pub record IsMoved (w : Supplied) (tid : Tid) (limit : ℕ) (s : State) (before 
   pub went : (bounds : Bounds) (done : List Slice) (in_slice : ℕ) → in_slice + steps ≤ bounds.slice → (steps_of done + in_slice) + steps ≤ bounds.steps
       → course steps w bounds (inside s before done tid in_slice false) ≡ Some (inside after behind done tid (in_slice + steps) yielded)
 
--- A whole slice of a thread, whatever the epoch has done before, when it may have so many steps more: each step is the one that is
--- next, and behind them the slice is over.
+-- A whole slice of a thread, whatever the epoch has done before, if it may have `left` steps more: each step is the one
+-- that is next, and after them the slice is over.
 pub record IsSliceRun (w : Supplied) (bounds : Bounds) (tid : Tid) (left : ℕ) (s : State) (before : Traced) (steps : ℕ) (after : State) (behind : Traced) : Type 0 where
   pub some : 0 < steps
   pub few : steps ≤ left

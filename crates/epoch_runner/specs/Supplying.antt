@@ -16,13 +16,14 @@ use Rattle.turn_peek.specs.declared.peek.Peek.TheVariants as peeks
 
 -- ---- turn by turn
 
--- What a read at a place of the input takes: the window's bytes from there on, as many as there are and at most as many as it asks
--- for. It takes none only at the end of the input.
+-- What a read at a place of the input takes: the window's bytes from there on, as many as there are and at most as many
+-- as it asks for. It takes none only at the end of the input.
 pub record IsReadOf (w : Supplied) (place max : ℕ) (bytes : List ℕ) : Type 0 where
   pub taken : bytes ≡ take max (drop (place - w.place) w.window)
   pub none : length bytes ≡ 0 → (w.ended ≡ true) × (place ≡ end_of w)
 
--- The first of these answers is the supply's, if the turn takes one: a read takes bytes of the window, and a clock call the stamp.
+-- The first of these answers is the supply's, if the turn takes one: a read takes bytes of the window, and a clock call
+-- the stamp.
 abbrev pub IsSuppliedTurn : Supplied → Peek → List Answer → Type 0
 IsSuppliedTurn w peeks.NotRunnable log = ⊤
 IsSuppliedTurn w peeks.Plain log = ⊤
@@ -50,7 +51,8 @@ abbrev pub EachSlice : Supplied → List Slice → (After : StateClaim) → Stat
 EachSlice w [] After s log = After s log
 EachSlice w (x ∷ xs) After s log = EachTurn w x.steps x.tid (λ t rest. EachSlice w xs After (without_reservation t x.tid) rest) s log
 
--- A run of slices from a state takes its answers from a supply. The window begins at or before the input's place in the state.
+-- A run of slices from a state takes its answers from a supply. The window begins at or before the input's place in the
+-- state.
 pub record IsSuppliedRun (start : State) (w : Supplied) (xs : List Slice) (answers : List Answer) : Type 0 where
   pub begins : w.place ≤ start.input
   pub turns : EachSlice w xs (λ s rest. ⊤) start answers

@@ -1,4 +1,5 @@
--- What hints say of a turn: whether it synchronises with other threads, and whether it is an SC that stores. This machine's own.
+-- What hints say of a turn: whether it synchronises with other threads, and whether it is an SC that stores. This
+-- machine's own.
 use Rattle.std.specs.Prelude.{ℕ, Option, Some, None, if◌then◌else◌}
 use Rattle.dp_base.specs.declared.tid.Tid.{Tid}
 use Rattle.dp_base.specs.Memory.{Memory, fetched}
@@ -28,7 +29,7 @@ abbrev pub sc_at : Hart → Option ℕ → Sc
 sc_at hart None = NotSc
 sc_at hart (Some word) = sc_by hart (decoded word)
 
--- of the instruction at which a thread stands
+-- of the instruction that a thread is at
 abbrev pub sc_of : Memory → Option Thread → Sc
 sc_of memory None = NotSc
 sc_of memory (Some (Runs hart clear)) = sc_at hart (fetched hart.pc memory)

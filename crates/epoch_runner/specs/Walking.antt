@@ -3,7 +3,7 @@ use Rattle.std.specs.Prelude.{Bool, true, false, Option, Some, None}
 use Rattle.epoch_runner.specs.declared.walk.NextTurn.{NextTurn}
 use Rattle.epoch_runner.specs.Schedule.{Course, NextStep, closed, ends, turn_of}
 
--- what comes next, without hints
+-- what is next, without hints
 abbrev pub next_step_of : Option NextTurn → NextStep
 next_step_of None = ends
 next_step_of (Some turn) = turn_of turn.tid turn.begins None

@@ -95,7 +95,7 @@ pub(crate) fn can_take(supply: &Supply, peek: Peek) -> bool
     }
 }
 
-// The answer that a turn takes, where it takes one and it is known.
+// The answer that a turn takes, if it takes one and it is known.
 pub(crate) fn answer_to(
     alloc: Global,
     supply: &Supply,
@@ -116,7 +116,7 @@ pub(crate) fn answer_to(
     }
 }
 
-// The answer to a read, where it is known.
+// The answer to a read, if it is known.
 fn answer_to_read(
     alloc: Global,
     supply: &Supply,

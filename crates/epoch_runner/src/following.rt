@@ -18,7 +18,7 @@ pub(crate) struct Following {
     // The steps that threads have left, by number.
     left: Vec<u32>,
     stage: HintStage,
-    // How many entries have come into hand.
+    // How many entries were begun.
     taken: usize,
 }
 
@@ -93,7 +93,7 @@ impl Following {
         }
     }
 
-    // The same if the threads other than the entry's have been passed.
+    // Whether the threads other than the entry's have been passed.
     fn own_turn(
         &mut self,
         entry: SyncHint,
@@ -121,7 +121,7 @@ impl Following {
         })
     }
 
-    // The next entry comes into hand, if there is one.
+    // Begins the next entry, if there is one.
     fn to_next_entry(&mut self, order: &[SyncHint])
         ensures { following_of self.new order.now ≡ at_entry self.old.left.items (drop self.old.taken order.now) }
     {

@@ -20,7 +20,8 @@ use std::alloc::Global;
 use supply::Supply;
 use sync_hints::Hints;
 
-// An epoch up to where no more turns are named by hints, and the thread of the next slice. It is `None` if the epoch is over.
+// An epoch up to the point at which no more turns are named by hints, and the thread of the next slice. It is `None` if
+// the epoch is over.
 #[derive(Drop)]
 pub(crate) struct Begun {
     pub(crate) course: Course,
@@ -59,7 +60,8 @@ pub(crate) fn begin(
     Ok(Begun { course, next })
 }
 
-// The thread of the first slice after turns by hints. There is none if the hints are used up. If they can't be followed, they are dropped.
+// The thread of the first slice after turns by hints. There is none if the hints are used up. If they can't be
+// followed, they are dropped.
 fn next_after(
     course: &Course,
     following: &Following,

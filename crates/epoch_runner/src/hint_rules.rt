@@ -11,7 +11,7 @@ use guest_kernel::{Peek, State};
 use supply::Supply;
 use sync_hints::{Sc, SyncHint};
 
-// The stage at which an entry comes into hand: other threads are not passed if its SC won.
+// The stage at which an entry begins: other threads are not passed if its SC won.
 pub(crate) fn first_stage(entry: SyncHint) -> HintStage
     ensures { result ≡ first_stage entry }
 {

@@ -23,8 +23,8 @@ use std::alloc::Global;
 use supply::Supply;
 use sync_hints::SyncHint;
 
-// Takes the turns that are next by hints: plain turns of a thread, or one of an entry. Returns whether there were any: there are none
-// if the epoch is over, and if the hints are used up or can't be followed.
+// Takes the turns that are next by hints: plain turns of a thread, or one of an entry. Returns whether there were any:
+// there are none if the epoch is over, and if the hints are used up or can't be followed.
 pub(crate) fn follow(
     alloc: Global,
     course: &mut Course,
@@ -72,7 +72,7 @@ fn is_over(course: &Course) -> bool
         || is_long(course.trace.read)
 }
 
-// Takes plain turns of a thread, at most so many, or one turn.
+// Takes plain turns of a thread, at most `limit`, or one turn.
 fn take(
     alloc: Global,
     state: &mut State,

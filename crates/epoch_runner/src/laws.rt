@@ -1,5 +1,5 @@
-//! What follows from the schedule's definitions alone. A call of such a function costs nothing, and hands the law to the
-//! caller's proof.
+//! What follows from the schedule's definitions alone. A call of such a function costs nothing, and hands the law to
+//! the caller's proof.
 
 ghost use Rattle.std.specs.Prelude.{◌≡◌, ◌⊎◌, ◌<◌, ◌≤◌, ◌+◌, ℕ, Bool, false, true, List, [], Ok, length, Option, Some, None, if◌then◌else◌};
 ghost use Rattle.std.specs.List.{list_any};
@@ -44,8 +44,8 @@ pub fn the_next_thread_can_step()
         next s w bounds p ≡ turn_of tid begins left → (has_ended s.end ≡ false) × (ready_at s w tid ≡ true) }
 {}
 
-/// Without hints an epoch goes by round robin alone: the hints are none at each turn, and the turn that is next is named by the thread
-/// that ran last. It doesn't depend on the order of hints that have no steps.
+/// Without hints an epoch goes by round robin alone: the hints are none at each turn, and the turn that is next is
+/// named by the thread that ran last. It doesn't depend on the order of hints that have no steps.
 pub fn without_hints_an_epoch_goes_by_round_robin()
     ensures none { (start : State) (hints : Hints) (w : Supplied) (bounds : Bounds) (turns : ℕ) (c : Course) → any_left (lefts hints.counts) ≡ false →
         course turns w bounds (starting start hints) ≡ Some c → c.hints ≡ None }
@@ -60,8 +60,9 @@ pub fn without_hints_an_epoch_goes_by_round_robin()
     turn_peek::laws::a_reservation_asks_for_nothing();
 }
 
-/// An epoch ends if no thread can step, if it has as many steps as it may, if it has written or read 65,536 bytes, or if it follows hints
-/// and no thread has steps left by them. It never has more steps, and never writes or reads 69,632 bytes.
+/// An epoch ends if no thread can step, if it has as many steps as it may, if it has written or read 65,536 bytes, or
+/// if it follows hints and no thread has steps left by them. It never has more steps, and never writes or reads 69,632
+/// bytes.
 pub fn an_epoch_ends_by_a_rule()
     ensures stops { (start : State) (hints : Hints) (w : Supplied) (bounds : Bounds) (e : Epoch) (output : List ℕ) (end : State) →
         (is : IsScheduled start hints w bounds e output end) →
@@ -79,8 +80,9 @@ pub fn an_epoch_ends_by_a_rule()
     turn_peek::laws::a_reservation_asks_for_nothing();
 }
 
-/// Each turn of an epoch takes its answer from the supply. A read takes the window's bytes from the state's place on, as many as there
-/// are and at most as many as it asks for, and none only at the end of the input. A clock call takes the stamp.
+/// Each turn of an epoch takes its answer from the supply. A read takes the window's bytes from the state's place on,
+/// as many as there are and at most as many as it asks for, and none only at the end of the input. A clock call takes
+/// the stamp.
 pub fn each_turn_is_supplied()
     ensures { (start : State) (hints : Hints) (w : Supplied) (bounds : Bounds) (e : Epoch) (output : List ℕ) (end : State) →
         IsScheduled start hints w bounds e output end → w.place ≤ start.input → IsSuppliedRun start w e.slices e.answers }
@@ -91,8 +93,8 @@ pub fn each_turn_is_supplied()
     turn_peek::laws::a_read_starts_where_the_input_is();
 }
 
-/// The answers that an epoch takes are the supply's: its reads take the bytes of the window from the state's place on, one after
-/// another; one that takes none is at the end of the input; and each reading of the clock is the stamp.
+/// The answers that an epoch takes are the supply's: its reads take the bytes of the window from the state's place on,
+/// one after another; one that takes none is at the end of the input; and each reading of the clock is the stamp.
 pub fn an_epoch_is_supplied()
     ensures { (start : State) (hints : Hints) (w : Supplied) (bounds : Bounds) (e : Epoch) (output : List ℕ) (end : State) →
         IsScheduled start hints w bounds e output end → w.place ≤ start.input → start.input ≤ end_of w →
@@ -103,8 +105,8 @@ pub fn an_epoch_is_supplied()
     turn_peek::laws::a_read_starts_where_the_input_is();
 }
 
-/// While a thread of a guest runs, it can step or waits for input. Where input is due, the supply has no more of it and hasn't seen
-/// its end, and once it is refilled the guest can step.
+/// While a thread of a guest runs, it can step or waits for input. If input is due, the supply has no more of it and
+/// hasn't reached its end, and once it is refilled the guest can step.
 pub fn a_supply_lets_a_guest_step()
     ensures ready { (s : State) (w : Supplied) → has_ended s.end ≡ false → list_any is_running s.threads ≡ true →
         input_due s w ≡ false → can_step s w ≡ true }

@@ -18,9 +18,10 @@ use std::alloc::Global;
 use supply::Supply;
 use sync_hints::Hints;
 
-/// Runs one epoch of a guest with hints and a supply of its input: from its start to where the guest ends or no thread can step, to its
-/// bound of steps, to the step after which it has written or read 65,536 bytes, or to where the hints are used up. Hints may be
-/// anything. Where they can't be followed they are dropped, and the threads take turns by round robin from there.
+/// Runs one epoch of a guest with hints and a supply of its input. The epoch ends when the guest ends or no thread can
+/// step, at its bound of steps, after the step at which it has written or read 65,536 bytes, or when the hints are used
+/// up. Hints may be anything. If they can't be followed they are dropped, and the threads take turns by round robin
+/// from there.
 pub fn run_epoch(
     alloc: Global,
     start: State,

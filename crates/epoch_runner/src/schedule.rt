@@ -11,8 +11,8 @@ use dp_base::limits::EPOCH_END_BYTES;
 use guest_kernel::State;
 use supply::Supply;
 
-// The thread of the next slice, when the epoch has written and read so many bytes and may have so many steps more: the lowest that
-// can step from a number on, or else the lowest of all. `None` where the epoch ends.
+// The thread of the next slice: the lowest one that can step from a number on, or else the lowest of all. `None` if the
+// epoch ends, by the bytes that it has written and read and the steps that it may still have.
 pub(crate) fn next_thread(
     state: &State,
     supply: &Supply,
@@ -32,7 +32,7 @@ pub(crate) fn next_thread(
     }
 }
 
-// Whether an epoch ends that has written, or read, so many bytes.
+// Whether an epoch ends that has written, or read, this many bytes.
 pub(crate) fn is_long(count: usize) -> bool
     ensures { result ≡ nat_le EPOCH_END_BYTES count }
 {

@@ -22,14 +22,14 @@ use guest_kernel::{Peek, State, Turn};
 use std::alloc::Global;
 use supply::Supply;
 
-// How far a thread has come: so many steps, and whether the last of them was a yield.
+// How far a thread has gone: the number of its steps, and whether the last of them was a yield.
 #[derive(Clone, Copy)]
 struct Moved {
     steps: u32,
     yielded: bool,
 }
 
-// Runs a slice of a thread that can step, when the epoch may have so many steps more. Returns how many steps it has.
+// Runs a slice of a thread that can step, if the epoch may have `left` steps more. Returns how many steps it has.
 pub(crate) fn take_slice(
     alloc: Global,
     state: &mut State,
@@ -61,7 +61,7 @@ pub(crate) fn take_slice(
     Ok(steps)
 }
 
-// What the thread's next turn is, where its slice may have one more. A slice that is over isn't peeked at.
+// What the thread's next turn is, if its slice may have one more. A slice that is over isn't peeked at.
 fn next_peek(state: &State, tid: Tid, steps: u32, most: u32, has_yielded: bool) -> Peek
     ensures { steps < most → has_yielded ≡ false → result ≡ peeked state.now tid }
 {
@@ -80,8 +80,8 @@ fn goes_on(supply: &Supply, peek: Peek, trace: &Trace) -> bool
     can_take(supply, peek) && !is_long(trace.out.len()) && !is_long(trace.read)
 }
 
-// Takes turns of a thread, at least one and at most so many, where its next one can be taken: as many plain steps as there are, or else
-// one turn of another kind.
+// Takes turns of a thread whose next one can be taken, at least one and at most `limit`: as many plain steps as there
+// are, or else one turn of another kind.
 fn advance(
     alloc: Global,
     state: &mut State,
@@ -137,7 +137,7 @@ pub(crate) fn one_turn(
     Ok(yielded)
 }
 
-// Takes plain steps of a thread, at most so many. It has none where its next turn is a call or an AMO.
+// Takes plain steps of a thread, at most `limit`. It has none if its next turn is a call or an AMO.
 fn stretch(state: &mut State, tid: Tid, peek: Peek, limit: u32) -> u32
     requires { state.old.steps + limit < 2 ^ 64 }
     ensures within { result ≤ limit }

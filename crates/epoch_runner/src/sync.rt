@@ -22,7 +22,7 @@ pub(crate) fn sync_of(state: &State, tid: Tid) -> Option<Sc>
     }
 }
 
-// Whether the instruction at which a thread stands is an SC, and one that stores.
+// Whether the instruction that a thread is at is an SC, and one that stores.
 fn sc_of(pages: &Pages, thread: Option<&Thread>) -> Sc
     ensures { result ≡ sc_of pages.now (option_map (λ t. t.now) thread.entry) }
 {

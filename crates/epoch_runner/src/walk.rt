@@ -91,8 +91,8 @@ impl Walk {
         }
     }
 
-    /// Takes the turn that is next. If a slice begins with it, the slice before it ends first. Returns what hints say of the turn, or
-    /// `None` if it is plain.
+    /// Takes the turn that is next. If a slice begins with it, the slice before it ends first. Returns what hints say
+    /// of the turn, or `None` if it is plain.
     pub fn take(
         &mut self,
         alloc: Global,

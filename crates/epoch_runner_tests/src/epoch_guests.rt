@@ -32,7 +32,7 @@ pub(crate) const YIELD: u32 = 0x0070_0893;
 
 pub(crate) const CLOCK: u32 = 0x0080_0893;
 
-// How a thread stands at the start: it runs or waits at this place of the code, page 10 (hexadecimal), or it has gone.
+// How a thread is at the start: it runs or waits at this place of the code, page 10 (hexadecimal), or it has gone.
 #[derive(Clone, Copy)]
 pub(crate) enum Stands {
     Runs(u32),
@@ -53,8 +53,8 @@ pub(crate) struct Case<'a> {
     pub(crate) first: u16,
 }
 
-// What an epoch has done: its slices, as numbers and steps, with zeros behind the last; how many bytes it has written; the step
-// count and the end of the guest behind it; and what thread 1 then has in x10.
+// What an epoch has done: its slices, as numbers and steps, with zeros after the last; how many bytes it has written;
+// the step count and the end of the guest after it; and what thread 1 then has in x10.
 #[derive(Clone, Copy, Debug, PartialEq, Eq)]
 pub(crate) struct Outcome {
     pub(crate) slices: [(u16, u32); 6],
@@ -134,7 +134,7 @@ pub(crate) fn nothing_known(alloc: Global) -> Result<Supply, Fail> {
     Ok(Supply::new(alloc, 1)?)
 }
 
-// The window behind so many refills from an input of these bytes.
+// The window after so many refills from an input of these bytes.
 pub(crate) fn supply_of(alloc: Global, bytes: &[u8], refills: u32) -> Result<Supply, Fail> {
     let mut inlet = inlet_of(alloc, &[bytes], &[], Failing::Never)?;
     let mut supply = Supply::new(alloc, MAX_ROOM)?;
@@ -189,7 +189,7 @@ pub(crate) fn run_within(
     Ok(run_epoch(alloc, start, &Hints::none(alloc), supply, bounds)?)
 }
 
-// What the epoch of a guest has done, or `None` where there is nothing to run.
+// What the epoch of a guest has done, or `None` if there is nothing to run.
 pub(crate) fn ran(alloc: Global, case: Case<'_>) -> Result<Option<Outcome>, Fail> {
     let start = state_of(alloc, case.code, case.threads, case.end)?;
     let bounds = (case.steps, case.slice, case.first);

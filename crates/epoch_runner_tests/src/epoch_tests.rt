@@ -230,7 +230,7 @@ fn epochs_that_end(rt: HostRuntime) -> Result<(), Fail> {
     Ok(())
 }
 
-// A reservation doesn't outlive its slice: sc.w behind its end fails, with 1 in x10.
+// A reservation doesn't outlive its slice: sc.w after its end fails, with 1 in x10.
 #[test]
 fn reservations_are_dropped(rt: HostRuntime) -> Result<(), Fail> {
     // lui x11, 11; lr.w x10, (x11); sc.w x10, x12, (x11)

@@ -1,5 +1,5 @@
-// Epochs by hints: which threads take which turns, and when the hints are dropped. Each outcome is that of a model of the
-// machine and of its schedule, which was written apart from this code.
+// Epochs by hints: which threads take which turns, and when the hints are dropped. Each outcome is that of a model of
+// the machine and of its schedule, which was written apart from this code.
 use crate::epoch_guests::Stands::{Gone, Runs, Waits};
 use crate::hinted_guests::*;
 use std::test::Fail;

@@ -18,8 +18,8 @@ pub(crate) const EXITS: [u32; 4] = [
     JUMP,
 ];
 
-// At 0 two plain turns and a yield, over and over. At 16 a jump to itself, at 20 the thread exits, at 24 a trap, at 28 a wait
-// on page 11 (hexadecimal), at 40 a read of a byte.
+// At 0 two plain turns and a yield, over and over. At 16 a jump to itself, at 20 the thread exits, at 24 a trap, at 28
+// a wait on page 11 (hexadecimal), at 40 a read of a byte.
 pub(crate) const TURNS: [u32; 15] = [
     YIELD,
     // addi x5, x5, 1
@@ -185,11 +185,11 @@ pub(crate) const PATCHES: [u32; 10] = [
     JUMP,
 ];
 
-// A row of a table of cases, whose fields have ` | ` in between: the counts of the hints, as `tid:steps`; their order, as a thread and
-// one of `n`, `w` and `l` for `NotSc`, `Won` and `Lost`, and `*` with a number for that many in a row; the steps of the epoch, those of
-// a slice, and the first thread; and the outcome. This is the slices, as `tid:steps`; the end of the guest, if it has ended; the
-// number of bytes that were written and read, if any were; and x10 of threads 1 and 2 at the end, 0 for one that doesn't run. A list
-// without items is `-`.
+// A row of a table of cases, whose fields have ` | ` in between: the counts of the hints, as `tid:steps`; their order,
+// as a thread and one of `n`, `w` and `l` for `NotSc`, `Won` and `Lost`, and `*` with a number for that many in a row;
+// the steps of the epoch, those of a slice, and the first thread; and the outcome. This is the slices, as `tid:steps`;
+// the end of the guest, if it has ended; the number of bytes that were written and read, if any were; and x10 of
+// threads 1 and 2 at the end, 0 for one that doesn't run. A list without items is `-`.
 pub(crate) type Row = &'static str;
 
 pub(crate) fn field_of(text: &str) -> (&str, &str) {
@@ -325,7 +325,8 @@ pub(crate) fn outcome(
     }
 }
 
-// A line for each row that has another outcome than its epoch, with these threads, which have read so much of 65,536 bytes.
+// A line for each row that has another outcome than its epoch, with these threads, which have read so much of 65,536
+// bytes.
 pub(crate) fn differences(
     alloc: Global,
     code: &[u32],

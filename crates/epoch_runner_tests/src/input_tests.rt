@@ -33,8 +33,8 @@ pub(crate) enum Took {
 
 use Took::{Bytes, Nothing, Stamp};
 
-// What an epoch has done: its slices, its first answers, how many there are, the place of the input and the step count behind it,
-// and what thread 1 then has in x10.
+// What an epoch has done: its slices, its first answers, how many there are, the place of the input and the step count
+// after it, and what thread 1 then has in x10.
 #[derive(Clone, Copy, Debug, PartialEq, Eq)]
 pub(crate) struct Done {
     slices: [(u16, u32); 6],
@@ -60,8 +60,8 @@ pub(crate) fn told_answers(answers: &[Answer]) -> [Took; 3] {
     first
 }
 
-// What the epoch of a state has done, with a supply, so many steps and so many in a slice, from thread 1 on; or `None` where there is
-// nothing to run.
+// What the epoch of a state has done, with a supply, so many steps and so many in a slice, from thread 1 on; or `None`
+// where there is nothing to run.
 pub(crate) fn run_from(
     alloc: Global,
     start: State,
@@ -102,7 +102,7 @@ fn reads_that_ask(rt: HostRuntime) -> Result<(), Fail> {
     let mut bytes = Vec::new(alloc);
     bytes.resize(5000, b'a')?;
     let supply = supply_of(alloc, &bytes, 1)?;
-    // the upper and the lower part of the number; the answer, and the place behind it
+    // the upper and the lower part of the number; the answer, and the place after it
     let cases = [
         (0, 0, Nothing, 0),
         (0, 1, Bytes(1, b'a'), 1),
@@ -138,8 +138,8 @@ fn reads_of_a_window(rt: HostRuntime) -> Result<(), Fail> {
     let two = [Runs(0), Runs(0)];
     let other = [Runs(0), Runs(24)];
     let last = [Runs(24), Runs(0)];
-    // the threads, and the place where they begin; how many refills of "abc"; the steps of the epoch and of a slice; the slices, the
-    // answers, and the place behind it
+    // the threads, and the place where they begin; how many refills of "abc"; the steps of the epoch and of a slice;
+    // the slices, the answers, and the place after it
     let cases: [(
         &[Stands],
         u64,
@@ -188,7 +188,7 @@ fn reads_of_a_window(rt: HostRuntime) -> Result<(), Fail> {
             [Bytes(0, 0), Bytes(0, 0), Nothing],
             3,
         ),
-        // One waits behind the window while the other runs.
+        // One waits after the window while the other runs.
         (
             &other,
             2,
@@ -229,8 +229,8 @@ fn reads_of_a_window(rt: HostRuntime) -> Result<(), Fail> {
     Ok(())
 }
 
-// A guest whose only thread stands at a read: whether it can step, and whether input is due, with a supply; and how many steps its
-// next epoch has.
+// A guest whose only thread is at a read: whether it can step, and whether input is due, with a supply; and how many
+// steps its next epoch has.
 pub(crate) fn at_a_read(alloc: Global, refills: u32) -> Result<(bool, bool, u64), Fail> {
     let start = state_of(alloc, &READS, &[Runs(0)], End::None)?;
     let Ran::Epoch(run) = run_within(alloc, start, &nothing_known(alloc)?, (9, 9, 1))? else {

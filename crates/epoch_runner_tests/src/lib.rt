@@ -1,9 +1,9 @@
-//! Single epochs: which threads take which slices, what is answered, and where an epoch ends; and the windows of the input that
-//! answers come from.
+//! Single epochs: which threads take which slices, what is answered, and where an epoch ends; and the windows of the
+//! input that answers come from.
 //!
-//! This crate is its tests: they call `epoch_runner` and `supply` as a crate above them does. Each slice and each window was worked
-//! out by hand. Those of epochs that follow hints, or that are taken turn by turn, were worked out by a model that was written apart from
-//! this code.
+//! This crate is its tests: they call `epoch_runner` and `supply` as a crate above them does. Each slice and each
+//! window was worked out by hand. Those of epochs that follow hints, or that are taken turn by turn, were worked out by
+//! a model that was written apart from this code.
 #![tactic(auto)]
 
 #[cfg(test)]

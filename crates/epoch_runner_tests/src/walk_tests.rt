@@ -1,5 +1,5 @@
-// Epochs without hints that are taken turn by turn, beside the same epochs at once. Each outcome is that of a model of the machine and of
-// its schedule, which was written apart from this code.
+// Epochs without hints that are taken turn by turn, beside the same epochs at once. Each outcome is that of a model of
+// the machine and of its schedule, which was written apart from this code.
 use crate::epoch_guests::Stands::{Gone, Runs, Waits};
 use crate::epoch_guests::{Stands, supply_of};
 use crate::hinted_guests::*;
@@ -136,8 +136,8 @@ pub(crate) fn walk_and_run(
     both_outcomes(alloc, &walked, runs, supply, bounds)
 }
 
-// A line for each row whose epoch has another outcome, or another one turn by turn. A row is the bounds of an epoch and the outcome, as
-// in `Row`.
+// A line for each row whose epoch has another outcome, or another one turn by turn. A row is the bounds of an epoch and
+// the outcome, as in `Row`.
 pub(crate) fn walk_differences(
     alloc: Global,
     code: &[u32],

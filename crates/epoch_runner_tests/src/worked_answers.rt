@@ -27,7 +27,7 @@ fn ends()
     ensures not_seen { window_answer 5 9 (record { window = []; place = 5; ended = false; stamp = 0; room = 2 }) ≡ None }
 {}
 
-// Refills of an empty window, of one behind it, and one that fails.
+// Refills of an empty window, of one after it, and one that fails.
 fn refills()
     ensures first { (refilled (7 ∷ []) (empty 4)).place ≡ 0 }
     ensures next { (refilled (8 ∷ 9 ∷ []) (refilled (7 ∷ []) (empty 4))).place ≡ 1 }

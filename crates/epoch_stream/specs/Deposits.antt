@@ -25,7 +25,7 @@ AreFor supply [] (d ∷ ds) = ⊥
 AreFor supply (j ∷ js) [] = ⊥
 AreFor supply (j ∷ js) (d ∷ ds) = (d.0 ≡ j.0) × IsFor supply j.1 d.1 × AreFor supply js ds
 
--- a result that a deposit stands for: if its job wasn't run, one of the job
+-- a result of a deposit: if its job wasn't run, one of the job
 abbrev pub IsResultIn : Supplied → Deposit → runner.Ran → Type 0
 IsResultIn supply (Ran ran) result = result ≡ ran
 IsResultIn supply (Skipped job) result = IsResultOf supply job result
@@ -36,6 +36,6 @@ abbrev pub In : {A : Type 0} → A → List A → Type 0
 In x [] = ⊥
 In x (y ∷ ys) = (x ≡ y) ⊎ In x ys
 
--- The results in order: a deposit with the index k + 1 stands for the one at place k.
+-- The results in order: a deposit with the index k + 1 is that of the one at place k.
 abbrev pub AreOf : Supplied → List (ℕ × Deposit) → List runner.Ran → Type 0
 AreOf supply deposits results = (k : ℕ) (ran : runner.Ran) → slice_get results k ≡ Some ran → (d : Deposit) × In (suc k, d) deposits × IsResultIn supply d ran

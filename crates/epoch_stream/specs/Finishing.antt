@@ -21,8 +21,8 @@ use Rattle.epoch_stream.specs.Racers.{HasRaced}
 use Rattle.epoch_stream.specs.Rounds.{AreDone}
 use Rattle.epoch_stream.specs.Takes.{IsBehindAll, Took}
 
--- The taker took results of deposits that were collected, the racer has raced, and the workers are done. If all results were taken, nothing was
--- stopped.
+-- The taker took results of deposits that were collected, the racer has raced, and the workers are done. If all results
+-- were taken, nothing was stopped.
 pub record HasFinished {Q T : Type 0} (tells : Q → Tells) (takes : T → Ran → More → T → Type 0) (b : Board Job Deposit) (racer : Q) (start : State) (supply : Supplied) (plan : Plan) (taker after : T) (c : Collector Deposit) (end : Result More OutOfMemory) (raced : RaceEnd Q (Receipt Job Deposit)) (workers : List (Worker Job Deposit)) : Type 0 where
   pub is_collector : IsCollectorOf b c
   pub results : List Ran

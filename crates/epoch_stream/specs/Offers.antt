@@ -15,7 +15,8 @@ use Rattle.racing_runner.specs.declared.offer.Offer.{Offer}
 use Rattle.racing_runner.specs.declared.plan.Plan.{Plan}
 use Rattle.sync_hints.specs.NoHints.{no_hints}
 
--- how far an epoch that starts here may go, if no state may have more steps than the limit, and which thread is tried first
+-- how far an epoch that starts here may go, if no state may have more steps than the limit, and which thread is tried
+-- first
 abbrev pub bounds_for : Plan → (limit first : ℕ) → State → Bounds
 bounds_for plan limit first s = record {
   steps = min plan.epoch (limit - s.steps);
@@ -25,7 +26,8 @@ bounds_for plan limit first s = record {
   some_slice = plan.some_slice;
 }
 
--- The jobs of a round from number k on, each with its number. This thread is tried first in the first one, and thread 1 in the others.
+-- The jobs of a round from number k on, each with its number. This thread is tried first in the first one, and thread 1
+-- in the others.
 abbrev pub AreJobs : Plan → (limit k first : ℕ) → List (ℕ × Job) → Type 0
 AreJobs plan limit k first [] = ⊤
 AreJobs plan limit k first (x ∷ xs) = (x.0 ≡ k) × (x.1.index ≡ k) × (x.1.bounds ≡ bounds_for plan limit first x.1.start) × AreJobs plan limit (suc k) 1 xs
@@ -45,8 +47,8 @@ abbrev pub offers_of : List (ℕ × Job) → State → List Offer
 offers_of [] last = []
 offers_of (x ∷ xs) last = record { hints = x.1.hints; next = opening xs last } ∷ offers_of xs last
 
--- These are the first jobs of a round that starts here and has these offers: each but the first starts in the state of an offer, each has the
--- hints of the offer that ends it, and the round's last one has none.
+-- These are the first jobs of a round that starts here and has these offers: each but the first starts in the state of
+-- an offer, each has the hints of the offer that ends it, and the round's last one has none.
 abbrev pub AreFirstOf : State → List Offer → List (ℕ × Job) → Type 0
 AreFirstOf start offers [] = ⊤
 AreFirstOf start [] (x ∷ []) = (x.1.start ≡ start) × (x.1.hints ≡ no_hints)
@@ -66,8 +68,8 @@ abbrev pub whole_of : Result (Unit {0}) OutOfMemory → (stopped : Bool) → Boo
 whole_of (Ok done) stopped = not stopped
 whole_of (Err error) stopped = false
 
--- All jobs of a round whose open job starts in this last state, given those that were published before. If the round is whole, the open job is
--- among them, and has no hints.
+-- All jobs of a round whose open job starts in this last state, given those that were published before. If the round is
+-- whole, the open job is among them, and has no hints.
 abbrev pub HasClosed : Plan → (limit index first : ℕ) → (last : State) → (before all : List (ℕ × Job)) → (whole : Bool) → Type 0
 HasClosed plan limit index first last before all true = (job : Job) × (all ≡ before ++ (length before + 1, job) ∷ []) × (job.index ≡ index) × (job.bounds ≡ bounds_for plan limit first last) × (job.start ≡ last) × (job.hints ≡ no_hints)
 HasClosed plan limit index first last before all false = all ≡ before

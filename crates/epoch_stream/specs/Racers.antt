@@ -21,8 +21,8 @@ use Rattle.epoch_stream.specs.declared.promises.Racers.{Racers}
 use Rattle.epoch_stream.specs.declared.promises.Racers.TheVariants.{There, Here}
 use Rattle.epoch_stream.specs.Offers.{AreFirstOf, AreJobs, offers_within}
 
--- These jobs were made by a plan. They are the first ones of a round with these offers, and all of them after an Ok, unless the racer was stopped. If the
--- racer told its offers, these are the first of them, up to the plan's jobs.
+-- These jobs were made by a plan. They are the first ones of a round with these offers, and all of them after an Ok,
+-- unless the racer was stopped. If the racer's offers are known, these are the first of them, up to the plan's jobs.
 pub record AreMade (told : Option (List Offer)) (plan : Plan) (start : State) (jobs : List (ℕ × Job)) (stopped : Bool) (answer : Result (Unit {0}) OutOfMemory) : Type 0 where
   pub offers : List Offer
   pub few : length offers < plan.jobs
@@ -32,7 +32,7 @@ pub record AreMade (told : Option (List Offer)) (plan : Plan) (start : State) (j
   pub within : IfTold told (λ list. offers ≡ offers_within plan list)
 
 module _ {Q : Type 0} where
-  -- A racer has published jobs that are made of its offers. If it told them, it is left as it was.
+  -- A racer has published jobs that are made of its offers. If they are known, the racer is left as it was.
   pub record HasRaced (tells : Q → Tells) (b : Board Job Deposit) (racer : Q) (start : State) (supply : Supplied) (plan : Plan) (r : RaceEnd Q (Receipt Job Deposit)) : Type 0 where
     pub receipt : IsReceiptOf b r.receipt
     pub made : AreMade (tells racer start supply plan) plan start (was_published r.receipt) r.stopped r.answer

@@ -69,9 +69,9 @@ abbrev pub HasEnded : {T : Type 0} → (T → Ran → More → T → Type 0) →
 HasEnded takes offers jobs results taker after (Ok done) = (WentOn takes taker results after × IsWhole offers jobs results) ⊎ HadEnough takes taker results after
 HasEnded takes offers jobs results taker after (Err error) = WentOn takes taker results after ⊎ HadEnough takes taker results after
 
--- A round from a state, with a supply, by a plan: its jobs are numbered from 1 on, and they are the first ones of a round with these offers. The taker
--- took the results of the first of them, in order. If the racer told its offers, these are the first of them, up to the plan's jobs, and it is left
--- as it was.
+-- A round from a state, with a supply, by a plan: its jobs are numbered from 1 on, and they are the first ones of a
+-- round with these offers. The taker took the results of the first of them, in order. If the racer's offers are known,
+-- these are the first of them, up to the plan's jobs, and the racer is left as it was.
 pub record Streamed {Q T : Type 0} (tells : Q → Tells) (takes : T → Ran → More → T → Type 0) (supply : Supplied) (plan : Plan) (start : State) (racer racer_after : Q) (taker taker_after : T) (answer : Result (Unit {0}) OutOfMemory) : Type 0 where
   pub offers : List Offer
   pub jobs : List (ℕ × Job)

@@ -40,6 +40,6 @@ abbrev pub IsCount : Option ℕ → List ℕ → Type 0
 IsCount None counts = ⊤
 IsCount (Some n) counts = In n counts
 
--- so many were counted, and there are no more behind this place
+-- a count was collected, and there are no more after this place
 abbrev pub IsBehindAll : ℕ → List ℕ → Type 0
 IsBehindAll at counts = (n : ℕ) × In n counts × (n ≤ at)

@@ -2,7 +2,8 @@
 use std::sync::{Condvar, Mutex, Wait};
 use std::thread;
 
-// How often a thread that finds nothing yields its processor before it sleeps: some twenty microseconds, about as long as a wake takes.
+// How often a thread that finds nothing yields its processor before it sleeps: some twenty microseconds, about as long
+// as a wake takes.
 const LOOKS: u32 = 64;
 
 /// Wakes those that wait for something. Promises nothing: who wakes looks again.
@@ -30,13 +31,14 @@ impl Bell {
         self.rung.notify_all();
     }
 
-    /// How often it was rung. Whoever asks before a look at a queue sleeps past no ring that comes after the look.
+    /// Returns how often it was rung. A thread that reads this before it looks at a queue sleeps through no ring after
+    /// the look.
     pub fn rings<R: Wait>(&self, rt: &R) -> u32 {
         *self.rings.lock(rt)
     }
 
-    /// Waits after a look that found nothing, the so many-th in a row: yields the processor at first, and sleeps later until the bell is rung once
-    /// more than it was then.
+    /// Waits after a look that found nothing, after `looks` such looks in a row: yields the processor at first, and
+    /// later sleeps until the bell is rung once more than it was then.
     pub fn wait<R: Wait>(&self, rt: &R, looks: u32, rings: u32) {
         if looks < LOOKS {
             thread::yield_now();
@@ -49,7 +51,8 @@ impl Bell {
     }
 }
 
-/// The bells of a round: for jobs that were published, and for results that were deposited. Both are rung at the end of the jobs.
+/// The bells of a round: for jobs that were published, and for results that were deposited. Both are rung at the end of
+/// the jobs.
 #[derive(Drop)]
 pub(crate) struct Bells {
     pub jobs: Bell,

@@ -159,7 +159,7 @@ pub(crate) struct Racing<Q: Drop, P: Drop> {
     pub racer: Q,
     pub publisher: P,
     pub watcher: Watcher,
-    /// Where the first job starts, twice: the racer's own, and the job's.
+    /// The state in which the first job starts, twice: the racer's own, and the job's.
     pub start: State,
     pub opened: State,
 }
@@ -187,8 +187,9 @@ pub(crate) type RacedOf<Q> = Raced<Q, Receipt<Job, Deposit>>;
 
 pub(crate) type RaceEndOf<Q> = RaceEnd<Q, Receipt<Job, Deposit>>;
 
-/// Races, and publishes each job once an offer ends it. After an `Ok` the open job is the last one, and has no hints. It is published unless the
-/// racer saw the stop: its hints would not be those of an offer then, and no worker would run it.
+/// Races, and publishes each job once an offer ends it. After an `Ok` the open job is the last one, and has no hints.
+/// It is published unless the racer saw the stop: its hints would not be those of an offer then, and no worker would
+/// run it.
 pub(crate) fn run_racer<R: Threads + Wait + Sync, Q: Racer + Drop>(
     rt: &R,
     alloc: Global,

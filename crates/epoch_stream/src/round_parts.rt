@@ -30,7 +30,7 @@ pub(crate) struct RoundParts {
 /// A round before it begins.
 #[derive(Drop)]
 pub(crate) struct SetUp {
-    /// Where the first job starts.
+    /// The state in which the first job starts.
     pub start: State,
     pub board: EpochBoard,
     pub stop: StopWord,
@@ -78,7 +78,7 @@ fn add_watchers(
     (passes, stopper)
 }
 
-/// Makes all that a round of so many jobs needs that starts in this state.
+/// Makes all that a round needs of this many jobs that starts in this state.
 pub(crate) fn set_up(
     alloc: Global,
     jobs: u32,

@@ -19,16 +19,17 @@ use std::sync::Wait;
 use std::thread::Threads;
 use supply::Supply;
 
-/// Runs a round from a state: a racer, workers and a taker at once. The racer's offers make the jobs, workers run them, and the taker takes
-/// their results in the order of the jobs, on the caller's own thread, while later ones still run. Before each job its worker passes
-/// the gate. The taker and the racer are handed back.
+/// Runs a round from a state: a racer, workers and a taker at once. The racer's offers make the jobs, workers run them,
+/// and the taker takes their results in the order of the jobs, on the caller's own thread, while later ones still run.
+/// Before each job its worker passes the gate. The taker and the racer are returned.
 ///
-/// Once the taker has enough, the racer is told so at its next offer, and no further job is begun. A round of one job needs no thread, and no racer
-/// races in it.
+/// Once the taker has enough, the racer's next offer is answered so, and no further job is begun. A round of one job
+/// needs no thread, and no racer races in it.
 ///
 /// # Errors
 ///
-/// Answers `OutOfMemory` if memory runs out for the round, in the racer, or for a job whose turn it is. What was taken stays taken.
+/// Answers `OutOfMemory` if memory runs out for the round, in the racer, or for a job whose turn it is. What was taken
+/// stays taken.
 pub fn stream<R: Threads + Wait + Sync, Q: Racer + Drop + Send, G: Gate + Sync, T: Taker + Drop>(
     rt: &R,
     alloc: Global,
@@ -95,7 +96,7 @@ pub fn stream<R: Threads + Wait + Sync, Q: Racer + Drop + Send, G: Gate + Sync, 
     }
 }
 
-// Want of memory, if any of the two met it.
+// `OutOfMemory` if one of the two ran out of memory.
 fn first_fault(
     end: Result<More, OutOfMemory>,
     answer: Result<(), OutOfMemory>,

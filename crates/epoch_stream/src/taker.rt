@@ -34,7 +34,8 @@ pub trait Taker {
         ensures takes { takes self.old ran result self.new }
         ensures ready { result ≡ Yes → ready self.new × (taken self.new ≡ taken self.old + 1) };
 
-    /// Takes the next result as `take` does. An epoch is known to start in the state that is expected, so its start need not be compared.
+    /// Takes the next result as `take` does. An epoch is known to start in the state that is expected, so its start
+    /// need not be compared.
     fn take_known(&mut self, ran: Ran) -> More
         requires ready { ready self.old }
         requires few { taken self.old < MAX_JOBS }

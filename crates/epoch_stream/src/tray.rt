@@ -28,7 +28,7 @@ pub(crate) struct Taken<T: Drop> {
     pub end: Result<More, OutOfMemory>,
 }
 
-// The result that a deposit stands for.
+// The result of a deposit.
 fn result_of(alloc: Global, supply: &Supply, deposit: Deposit) -> Result<Ran, OutOfMemory>
     ensures { IfOk result (IsResultIn supply.now deposit) }
 {
@@ -83,8 +83,8 @@ pub(crate) struct Tray {
 
 // Waits for the deposit whose turn it is. Returns `None` if all have had it.
 //
-// While nothing is ready, it looks at the board again and again, and yields its processor before each further look. After 64 looks it sleeps until
-// a worker rings.
+// While nothing is ready, it looks at the board again and again, and yields its processor before each further look.
+// After 64 looks it sleeps until a worker rings.
 fn wait_for<R: Wait>(
     rt: &R,
     board: &EpochBoard,

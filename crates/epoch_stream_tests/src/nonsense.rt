@@ -7,8 +7,8 @@ use std::thread::Threads;
 use supply::Supply;
 use sync_hints::{Hints, Sc, SyncHint};
 
-/// Offers a state past each limit, an ended one, and the start again, over and over, with hints of threads that are never made. It goes on after
-/// an `Enough`.
+/// Offers a state past each limit, an ended one, and the start again, over and over, with hints of threads that are
+/// never made. It goes on after an `Enough`.
 #[derive(Clone, Copy)]
 pub(crate) struct Nonsense {
     pub(crate) count: u32,

@@ -30,8 +30,8 @@ fn plan_of(jobs: u32) -> Plan
     }
 }
 
-// What a round left, unless there was no memory to begin it: whether it went well, how many results were taken, how many of them were idle,
-// the steps at which they ended, and how much they wrote.
+// What a round left, unless there was no memory to begin it: whether it went well, how many results were taken, how
+// many of them were idle, the steps at which they ended, and how much they wrote.
 type Left = (bool, u32, u32, u64, u64);
 
 fn streamed<R: Threads + Wait + Sync, Q: Racer + Drop + Send, G: Gate + Sync>(
@@ -164,7 +164,8 @@ fn a_taker_stops_at_each_result(rt: HostRuntime) -> Result<(), Fail> {
     Ok(())
 }
 
-// Of nonsense each result is one of its job, up to the plan's jobs. Job 1 is an epoch; jobs 2, 3, 5, 6 and so on can't take a step.
+// Of nonsense each result is one of its job, up to the plan's jobs. Job 1 is an epoch; jobs 2, 3, 5, 6 and so on can't
+// take a step.
 #[test]
 fn nonsense_is_run_and_handed_over(rt: HostRuntime) -> Result<(), Fail> {
     let alloc = rt.alloc();
@@ -200,8 +201,8 @@ fn are_first(left: Left) -> bool {
     }
 }
 
-// Whichever allocation fails, the round says so, and what was taken is the first of the results. This test is run with each allocation
-// failing in turn.
+// Whichever allocation fails, the round says so, and what was taken is the first of the results. This test is run with
+// each allocation failing in turn.
 #[test]
 fn a_round_out_of_memory_leaves_its_first_results(rt: HostRuntime) -> Result<(), Fail> {
     let alloc = rt.alloc();

@@ -7,7 +7,7 @@ use Rattle.elf_image.specs.Next.{IsLeast}
 use Rattle.elf_image.specs.Segment.{start_pages}
 use Rattle.elf_image.proofs.NextPages.{is_start_page, none_left, one_more, passing_from, starts}
 
--- so many numbers pass from one on, and none behind them
+-- so many numbers pass from one on, and none after them
 counted : (p : ℕ → Bool) (count least numbers : ℕ) → ((k : ℕ) → least ≤ k → k < least + count → p k ≡ true) → ((k : ℕ) → least + count ≤ k → p k ≡ false)
     → least + count ≤ numbers → length (passing_from p least numbers) ≡ count
 counted p zero least numbers pass none few = ap length (none_left p least numbers (λ k from. none k (omega (arith, from))))

@@ -29,12 +29,13 @@ words numbers = flat_map (little_bytes 4) numbers
 abbrev pub ident : List ℕ
 ident = elf_magic ++ 1 ∷ 1 ∷ 1 ∷ 0 ∷ 0 ∷ 0 ∷ 0 ∷ 0 ∷ 0 ∷ 0 ∷ 0 ∷ 0 ∷ []
 
--- of a file with so many bytes: ET_EXEC and EM_RISCV; EV_CURRENT, e_entry, e_phoff, e_shoff, e_flags; e_ehsize, e_phentsize, e_phnum and
--- what there is of sections, which is nothing
+-- of a file with this many bytes: ET_EXEC and EM_RISCV; EV_CURRENT, e_entry, e_phoff, e_shoff, e_flags; e_ehsize,
+-- e_phentsize, e_phnum, and no sections
 abbrev pub elf_header : List ℕ
 elf_header = ident ++ halves (2 ∷ 243 ∷ []) ++ words (1 ∷ (FILE_ADDRESS + 84) ∷ 52 ∷ 0 ∷ 0 ∷ []) ++ halves (52 ∷ 32 ∷ 1 ∷ 0 ∷ 0 ∷ 0 ∷ [])
 
--- the whole file, loaded at one address, to be read and executed: PT_LOAD, p_offset, p_vaddr, p_paddr, p_filesz, p_memsz, p_flags, p_align
+-- the whole file, loaded at one address, to be read and executed: PT_LOAD, p_offset, p_vaddr, p_paddr, p_filesz,
+-- p_memsz, p_flags, p_align
 abbrev pub program_header : ℕ → List ℕ
 program_header size = words (1 ∷ 0 ∷ FILE_ADDRESS ∷ FILE_ADDRESS ∷ size ∷ size ∷ 5 ∷ PAGE_BYTES ∷ [])
 

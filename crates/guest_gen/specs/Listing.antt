@@ -1,5 +1,5 @@
--- The words of a listing: the encoding of each of its instructions (RISC-V Unprivileged ISA 20191213, 2.2, 2.3, chapter 24), with
--- targets counted from the instruction that names them.
+-- The words of a listing: the encoding of each of its instructions (RISC-V Unprivileged ISA 20191213, 2.2, 2.3, chapter
+-- 24), with targets counted from the instruction that names them.
 use Rattle.std.specs.Prelude.{◌+◌, ◌-◌, ◌*◌, ◌%◌, ◌^◌, ℕ, List, [], ◌∷◌, ◌++◌}
 use Rattle.byteorder.specs.Endian.{little_bytes}
 use Rattle.guest_gen.specs.declared.instruction.Instruction.{Instruction}

@@ -12,7 +12,7 @@ use dp_base::field::{write_bytes, write_u16, write_u32};
 use dp_base::limits::PAGE_BYTES;
 use std::alloc::Global;
 
-// ELFCLASS32, ELFDATA2LSB and EV_CURRENT behind the magic number, and padding.
+// ELFCLASS32, ELFDATA2LSB and EV_CURRENT after the magic number, and padding.
 const IDENT: [u8; 16] = [0x7f, 0x45, 0x4c, 0x46, 1, 1, 1, 0, 0, 0, 0, 0, 0, 0, 0, 0];
 
 const ET_EXEC: u16 = 2;
@@ -31,11 +31,12 @@ const PF_X: u32 = 1;
 
 const PF_R: u32 = 4;
 
-/// Returns the file of guest `n`. It has 1 + n mod 8 threads, which share a counter. Each adds 1 to it 1 + (n / 8) mod 1000 times, each
-/// time under a lock. The first thread waits for the others, writes the counter as 8 lower-case hexadecimal digits and a newline,
-/// and ends the guest with code 0. The guest reads no input and no clock.
+/// Returns the file of guest `n`. It has 1 + n mod 8 threads, which share a counter. Each adds 1 to it 1 + (n / 8) mod
+/// 1000 times, each time under a lock. The first thread waits for the others, writes the counter as 8 lower-case
+/// hexadecimal digits and a newline, and ends the guest with code 0. The guest reads no input and no clock.
 ///
-/// A thread takes the lock by three steps of one slice: LR, a branch and SC. So the guest never ends in slices of one or two steps.
+/// A thread takes the lock by three steps of one slice: LR, a branch and SC. So the guest never ends in slices of one
+/// or two steps.
 pub fn make(alloc: Global, n: u32) -> Result<Vec<u8>, OutOfMemory>
     ensures file { IfOk result (λ file. file.items ≡ guest_file n) }
     ensures accepted { IfOk result (λ file. image_fault file.items ≡ None) }
@@ -47,7 +48,7 @@ pub fn make(alloc: Global, n: u32) -> Result<Vec<u8>, OutOfMemory>
     Ok(file)
 }
 
-// Adds the headers of a file of so many bytes.
+// Appends the headers of a file of this many bytes.
 fn write_headers(file: &mut Vec<u8>, bytes: u32) -> Result<(), OutOfMemory>
     ensures added { OnOk result (file.new.items ≡ file.old.items ++ elf_header ++ program_header bytes) }
 {

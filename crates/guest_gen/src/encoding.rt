@@ -32,7 +32,7 @@ const LR: u32 = 4 * 0x02;
 
 const SC: u32 = 4 * 0x03;
 
-/// Returns the word of an instruction that stands at an index of the listing.
+/// Returns the word of an instruction that is at an index of the listing.
 pub(crate) fn encode(index: u16, instruction: Instruction) -> u32
     ensures { result ≡ word_at index instruction }
 {

@@ -1,7 +1,7 @@
 use crate::register::Register;
 
-/// An instruction of a made guest (RISC-V Unprivileged ISA 20191213, chapter 24), with its operands in the order of `rv_step`'s. Jumps
-/// and branches name their target by its index in the listing.
+/// An instruction of a made guest (RISC-V Unprivileged ISA 20191213, chapter 24), with its operands in the order of
+/// `rv_step`'s. Jumps and branches name their target by its index in the listing.
 #[derive(Clone, Copy)]
 pub(crate) enum Instruction {
     /// rd, and the immediate, of which the lowest 12 bits are 0.

@@ -1,17 +1,17 @@
-// The code of made guests. It is the same for all of them: behind it are two words, by which they differ.
+// The code of made guests. It is the same for all of them: two words follow it, by which they differ.
 //
-// No thread uses a stack. What the threads share is where thread 1's stack is mapped, and is 0 at the start: the lock, which is 1
-// while a thread holds it; the counter; the text; and a clear word for each thread that is spawned. That is set to 1 before the
-// thread is spawned. Once the thread has exited the kernel clears it, and wakes the thread that waits on it. While several threads
-// run, the lock and the clear words of those that run are accessed only by atomic instructions and calls, and the counter only
-// under the lock. So the guest has no race.
+// No thread uses a stack. What the threads share is on the pages of thread 1's stack, and is 0 at the start: the lock,
+// which is 1 while a thread holds it; the counter; the text; and a clear-on-exit word for each thread that is spawned.
+// That is set to 1 before the thread is spawned. Once the thread has exited the kernel clears it, and wakes the thread
+// that waits on it. While several threads run, the lock and the clear-on-exit words of those that run are accessed only
+// by atomic instructions and calls, and the counter only under the lock. So the guest has no race.
 use crate::instruction::Instruction;
 use crate::instruction::Instruction::{
     Addi, Andi, Beq, Bge, Blt, Bne, Ecall, Jal, Jalr, LrW, Lui, Lw, Sb, ScW, Srl, Sw,
 };
 use crate::register::Register::{A0, A1, A2, A3, A7, Ra, S0, S1, S2, S3, S4, T0, T1, Zero};
 
-/// Where the file is mapped.
+/// The address at which the file is mapped.
 pub(crate) const FILE_ADDRESS: u32 = 0x0001_0000;
 
 /// Bytes of the file's headers. The code follows them.
@@ -23,7 +23,7 @@ pub(crate) const CODE_LEN: usize = 85;
 /// Bytes of the file: headers, code, and two words.
 pub(crate) const FILE_BYTES: u32 = HEADER_BYTES + 4 * CODE_LEN as u32 + 8;
 
-// Offsets in the file of the words behind the code: how many threads are spawned, and how many rounds each thread makes.
+// Offsets in the file of the words after the code: how many threads are spawned, and how many rounds each thread makes.
 const SPAWNED: u32 = FILE_BYTES - 8;
 
 const ROUNDS: u32 = FILE_BYTES - 4;
@@ -122,8 +122,8 @@ pub(crate) const CODE: [Instruction; CODE_LEN] = [
     // ALL_SPAWNED: it counts itself, and waits for the others.
     Jal(Ra, COUNT),
     Addi(S2, S0, CLEAR_WORDS),
-    // JOIN_NEXT: S2 is where the next clear word is. A wait answers 0 once the thread was woken. Then it waits again, and is told
-    // at once that the word isn't 1.
+    // JOIN_NEXT: S2 is the address of the next clear-on-exit word. A wait answers 0 once the thread was woken. Then it
+    // waits again, and is answered at once that the word isn't 1.
     Beq(S2, S3, ALL_JOINED),
     Addi(A0, S2, 0),
     Addi(A1, Zero, 1),

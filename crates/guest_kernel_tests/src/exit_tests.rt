@@ -7,7 +7,7 @@ use std::test::Fail;
 // What a thread does while one exits.
 #[derive(Clone, Copy)]
 enum Role {
-    // It exits with 9. Its clear address is 00011000.
+    // It exits with 9. Its clear-on-exit address is 00011000.
     Exits,
     // It has gone with 3.
     Gone,
@@ -59,7 +59,7 @@ fn exits() -> [(u16, Role, Role, Role, End); 11] {
     ]
 }
 
-// What is seen behind an exit of a thread with 9.
+// What is seen after an exit of a thread with 9.
 fn after_exit(
     alloc: Global,
     tid: u16,
@@ -81,7 +81,7 @@ fn ends_of_exits(rt: HostRuntime) -> Result<(), Fail> {
     Ok(())
 }
 
-// Thread 1 exits, and thread 2 waits on its clear address: that, the word there, and whether thread 2 is woken.
+// Thread 1 exits, and thread 2 waits on its clear-on-exit address: that, the word there, and whether thread 2 is woken.
 fn clearings() -> [(u32, Option<u32>, bool); 11] {
     [
         (0x11000, Some(0), true),

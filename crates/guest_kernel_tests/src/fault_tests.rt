@@ -62,8 +62,8 @@ fn as_many_pages_as_there_may_be(rt: HostRuntime) -> Result<(), Fail> {
     Ok(())
 }
 
-// What the start of the guest that exits with 7 comes to, cut to or filled up with zeros to a length, with these bytes at
-// an offset.
+// What the start of the guest that exits with 7 comes to, cut to or filled up with zeros to a length, with these bytes
+// at an offset.
 fn pages_with(
     alloc: Global,
     length: usize,

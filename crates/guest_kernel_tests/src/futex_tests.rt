@@ -94,7 +94,7 @@ enum Role {
     Wakes(u32),
     Runs,
     Gone(u32),
-    // It waits on an address, before and behind.
+    // It waits on an address, before and after.
     Waits(u32),
     // It waits there, and is woken.
     Woken(u32),
@@ -153,7 +153,7 @@ fn cases_of_wakes() -> [(u16, u32, u32, Role, Role, Role, Role); 11] {
     ]
 }
 
-// What is seen behind a wake by a thread.
+// What is seen after a wake by a thread.
 fn after_wake(
     alloc: Global,
     caller: Caller,

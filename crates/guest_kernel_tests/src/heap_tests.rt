@@ -6,7 +6,7 @@ use guest_kernel::{End, Hart, Pages, State, Thread, Threads};
 use std::alloc::Global;
 use std::test::Fail;
 
-// Does brk(new) as thread 1, which stands at an ecall at this pc. Returns the answer.
+// Does brk(new) as thread 1, which is at an ecall at this pc. Returns the answer.
 fn brk(alloc: Global, state: &mut State, pc: u32, new: u32) -> Result<u32, Fail> {
     let mut hart = Hart {
         pc,
@@ -30,7 +30,7 @@ fn brk(alloc: Global, state: &mut State, pc: u32, new: u32) -> Result<u32, Fail>
 // The last answer, the break, and how many pages are mapped.
 type Seen = (u32, u32, u32);
 
-// A guest's start state behind so many moves of its break. Its heap starts at 00011000, and 17 pages are mapped.
+// A guest's start state after so many moves of its break. Its heap starts at 00011000, and 17 pages are mapped.
 fn moved(alloc: Global, breaks: &[u32]) -> Result<Seen, Fail> {
     let mut state = started(alloc, &[0x73])?;
     let mut answer = 0;
@@ -116,7 +116,7 @@ fn bytes_behind() -> [(u32, u32, [u32; 2], Option<u32>); 8] {
         (0x13000, 0x12fff, [0x12001, 0x13000], Some(9)),
         (0x11001, 0x11fff, [0x12000, 0x11001], Some(9)),
         (0x13000, 0x11fff, [0x11001, 0x14000], Some(9)),
-        // behind moves that are refused
+        // after moves that are refused
         (0x13000, 0x12000, [0x10fff, 0xffff_f000], Some(9)),
     ]
 }
@@ -130,8 +130,8 @@ fn bytes_of_the_heap(rt: HostRuntime) -> Result<(), Fail> {
     Ok(())
 }
 
-// What a move of a break comes to, and the flags of a page behind it. The heap starts and ends there before, and pages of these
-// numbers are mapped, with flags 4, besides one of the code.
+// What a move of a break comes to, and the flags of a page after it. The heap starts and ends there before, and pages
+// of these numbers are mapped, with flags 4, besides one of the code.
 fn moved_from(
     alloc: Global,
     heap: [u32; 2],

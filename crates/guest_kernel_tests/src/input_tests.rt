@@ -1,4 +1,4 @@
-// The calls that take an answer, worked out by hand. A guest stands at an ecall on page 10 (hexadecimal), which may only be
+// The calls that take an answer, worked out by hand. A guest is at an ecall on page 10 (hexadecimal), which may only be
 // executed. Pages 11, 13 and 14 may be read and written, page 12 only be read.
 use crate::mapping::map;
 use dp_base::{Answer, Bytes, OutOfMemory, Tid};
@@ -15,7 +15,7 @@ pub(crate) enum Given {
     Clock(u64),
 }
 
-// What a turn at a call came to, a0, a1 and the pc behind it, how many bytes were read, and the step count.
+// What a turn at a call came to, a0, a1 and the pc after it, how many bytes were read, and the step count.
 pub(crate) type Seen = (Turn, u32, u32, u32, u64, u64);
 
 const USED: Turn = Turn::Stepped {
@@ -107,7 +107,7 @@ fn seen_at(
     turn_at(alloc, &mut state, given)
 }
 
-// Fd, addr and len; the answer that is given; the turn, a0 and the input's place behind it.
+// Fd, addr and len; the answer that is given; the turn, a0 and the input's place after it.
 fn read_cases() -> [([u32; 3], Option<Given>, Turn, u32, u64); 20] {
     let page = Given::Filled(4096);
     [
@@ -184,7 +184,7 @@ fn reads(rt: HostRuntime) -> Result<(), Fail> {
     Ok(())
 }
 
-// The answer that is given; the turn, a0, a1 and the pc behind it.
+// The answer that is given; the turn, a0, a1 and the pc after it.
 fn clock_cases() -> [(Option<Given>, Turn, u32, u32, u32); 7] {
     [
         (None, Turn::NeedsAnswer, 1, 2, 0x10000),
@@ -226,7 +226,7 @@ fn clocks(rt: HostRuntime) -> Result<(), Fail> {
     Ok(())
 }
 
-// The turn and a0 behind a read of three bytes across two pages, and whether each page has its part and zeros elsewhere.
+// The turn and a0 after a read of three bytes across two pages, and whether each page has its part and zeros elsewhere.
 fn read_across(alloc: Global) -> Result<(Turn, u32, bool, bool), Fail> {
     let mut state = at_call(alloc, 3, [0, 0x13ffe, 9])?;
     let (turn, a0, ..) = turn_at(alloc, &mut state, Some(Given::Read(b"abc")))?;

@@ -1,8 +1,8 @@
-//! Single turns: what each call and each turn of a guest leaves, what a turn is before it is taken, how guests start, and what runs
-//! of slices come to.
+//! Single turns: what each call and each turn of a guest leaves, what a turn is before it is taken, how guests start,
+//! and what runs of slices come to.
 //!
-//! This crate is its tests: they call `guest_kernel` and `turn_peek` as a crate above them does, over guests of a few pages and
-//! threads. Each value is worked out by hand from the definitions.
+//! This crate is its tests: they call `guest_kernel` and `turn_peek` as a crate above them does, over guests of a few
+//! pages and threads. Each value is worked out by hand from the definitions.
 #![tactic(auto)]
 
 #[cfg(test)]

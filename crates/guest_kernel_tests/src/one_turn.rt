@@ -5,7 +5,7 @@ use dp_base::{OutOfMemory, Tid};
 use guest_kernel::{State, Turn};
 use std::alloc::Global;
 
-// A turn of a thread without an answer, the guest behind it, and the output, which was these bytes before.
+// A turn of a thread without an answer, the guest after it, and the output, which was these bytes before.
 pub(crate) fn turn_behind(
     alloc: Global,
     before: State,

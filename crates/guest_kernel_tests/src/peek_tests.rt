@@ -1,6 +1,6 @@
-// Next turns worked out by hand. Page 10 may only be executed, page 11 only be read and page 12 only be written, the last page
-// that may be mapped too, and nothing is mapped behind them. The instruction stands at 00010000; its rs1 is x5, its rs2 x6, which
-// is 1, and its rd x7.
+// Next turns worked out by hand. Page 10 may only be executed, page 11 only be read and page 12 only be written, the
+// last page that may be mapped too, and nothing is mapped after them. The instruction is at 00010000; its rs1 is x5,
+// its rs2 x6, which is 1, and its rd x7.
 use crate::mapping::map;
 use dp_base::OutOfMemory;
 use guest_kernel::{Hart, Pages, Thread};

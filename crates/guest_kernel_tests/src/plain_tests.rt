@@ -1,5 +1,5 @@
-// Stretches of plain turns, each worked out by hand. Page 10 may be read, written and executed, and no other is mapped. The word of
-// a case stands at 00010004, between `addi x8, x8, 1` before it, two more after it and an EBREAK after those.
+// Stretches of plain turns, each worked out by hand. Page 10 may be read, written and executed, and no other is mapped.
+// The word of a case is at 00010004, between `addi x8, x8, 1` before it, two more after it and an EBREAK after those.
 ghost use Rattle.std.specs.Prelude.{◌≡◌, IfOk};
 
 use dp_base::Tid;
@@ -93,7 +93,8 @@ fn taken(
     Ok((taken, state.steps, pc_of(&state)))
 }
 
-// How the guest stands, the word, the thread, the limit, how many turns are taken, and where thread 1 stands after them.
+// How the guest stands, the word, the thread, the limit, how many turns are taken, and where thread 1 stands after
+// them.
 fn cases() -> [(Stand, u32, u16, u32, u32, Option<u32>); 29] {
     let end = Some(0x0001_0010);
     let word = Some(0x0001_0004);

@@ -15,7 +15,7 @@ const ADDI_TO_X0: u32 = 0x0000_0013;
 // What a run comes to, the guest's end, its step count, and thread 1's hart where it runs.
 pub(crate) type Ran = (SliceRun, End, u64, Option<Hart>);
 
-// What slices of a guest come to from its start, the guest behind them, and what it wrote.
+// What slices of a guest come to from its start, the guest after them, and what it wrote.
 pub(crate) fn ran_from(
     alloc: Global,
     start: State,
@@ -75,8 +75,8 @@ fn pc_of(hart: Option<Hart>) -> Option<u32> {
     Some(hart?.pc)
 }
 
-// What one slice comes to where it has so many steps before its last one, and where thread 1 stands behind it; what one of
-// a step more comes to; and whether the guest has ended behind one of a step less.
+// What one slice comes to where it has so many steps before its last one, and where thread 1 follows it; what one of
+// a step more comes to; and whether the guest has ended after one of a step less.
 type Around = ((SliceRun, End, u64, Option<u32>), SliceRun, bool);
 
 fn around(alloc: Global, words: &[u32], before: u16) -> Result<Around, Fail> {
@@ -95,7 +95,7 @@ fn ending(before: u16, end: End, pc: u32) -> Around {
     (whole, stops(0, steps), false)
 }
 
-// The words, how many steps there are before the last one, the end, and where thread 1 stands behind it.
+// The words, how many steps there are before the last one, the end, and where thread 1 follows it.
 fn ending_guests() -> [(&'static [u32], u16, End, u32); 5] {
     [
         (&EXITS_WORDS, 2, End::Exit(7), 0x10060),
@@ -113,9 +113,9 @@ fn ending_guests() -> [(&'static [u32], u16, End, u32); 5] {
             trap(3, 0x10054),
             0x10054,
         ),
-        // no word at all: the zeros behind the headers
+        // no word at all: the zeros after the headers
         (&[], 0, trap(2, 0), 0x10054),
-        // addi x17, x0, 11, which is no call; the word behind it is no instruction
+        // addi x17, x0, 11, which is no call; the word after it is no instruction
         (&[0x00b0_0893, 0x73], 2, trap(2, 0), 0x1005c),
     ]
 }
@@ -138,7 +138,7 @@ fn a_long_guest_ends(rt: HostRuntime) -> Result<(), Fail> {
     Ok(())
 }
 
-// A register of thread 1 behind steps at two words, its pc, and the end.
+// A register of thread 1 after steps at two words, its pc, and the end.
 fn register_after(
     alloc: Global,
     first: u32,
@@ -155,17 +155,17 @@ fn register_after(
 
 fn register_cases() -> [(u32, u32, u8, u32); 11] {
     [
-        // addi x5, x6, immediate behind addi x6, x0, 1
+        // addi x5, x6, immediate after addi x6, x0, 1
         (0x0010_0313, 0x7ff3_0293, 5, 0x0000_0800),
         (0x0010_0313, 0x8003_0293, 5, 0xffff_f801),
         (0x0010_0313, 0xfff3_0293, 5, 0x0000_0000),
-        // addi x0, x0, 5 behind addi x1, x0, 3
+        // addi x0, x0, 5 after addi x1, x0, 3
         (0x0030_0093, 0x0050_0013, 0, 0),
         (0x0030_0093, 0x0050_0013, 1, 3),
-        // lui x10, 0x10; lui x1, 0x80000 behind addi x0, x0, 0
+        // lui x10, 0x10; lui x1, 0x80000 after addi x0, x0, 0
         (0x0001_0537, ADDI_TO_X0, 10, 0x0001_0000),
         (ADDI_TO_X0, 0x8000_00b7, 1, 0x8000_0000),
-        // lui x0, 0x10 behind addi x1, x0, 3
+        // lui x0, 0x10 after addi x1, x0, 3
         (0x0030_0093, 0x0001_0037, 1, 3),
         // addi x17, x0, 11; ecall: no such call, and its number stays
         (0x00b0_0893, 0x0000_0073, 10, 0xffff_ffda),
@@ -194,7 +194,8 @@ pub(crate) fn slice(tid: u16, steps: u32) -> Slice {
     }
 }
 
-// What slices of the guest that exits with 7 come to, where a clock's answer is left or none, and its step count behind them.
+// What slices of the guest that exits with 7 come to, where a clock's answer is left or none, and its step count after
+// them.
 fn ran_seven(alloc: Global, slices: &[Slice], clock: Option<u64>) -> Result<(SliceRun, u64), Fail>
     requires few_steps { steps_of slices.now < 2 ^ 62 }
 {
@@ -273,7 +274,7 @@ fn turns(rt: HostRuntime) -> Result<(), Fail> {
     Ok(())
 }
 
-// What thread 1 of the guest that exits with 7 holds behind a slice, where it held 4 before.
+// What thread 1 of the guest that exits with 7 holds after a slice, where it held 4 before.
 fn held_after(alloc: Global, steps: u32) -> Result<Option<u32>, Fail> {
     let mut state = started(alloc, &EXITS_WORDS)?;
     let mut hart = *hart_of(&state).ok_or("thread 1 runs")?;
@@ -307,7 +308,8 @@ fn on_the_stack(state: &State) -> Option<u8> {
     state.pages.page_bytes(0x7ffff)?.get(0xfe0).copied()
 }
 
-// What two slices of the guest below come to and its step count; what SC answers, what is held, and the byte on the stack.
+// What two slices of the guest below come to and its step count; what SC answers, what is held, and the byte on the
+// stack.
 type Reserved = (SliceRun, u64, (u32, Option<u32>), Option<u8>);
 
 // addi x5, x2, 0; addi x7, x0, 5; lr.w x6, (x5); sc.w x6, x7, (x5)
@@ -320,7 +322,7 @@ fn reserved(alloc: Global, first: u32, second: u32) -> Result<Reserved, Fail> {
     Ok((run, steps, answer, on_the_stack(&state)))
 }
 
-// Where a slice ends between LR and SC, nothing is stored.
+// If a slice ends between LR and SC, nothing is stored.
 #[test]
 fn a_reservation_ends_with_its_slice(rt: HostRuntime) -> Result<(), Fail> {
     for (first, second, failed, stored) in [(3, 1, 1, 0), (2, 2, 0, 5), (4, 0, 0, 5)] {

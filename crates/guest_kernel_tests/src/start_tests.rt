@@ -93,11 +93,12 @@ fn first_wrong(pages: &Pages, below: &[Row], above: &[Row]) -> Option<usize> {
     wrong.or(first_other(pages, stack.wrapping_add(16), above))
 }
 
-// Thread 1's pc, the heap's start, the break, how many pages there are, and the first place of another page than is wanted.
+// Thread 1's pc, the heap's start, the break, how many pages there are, and the first place of another page than is
+// wanted.
 type Seen = (u32, u32, u32, u32, Option<usize>);
 
-// What is seen of the start state of a file with this entry and these segments, where these are the pages below the stack
-// and above it.
+// What is seen of the start state of a file with this entry and these segments, where these are the pages below the
+// stack and above it.
 fn look(
     alloc: Global,
     entry: u32,
@@ -112,10 +113,10 @@ fn look(
     Ok((pc, state.heap, state.brk, pages, wrong))
 }
 
-// Where the heap starts and the break, how many bytes were read and turns taken, how many threads there are, and the end.
+// The heap's start and the break, how many bytes were read and turns taken, how many threads there are, and the end.
 type Beside = ((u32, u32), (u64, u64), (usize, End));
 
-// Thread 1 of the guest that exits with 7 as it starts, and what stands beside it.
+// Thread 1 of the guest that exits with 7 as it starts, and what is beside it.
 fn start_of_seven(alloc: Global) -> Result<(Hart, Beside), Fail> {
     let state = started(alloc, &EXITS_WORDS)?;
     let hart = *hart_of(&state).ok_or("thread 1 runs")?;
@@ -165,7 +166,7 @@ fn page_cases() -> [(
             18,
             0x1_2000,
         ),
-        // zeros behind the file's bytes, up to the first byte of a third page
+        // zeros after the file's bytes, up to the first byte of a third page
         (
             &[[0x100, 0x1_0ffc, 2, 0x1005, 6]],
             0x1_0001,
@@ -187,7 +188,7 @@ fn page_cases() -> [(
             17,
             0x1_1000,
         ),
-        // right behind the stack, right before it, and far below
+        // right after the stack, right before it, and far below
         (
             &[
                 [0x104, 0x8000_0000, 1, 1, 5],
@@ -222,7 +223,7 @@ fn page_cases() -> [(
             18,
             0xffff_f000,
         ),
-        // the one that ends last stands first, and flags behind the third bit
+        // the one that ends last stands first, and flags after the third bit
         (
             &[
                 [0x100, 0x3_0000, 1, 0x1001, 0xffff_fff8],
@@ -247,7 +248,7 @@ fn start_pages(rt: HostRuntime) -> Result<(), Fail> {
     Ok(())
 }
 
-// Whether the page of a guest's file begins with it and has zeros behind it; and the flags of pages on which nothing is.
+// Whether the page of a guest's file begins with it and has zeros after it; and the flags of pages on which nothing is.
 fn page_of_seven(alloc: Global) -> Result<(bool, bool, [Option<u8>; 5]), Fail> {
     let state = started(alloc, &EXITS_WORDS)?;
     let file = test_files::file_of(alloc, &EXITS_WORDS)?;
@@ -265,7 +266,8 @@ fn the_page_of_a_whole_file(rt: HostRuntime) -> Result<(), Fail> {
     Ok(())
 }
 
-// The flags of the page that a segment fills; a turn of a guest that starts on it at an odd address, the step count, and the end.
+// The flags of the page that a segment fills; a turn of a guest that starts on it at an odd address, the step count,
+// and the end.
 fn turn_on_a_full_page(alloc: Global) -> Result<(Option<u8>, Turn, u64, End), Fail> {
     let file = file_of(alloc, 0x20001, &[[0x100, 0x2_0000, 3, 4096, 7]])?;
     let state = start_from_file(alloc, &file)?;

@@ -40,7 +40,7 @@ fn waits(held: Option<u32>) -> Thread {
     }
 }
 
-// Thread 1 behind the end of a thread's slice, and whether the guest has ended.
+// Thread 1 after the end of a thread's slice, and whether the guest has ended.
 fn behind_a_slice(alloc: Global, before: Thread, tid: u16) -> Result<(Option<Thread>, bool), Fail> {
     let mut state = state_of(alloc, before)?;
     state.end_slice(Tid(tid));
@@ -63,7 +63,8 @@ fn a_slices_end(rt: HostRuntime) -> Result<(), Fail> {
     Ok(())
 }
 
-// Whether a guest of one thread and this end has ended; what a turn of a thread comes to, the end behind it, and the step count.
+// Whether a guest of one thread and this end has ended; what a turn of a thread comes to, the end after it, and the
+// step count.
 fn turn_at(
     alloc: Global,
     thread: Thread,
@@ -80,7 +81,7 @@ fn turn_at(
     Ok((ended, turn, state.end, state.steps))
 }
 
-// Where the guest ended, no such thread was made or the thread doesn't run, there is no turn.
+// If the guest has ended, no such thread was made or the thread doesn't run, there is no turn.
 #[test]
 fn no_turn(rt: HostRuntime) -> Result<(), Fail> {
     let hart = hart(None);

@@ -113,7 +113,7 @@ fn spawns(rt: HostRuntime) -> Result<(), Fail> {
     Ok(())
 }
 
-// Threads 4 and 5 behind a spawn of thread 4, the end, and the step count.
+// Threads 4 and 5 after a spawn of thread 4, the end, and the step count.
 fn made_by_spawn(alloc: Global) -> Result<(Option<Thread>, Option<Thread>, End, u64), Fail> {
     let state = state_of(alloc, threads_of(alloc, 2, 1, 0)?)?;
     let (_, state, _) = one_turn(alloc, state, 4)?;
@@ -149,7 +149,7 @@ fn the_thread_that_is_made(rt: HostRuntime) -> Result<(), Fail> {
     Ok(())
 }
 
-// What a turn of thread 3 comes to, which stands there with this x17: whether it is a yield, and x10 behind it.
+// What a turn of thread 3 comes to, which stands there with this x17: whether it is a yield, and x10 after it.
 fn turned(alloc: Global, pc: u32, number: u32) -> Result<(bool, u32), Fail> {
     let mut threads = threads_of(alloc, 1, 0, 1)?;
     let mut hart = Hart {
@@ -176,14 +176,14 @@ fn turned(alloc: Global, pc: u32, number: u32) -> Result<(bool, u32), Fail> {
     Ok((yielded, a0))
 }
 
-// Pc, x17; whether the turn is a yield, and x10 behind it.
+// Pc, x17; whether the turn is a yield, and x10 after it.
 fn turn_cases() -> [(u32, u32, bool, u32); 15] {
     [
         (0x10000, 7, true, 0),
         // gettid
         (0x10000, 10, false, 3),
-        // the other calls: two exits, a write to file 99, a spawn, a wait on 99, which is no multiple of 4, a wake, and a break below
-        // the heap
+        // the other calls: two exits, a write to file 99, a spawn, a wait on 99, which is no multiple of 4, a wake, and
+        // a break below the heap
         (0x10000, 0, false, 0x99),
         (0x10000, 1, false, 0x99),
         (0x10000, 2, false, 0xffff_fff7),
@@ -212,9 +212,9 @@ fn yields_and_numbers(rt: HostRuntime) -> Result<(), Fail> {
 }
 
 // A guest of two threads. Thread 1, from 00010054 on: addi x5, x0, 1; sw x5, 0(x2); lui x10, 0x10; addi x10, x10, 0x90;
-// addi x13, x2, 0; addi x17, x0, 4; ecall: spawn(10090, 0, 0, x2). Then addi x10, x2, 0; addi x11, x0, 1; addi x17, x0, 5; ecall:
-// futex_wait(x2, 1). Then lw x10, 0(x2); addi x10, x10, 7; addi x17, x0, 1; ecall: exit_all with 7 more than the word.
-// Thread 2, from 00010090 on: addi x10, x0, 3; ecall: exit_thread(3).
+// addi x13, x2, 0; addi x17, x0, 4; ecall: spawn(10090, 0, 0, x2). Then addi x10, x2, 0; addi x11, x0, 1; addi x17, x0,
+// 5; ecall: futex_wait(x2, 1). Then lw x10, 0(x2); addi x10, x10, 7; addi x17, x0, 1; ecall: exit_all with 7 more than
+// the word. Thread 2, from 00010090 on: addi x10, x0, 3; ecall: exit_thread(3).
 const TWO_THREADS: [u32; 17] = [
     0x0010_0293,
     0x0051_2023,
@@ -275,7 +275,7 @@ fn to_the_end() -> Outcome {
     (SliceRun::Whole, End::Exit(7), 17, Some((0x10090, 7)))
 }
 
-// A run that stops at the first step of a slice, behind so many steps.
+// A run that stops at the first step of a slice, after so many steps.
 fn stopped(slice: usize, steps: u64, first: Option<(u32, u32)>) -> Outcome {
     let run = SliceRun::Stops { slice, step: 0 };
     (run, End::None, steps, first)
@@ -299,12 +299,12 @@ fn two_threads_to_the_end(rt: HostRuntime) -> Result<(), Fail> {
     Ok(())
 }
 
-// Two slices or three, and the pc and x10 of thread 1 behind them.
+// Two slices or three, and the pc and x10 of thread 1 after them.
 fn waits_of_thread_one() -> [(Cut, Cut, Option<Cut>, u32, u32); 2] {
     [
         // the wait finds another word
         ((1, 10), (2, 2), Some((1, 1)), 0x10080, 0xffff_fff5),
-        // behind its wake it stands behind its wait
+        // after its wake it follows its wait
         ((1, 11), (2, 2), None, 0x10080, 0),
     ]
 }
@@ -318,10 +318,11 @@ fn behind_the_wait(rt: HostRuntime) -> Result<(), Fail> {
     Ok(())
 }
 
-// Two slices or three, of which the last has no turn; which one that is, the step count, and the pc and x10 of thread 1.
+// Two slices or three, of which the last has no turn; which one that is, the step count, and the pc and x10 of thread
+// 1.
 fn slices_without_a_turn() -> [(Cut, Cut, Option<Cut>, usize, u64, Option<(u32, u32)>); 3] {
     [
-        // thread 1 while it waits, and thread 2 before it is made and behind its exit
+        // thread 1 while it waits, and thread 2 before it is made and after its exit
         ((1, 11), (1, 1), None, 1, 11, None),
         ((1, 6), (2, 1), None, 1, 6, Some((0x1006c, 0x10090))),
         ((1, 7), (2, 2), Some((2, 1)), 2, 9, Some((0x10070, 2))),

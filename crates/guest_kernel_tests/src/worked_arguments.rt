@@ -1,4 +1,5 @@
-// The numbers of a call's registers, of the two calls and of the answers that this crate tells, and definitions worked out by hand.
+// The numbers of a call's registers, of the two calls and of the answers that this crate tells, and definitions worked
+// out by hand.
 ghost use Rattle.std.specs.Prelude.{◌≡◌, [], Some};
 ghost use Rattle.turn_peek.specs.declared.calls.TheConstants.{A0, A1, A2, A3, A7, CLOCK, EBADF, EFAULT, READ};
 ghost use Rattle.turn_peek.specs.Arguments.{minus, moved};

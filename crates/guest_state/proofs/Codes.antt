@@ -117,7 +117,7 @@ end_code = code_from end_from end_bytes IsEnd end_found end_taken
 
 -- ---- harts and threads
 
--- a hart with its clear address, as one value
+-- a hart with its clear-on-exit address, as one value
 abbrev Clearing : Type 0
 Clearing = Hart × ℕ
 

@@ -1,4 +1,4 @@
--- Many of a kind, read one after another, where what is left over counts.
+-- Many of a kind, read one after another, where what is left counts.
 use Rattle.std.proofs.Common.{◌≡◌, ℕ, suc, List, [], ◌∷◌, Option, Some, None, refl, ap, ◌∙◌}
 use Rattle.std.specs.Option.{option_map}
 use Rattle.dp_base.specs.Field.{◌>>=◌}

@@ -29,13 +29,13 @@ pub find_step : {X Y : Type 0} {item : List ℕ → Option (X × List ℕ)} {enc
     → f (x, rest) ≡ y → (item (encode x ++ rest) >>= f) ≡ y
 find_step {item = item} {encode = encode} code f x rest y is goes_on = bind_at (item (encode x ++ rest)) f (x, rest) y (code.decoded x rest is) goes_on
 
--- with more of the value's own behind it
+-- with more of the value's own after it
 pub find_first : {X Y : Type 0} {item : List ℕ → Option (X × List ℕ)} {encode : X → List ℕ} {Is : X → Type 0} → IsPrefixCode item encode Is → (f : X × List ℕ → Option Y) (x : X) (more rest : List ℕ) (y : Option Y) → Is x
     → f (x, more ++ rest) ≡ y → (item ((encode x ++ more) ++ rest) >>= f) ≡ y
 find_first {item = item} {encode = encode} code f x more rest y is goes_on =
     ap (λ (b : List ℕ). item b >>= f) (append_assoc (encode x) more rest) ∙ find_step code f x (more ++ rest) y is goes_on
 
--- with what was taken behind it
+-- with what was taken after it
 pub grouped : {X Y : Type 0} {encode : X → List ℕ} {Is : X → Type 0} {f : X × List ℕ → Option Y} {bytes : List ℕ} {y : Y} (took : Took encode Is f bytes y) (b rest : List ℕ) → took.rest ≡ b ++ rest
     → bytes ≡ (encode took.value ++ b) ++ rest
 grouped {encode = encode} took b rest behind = took.joined ∙ ap (λ (t : List ℕ). encode took.value ++ t) behind ∙ sym (append_assoc (encode took.value) b rest)
@@ -56,7 +56,7 @@ bytes_code n = code_from (bytes_at n) same_bytes (λ bytes. (length bytes ≡ n)
     (λ bytes rest is. ap (λ (k : ℕ). bytes_at k (bytes ++ rest)) (sym is.0) ∙ bytes_found bytes rest)
     (λ bytes x fits e. let t = bytes_taken n bytes x fits e in (t.0, (t.1, t.2)))
 
--- ---- a value behind its kind
+-- ---- a value after its kind
 
 pub record Behind {X : Type 0} (encode : X → List ℕ) (Is : X → Type 0) (kind : ℕ) (bytes : List ℕ) (x : X × List ℕ) : Type 0 where
   pub body : List ℕ

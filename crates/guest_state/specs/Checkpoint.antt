@@ -1,6 +1,6 @@
 -- The bytes of a guest between two slices. This machine's own; docs/JOURNAL.md shows them. Each part has an encoding
--- (`end_bytes`, `thread_bytes`, `page_bytes`, `checkpoint_bytes`), and beside it stands what a reader accepts at the start of
--- bytes (`end_from`, ..): the value, and the bytes behind it.
+-- (`end_bytes`, `thread_bytes`, `page_bytes`, `checkpoint_bytes`), and with it what a reader accepts at the start of
+-- bytes (`end_from`, ..): the value, and the bytes after it.
 use Rattle.std.specs.Prelude.{◌≡◌, ◌^◌, ◌<◌, ◌+◌, ◌%◌, ℕ, Bool, true, false, List, [], ◌∷◌, ◌++◌, length, count_by, Option, Some, None, ◌==◌, ◌&&◌, nat_lt, nat_le, if◌then◌else◌}
 use Rattle.std.specs.List.{flat_map, AllByRecursion}
 use Rattle.byteorder.specs.Endian.{little_bytes}
@@ -72,7 +72,7 @@ rising_from least (p ∷ pages) = nat_le least p.number && rising_from (p.number
 abbrev pub rising : List Page → Bool
 rising pages = rising_from 0 pages
 
--- a trap is one of so many threads'
+-- a trap is that of one of `count` threads
 abbrev pub traps_within : ℕ → End → Bool
 traps_within count ends.None = true
 traps_within count (ends.Exit code) = true
@@ -114,7 +114,7 @@ end_bytes (ends.Exit code) = 1 ∷ word code
 end_bytes (ends.Trap tid cause value) = 2 ∷ (little_bytes 2 tid.0 ++ (little_bytes 1 cause ++ word value))
 end_bytes ends.Deadlock = 3 ∷ []
 
--- pc, the clear address, and x1 to x31
+-- pc, the clear-on-exit address, and x1 to x31
 abbrev pub hart_bytes : Hart → ℕ → List ℕ
 hart_bytes hart clear = word hart.pc ++ (word clear ++ flat_map word hart.x)
 
@@ -126,8 +126,8 @@ thread_bytes (Gone code) = 2 ∷ word code
 abbrev pub page_bytes : Page → List ℕ
 page_bytes p = word p.number ++ (little_bytes 1 p.flags ++ p.bytes)
 
--- the step count, the input place, the heap's start, the break and the end, and then the threads and the pages, each behind
--- their number
+-- the step count, the input offset, the heap's start, the break and the end, and then the threads and the pages, each
+-- after their count
 abbrev pub checkpoint_bytes : Checkpoint → List ℕ
 checkpoint_bytes c = little_bytes 8 c.steps ++ (little_bytes 8 c.input ++ (word c.heap ++ (word c.brk ++ (end_bytes c.end
     ++ (little_bytes 2 (length c.threads) ++ (flat_map thread_bytes c.threads
@@ -135,7 +135,7 @@ checkpoint_bytes c = little_bytes 8 c.steps ++ (little_bytes 8 c.input ++ (word 
 
 -- ---- what a reader accepts
 
--- how a guest ended, behind its kind
+-- how a guest ended, after its kind
 unfoldable pub exit_from : List ℕ → Option (End × List ℕ)
 exit_from bytes = do
   code ← number_at 4 bytes
@@ -156,7 +156,7 @@ end_from bytes = do
       else if kind.0 == 2 then trap_from kind.1
       else if kind.0 == 3 then Some (ends.Deadlock, kind.1) else None
 
--- a hart and its clear address
+-- a hart and its clear-on-exit address
 unfoldable pub hart_from : List ℕ → Option ((Hart × ℕ) × List ℕ)
 hart_from bytes = do
   pc ← number_at 4 bytes
@@ -164,7 +164,7 @@ hart_from bytes = do
   x ← many_at (number_at 4) 31 clear.1
   Some ((record { pc = pc.0; x = x.0; held = None }, clear.0), x.1)
 
--- a thread, behind its kind
+-- a thread, after its kind
 unfoldable pub runs_from : List ℕ → Option (Thread × List ℕ)
 runs_from bytes = do
   hart ← hart_from bytes

@@ -4,7 +4,7 @@ use Rattle.dp_base.specs.declared.limits.TheConstants.{MAX_LIVE_THREADS, MAX_PAG
 use Rattle.guest_state.specs.Checkpoint.{is_heap, traps_within}
 use Rattle.guest_state.specs.declared.scan.CheckpointBounds.{CheckpointBounds}
 
--- how many were skipped, what is known of them, and the bytes behind them
+-- how many were skipped, what is known of them, and the bytes after them
 pub record Skipped (A : Type 0) : Type 0 where
   pub count : ℕ
   pub known : A

@@ -23,8 +23,8 @@ pub fn checkpoints()
     ensures { IsPrefixCode checkpoint_from checkpoint_bytes IsCheckpoint }
 {}
 
-/// What is decoded from all of the bytes, with none left over: an encoding gives its state, and bytes that give a state are
-/// its encoding.
+/// Decoding all of the bytes, with none left: an encoding gives its state, and bytes that give a state are its
+/// encoding.
 pub fn whole_checkpoints()
     ensures { IsWholeCode checkpoint_from checkpoint_bytes IsCheckpoint }
 {}

@@ -1,8 +1,8 @@
 //! A guest between two slices, as data: harts, threads, how it ended, and the one encoding in bytes of all that it is
 //! (`specs/Checkpoint.antt`), which marks of a journal and digests are made of.
 //!
-//! Promises: a state has one encoding, and no encoding is a prefix of another; each reader takes exactly what the grammar
-//! accepts. Stands on `dp_base`.
+//! Promises: a state has one encoding, and no encoding is a prefix of another; each reader takes exactly what the
+//! grammar accepts. Builds on `dp_base`.
 //!
 //! ```text
 //! let (end, rest) = read_end(bytes)?;

@@ -29,7 +29,7 @@ const WAITS: u8 = 1;
 
 const GONE: u8 = 2;
 
-/// How a guest ended, and the bytes behind it. Returns `None` exactly if the bytes don't start with an end.
+/// Returns how a guest ended, and the bytes after it. Returns `None` exactly if the bytes don't start with an end.
 #[tactic(auto, unfolding(crate::specs::Checkpoint::end_from))]
 pub fn read_end(bytes: &[u8]) -> Option<(End, &[u8])>
     ensures { option_map (λ x. (x.0, x.1.now)) result ≡ end_from bytes.now }
@@ -67,7 +67,7 @@ fn read_trap(bytes: &[u8]) -> Option<(End, &[u8])>
     }
 }
 
-/// A thread, and the bytes behind it. Returns `None` exactly if the bytes don't start with one.
+/// Returns a thread, and the bytes after it. Returns `None` exactly if the bytes don't start with one.
 #[tactic(auto, unfolding(crate::specs::Checkpoint::thread_from))]
 pub fn read_thread(bytes: &[u8]) -> Option<(Thread, &[u8])>
     ensures { option_map (λ x. (x.0, x.1.now)) result ≡ thread_from bytes.now }
@@ -106,7 +106,7 @@ fn read_gone(bytes: &[u8]) -> Option<(Thread, &[u8])>
     Some((Thread::Gone(code), rest))
 }
 
-// A hart without a reservation, its clear address, and the bytes behind them.
+// A hart without a reservation, its clear-on-exit address, and the bytes after them.
 #[tactic(auto, unfolding(crate::specs::Checkpoint::hart_from))]
 fn read_hart(bytes: &[u8]) -> Option<(Hart, u32, &[u8])>
     ensures { option_map (λ x. ((x.0, x.1), x.2.now)) result ≡ hart_from bytes.now }
@@ -118,7 +118,7 @@ fn read_hart(bytes: &[u8]) -> Option<(Hart, u32, &[u8])>
     Some((hart, clear, rest))
 }
 
-// The registers x1 to x31, and the bytes behind them.
+// The registers x1 to x31, and the bytes after them.
 fn read_registers(bytes: &[u8]) -> Option<([u32; 31], &[u8])>
     ensures { option_map (λ x. (x.0, x.1.now)) result ≡ many_at (number_at 4) 31 bytes.now }
 {
@@ -134,7 +134,7 @@ fn read_registers(bytes: &[u8]) -> Option<([u32; 31], &[u8])>
     Some((x, rest))
 }
 
-/// A page, and the bytes behind it. Returns `None` exactly if the bytes don't start with one.
+/// Returns a page, and the bytes after it. Returns `None` exactly if the bytes don't start with one.
 #[tactic(auto, unfolding(crate::specs::Checkpoint::page_from))]
 pub fn read_page(bytes: &[u8]) -> Option<(PageView<'_>, &[u8])>
     ensures page { option_map (λ x. (page_of x.0, x.1.now)) result ≡ page_from bytes.now }

@@ -24,7 +24,7 @@ pub fn is_checkpoint(bytes: &[u8]) -> bool
     }
 }
 
-// The bytes behind a checkpoint.
+// The bytes after a checkpoint.
 #[tactic(auto, unfolding(crate::specs::Checkpoint::checkpoint_from))]
 fn skip_checkpoint(bytes: &[u8]) -> Option<&[u8]>
     ensures { option_map (λ x. x.now) result ≡ option_map (λ x. x.1) (checkpoint_from bytes.now) }
@@ -53,7 +53,7 @@ fn skip_checkpoint(bytes: &[u8]) -> Option<&[u8]>
 /// What the bounds of a checkpoint are about.
 #[derive(Clone, Copy)]
 pub struct CheckpointBounds {
-    /// Where the heap starts, and where it ends.
+    /// The addresses at which the heap starts and ends.
     pub heap: u32,
     pub brk: u32,
     pub end: End,
@@ -80,7 +80,7 @@ impl CheckpointBounds {
     }
 }
 
-// How many of so many threads are alive, and the bytes behind them.
+// How many of the first `count` threads are alive, and the bytes after them.
 fn skip_threads(count: u16, bytes: &[u8]) -> Option<(usize, &[u8])>
     ensures { option_map (λ x. counting count x.0 x.1.now) result
         ≡ option_map (λ x. counting (length x.0) (live x.0) x.1) (many_at thread_from count bytes.now) }
@@ -119,7 +119,7 @@ pub fn live_count(threads: &[Thread]) -> usize
     alive
 }
 
-// Whether the numbers of so many pages rise, and the bytes behind them.
+// Whether the numbers of the first `count` pages rise, and the bytes after them.
 fn skip_pages(count: u16, bytes: &[u8]) -> Option<(bool, &[u8])>
     ensures { option_map (λ x. testing count x.0 x.1.now) result
         ≡ option_map (λ x. testing (length x.0) (rising x.0) x.1) (many_at page_from count bytes.now) }

@@ -140,7 +140,8 @@ module _ {X : Type 0} where
           refl,
         )
 
-    -- what the first pass is when another takes: it has taken nothing, since it takes only once all others have come back
+    -- what the first pass is when another takes: it has taken nothing, since it takes only once all others have come
+    -- back
     first_else : (items : List X) (views : List (View X)) (o : Rule items views) (port : ℕ) (v w : View X) (takes' : List (ℕ × X)) → get_elem? views port ≡ some v → v.spent ≡ false → port ≢ 0 → First items views o takes' (set views port w)
     first_else items views o zero v w takes' at un ne = absurd (ne refl)
     first_else items views o (suc p) v w takes' at un ne = let nothing : o.first.taken ≡ [] = ⊎_elim (λ (h : o.first.taken ≡ []). h)

@@ -23,7 +23,8 @@ module _ {R : Type 0} where
   Collects old collects.Empty new = (view new.results ≡ view old.results) × IsPartOf (view old.results) []
 
 module _ {A : Type 0} where
-  -- the list is an interleaving of the parts: each item is one of the next part's, of which worker k has the one at k - 1
+  -- the list is an interleaving of the parts: each item is one of the next part's, of which worker k has the one at k -
+  -- 1
   abbrev pub IsInterleaving : List (List A) → List A → Type 0
   IsInterleaving parts xs = (log : List (ℕ × A)) × (xs ≡ items_of log) × ((k : ℕ) → part (suc k) log ≡ slice_index_or parts k []) × (part 0 log ≡ [])
 

@@ -14,7 +14,7 @@ use Rattle.job_board.specs.declared.answer.Left.{Left}
 use Rattle.job_board.specs.Queue.{total_cost}
 use Rattle.job_board.specs.Items.{job_cost, jobs_of, results_of, counts_of, stops_of}
 
--- pass 0 of a queue, which has made so many passes, itself included, and has taken these back
+-- pass 0 of a queue, which has made this many passes, itself included, and has taken these back
 pub record IsFirst {X : Type 0} (v : View X) (passes : ℕ) (back : List (List X × List X)) : Type 0 where
   pub number : v.number ≡ 0
   pub alive : v.spent ≡ false

@@ -1,6 +1,6 @@
--- The rule of a queue in order: what was put is what was taken, in order, and then what the queue holds. A pass has a number, by which
--- logs name it. It knows what it put and what it took, and how much it may still put. Pass 0 makes the others, and takes them back in
--- their order. Only when all are back does it take items itself.
+-- The rule of a queue in order: what was put is what was taken, in order, and then what the queue holds. A pass has a
+-- number, by which logs name it. It knows what it put and what it took, and how much it may still put. Pass 0 makes the
+-- others, and takes them back in their order. Only when all are back does it take items itself.
 use Rattle.std.specs.Prelude.{◌≡◌, ℕ, suc, ◌+◌, ◌-◌, ◌≤◌, ◌<◌, ◌==◌, ◌⊎◌, Bool, true, false, List, [], ◌∷◌, ◌++◌, map, length, slice_index_or, if◌then◌else◌}
 use mathlib.Core.Option.{some}
 use lib.ListN.{get_elem?}
@@ -86,7 +86,8 @@ module _ {X : Type 0} where
     pub within : total (λ v. v.items_left) views + length puts ≤ capacity
     pub costs : total (λ v. v.cost_left) views + total_cost cost (items_of puts) ≤ limit
 
-  -- at one moment what was put is what was taken and these items, in order, and of it the pass has put and taken what it knows
+  -- at one moment what was put is what was taken and these items, in order, and of it the pass has put and taken what
+  -- it knows
   abbrev pub IsPartOf : View X → List X → Type 0
   IsPartOf v items = (puts takes : List (ℕ × X)) × (items_of puts ≡ items_of takes ++ items) × (part v.number puts ≡ v.put) × (part v.number takes ≡ v.taken)
 

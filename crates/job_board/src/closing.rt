@@ -51,7 +51,8 @@ impl<J: Drop, R: Drop> Board<J, R> {
         }
     }
 
-    /// Puts one stop for each worker after the jobs, and the count of jobs after the results so far. There always is space for them.
+    /// Puts one stop for each worker after the jobs, and the count of jobs after the results so far. There always is
+    /// space for them.
     pub fn finish(&self, rt: &impl Wait, publisher: Publisher<J, R>) -> Receipt<J, R>
         requires pass { IsPublisherOf self.now publisher }
         ensures pass { IsReceiptOf self.now result }

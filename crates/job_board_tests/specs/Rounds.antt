@@ -1,4 +1,4 @@
--- What goes into a round, and what comes back.
+-- What goes into a round, and what is returned.
 use Rattle.std.specs.Prelude.{◌≡◌, ℕ, ◌≤◌, [], length}
 use Rattle.job_board.specs.declared.board.Board.{Board}
 use Rattle.job_board.specs.Passes.{AreWorkersOf, IsCollectorOf, IsPublisherOf, IsReceiptOf, published}

@@ -15,7 +15,8 @@ use std::sync::Wait;
 use std::thread::{self, Scope, Threads};
 use stop_word::{StopWord, Stopper};
 
-/// What a round leaves: the results that were collected, in order, with their jobs' indexes, and what was left on the board.
+/// What a round leaves: the results that were collected, in order, with their jobs' indexes, and what was left on the
+/// board.
 #[derive(Drop)]
 pub(crate) struct Closed<J: Drop, V: Drop> {
     pub(crate) collected: Vec<(u32, V)>,
@@ -172,7 +173,8 @@ fn add_watchers<J: Drop, V: Drop>(
     Ok(passes)
 }
 
-/// Runs a round: publisher and workers in threads of their own, and the collector here. Stops the word after the given number of results.
+/// Runs a round: publisher and workers in threads of their own, and the collector here. Stops the word after the given
+/// number of results.
 pub(crate) fn run_round<
     R: Threads + Wait + Sync,
     J: Drop + Send,

@@ -52,7 +52,8 @@ struct Seen {
     stopped: [bool; 64],
 }
 
-// Whether a job is done once, by a worker that did others before it in order, and that saw no stop earlier if it sees none now.
+// Whether a job is done once, by a worker that did others before it in order, and that saw no stop earlier if it sees
+// none now.
 fn note(seen: &mut Seen, index: u32, entry: &Entry) -> bool {
     let at = index.wrapping_sub(1) as usize;
     let by = entry.worker.wrapping_sub(1) as usize;

@@ -62,7 +62,7 @@ made_of file reading are e =
       tail = tail_taken (next_at list.1) (length file - length list.1) (length list.0 + 1) l.stops;
     })
 
--- a file behind its header
+-- a file after its header
 behind_header : (file guest behind : List ℕ) → header_at file ≡ Some (guest, behind) → reads_in file ≡ Some (reading_of guest (length file) (list_from behind))
 behind_header file guest behind e = ap (option_map (λ (h : List ℕ × List ℕ). reading_of h.0 (length file) (list_from h.1))) e
 
@@ -100,7 +100,7 @@ pub reads_behind : (bytes guest behind : List ℕ) → header_at (first_bytes by
 unfolding reads
 reads_behind bytes guest behind e = behind_header (first_bytes bytes) guest behind e
 
--- ---- what stands where
+-- ---- what is where
 
 pub guest_stands : (bytes guest behind : List ℕ) → AreBytes bytes → header_at (first_bytes bytes) ≡ Some (guest, behind) → guest ≡ take (length guest) (drop 9 (first_bytes bytes))
 guest_stands bytes guest behind are e =
@@ -175,7 +175,7 @@ record Cut (records : List Record) (part : List ℕ) : Type 0 where
 cut_here : (records : List Record) (part : List ℕ) → fitting_at part ≡ None → Cut records part
 cut_here records part none = record { count = 0; left = part; list = list_stops part ended tt (next_none part none); ends = next_none part none }
 
--- what fits also does with more behind it
+-- what fits also does with more after it
 grown : (part more : List ℕ) (x : List ℕ × List ℕ) → AreBytes part → fitting_at part ≡ Some x → fitting_at (part ++ more) ≡ Some (x.0, x.1 ++ more)
 grown part more x are e =
     let t = fitting_taken part x are e in

@@ -15,7 +15,7 @@ use Rattle.journal_text.specs.Reading.{first_bytes}
 use Rattle.journal_text.specs.Records.{Record, bad, body_of, ended, epoch, first_of, fitting_at, found, mark, mark_in, next_at, next_of, partial, record_in}
 use Rattle.journal_text.proofs.Records.{fitting_taken, next_none, next_nothing, next_some, record_taken}
 
--- a body that fits at a place, and the bytes behind it
+-- a body that fits at a place, and the bytes after it
 pub record Took (file : List ℕ) (at : ℕ) (body rest : List ℕ) : Type 0 where
   pub fits : fitting_at (drop at file) ≡ Some (body, rest)
   pub within : length rest ≤ length file

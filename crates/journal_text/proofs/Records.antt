@@ -53,7 +53,7 @@ fitting_found body rest short =
     (bind_at (number_at 4 gate.1) (fitting_size gate) size (Some made) (length_prefixed_found 4 body rest (omega (arith, short)))
     (bind_at (bytes_at size.0 size.1) (fitting_end gate) made (Some made) (bytes_found body rest) refl))
 
--- fewer bytes are behind it
+-- fewer bytes are after it
 fewer_bytes : (n : ℕ) (bytes : List ℕ) (x : List ℕ × List ℕ) → bytes_at n bytes ≡ Some x → length x.1 ≤ length bytes
 fewer_bytes n bytes x e =
     let g = enough (ltb (length bytes) n) (take n bytes, drop n bytes) x e in
@@ -154,7 +154,7 @@ record_taken body r fits e = record_taken_as body (whole epoch_body_at body) (ma
 pub body_taken : (body : List ℕ) (r : Record) → AreBytes body → record_in body ≡ Some r → length body ≤ MAX_BODY_BYTES → (body ≡ body_of r) × IsRecord r
 body_taken body r fits e few = let t = record_taken body r fits e in (t.0, (t.1, subst (λ (b : List ℕ). length b ≤ MAX_BODY_BYTES) t.0 few))
 
--- ---- what stands at a gate
+-- ---- what is at a gate
 
 judged : (few : Bool) (o : Option Record) (r : Record) (behind rest : List ℕ) → cond few (found_in o behind) bad ≡ found r rest → (few ≡ true) × (o ≡ Some r) × (behind ≡ rest)
 judged true (Some x) r behind rest e = (refl, cc, cc)
@@ -188,7 +188,7 @@ next_taken bytes r rest fits e =
     let b = body_taken s.body r t.2 s.is s.few in
     (subst (λ (body : List ℕ). Splits bytes (record_of body) rest) b.0 t.0, b.1)
 
--- a record's body, and whatever is behind it
+-- a record's body, and whatever is after it
 pub next_of_body : (r : Record) (rest : List ℕ) → IsRecord r → next_of (Some (body_of r, rest)) ≡ found r rest
 next_of_body r rest is = rw (le-leb _ _ is.1, in_its_body r is.0) refl
 

@@ -1,4 +1,5 @@
--- What a file says, read as a journal: the guest, the records, and where and why the list of them ends. This project's own.
+-- What a file says, read as a journal: the guest, the records, and where and why the list of them ends. This project's
+-- own.
 use Rattle.std.specs.Prelude.{◌≡◌, ◌+◌, ◌-◌, ℕ, List, [], ◌∷◌, ◌++◌, length, take, Option, option_map}
 use Rattle.std.specs.List.{flat_map, AllByRecursion}
 use Rattle.dp_base.specs.declared.limits.TheConstants.{MAX_JOURNAL_BYTES}
@@ -23,13 +24,13 @@ ending guest records place = record { guest = guest; records = records; tail = e
 abbrev pub first_bytes : List ℕ → List ℕ
 first_bytes bytes = take MAX_JOURNAL_BYTES bytes
 
--- a list never ends where a record was found
+-- a list never ends at a record
 abbrev pub tail_at : NextRecord → (place number : ℕ) → Tail
 tail_at ended place number = end place
 tail_at bad place number = bad_record number
 tail_at (found r rest) place number = end place
 
--- of a file of so many bytes, by the guest of its header and the list behind it
+-- of a file of this many bytes, by the guest of its header and the list after it
 abbrev pub reading_of : (guest : List ℕ) → (file_bytes : ℕ) → List Record × List ℕ → Reading
 reading_of guest file_bytes list = record {
   guest = guest;
@@ -40,7 +41,7 @@ reading_of guest file_bytes list = record {
 abbrev pub reads_in : List ℕ → Option Reading
 reads_in file = option_map (λ h. reading_of h.0 (length file) (list_from h.1)) (header_at file)
 
--- none where the file is no journal
+-- none if the file is no journal
 unfoldable pub reads : List ℕ → Option Reading
 reads bytes = reads_in (first_bytes bytes)
 

@@ -1,6 +1,6 @@
--- The records of a journal, marks included: the body of each, and what a reader finds at a record's gate. This project's own,
--- over the bytes of an epoch (dp_base's Journal), of a guest between two slices (guest_state's Checkpoint), and of what changed
--- of it since the mark before (partial_mark's Partial).
+-- The records of a journal, marks included: the body of each, and what a reader finds at a record's gate. This
+-- project's own, over the bytes of an epoch (dp_base's Journal), of a guest between two slices (guest_state's
+-- Checkpoint), and of what changed of it since the mark before (partial_mark's Partial).
 use Rattle.std.specs.Prelude.{◌≤◌, ℕ, zero, suc, List, [], ◌∷◌, length, Option, Some, None, option_map, ◌==◌, nat_le, if◌then◌else◌}
 use Rattle.dp_base.specs.declared.limits.TheConstants.{MAX_BODY_BYTES}
 use Rattle.dp_base.specs.Encoding.{whole}
@@ -9,7 +9,7 @@ use Rattle.dp_base.specs.Journal.{Epoch, IsEpoch, epoch_body, epoch_body_at, ope
 use Rattle.guest_state.specs.Checkpoint.{Checkpoint, IsCheckpoint, checkpoint_bytes, checkpoint_from}
 use Rattle.partial_mark.specs.Partial.{IsPartial, Partial, partial_bytes, partial_from}
 
--- what a record holds: an epoch; all that the guest is where the mark stands; or the same without the pages that its base has
+-- what a record holds: an epoch; the guest's whole state at the mark; or that state without the pages that its base has
 pub data Record : Type 0 where
   epoch : Epoch → Record
   mark : Checkpoint → Record
@@ -26,7 +26,7 @@ body_of (epoch e) = epoch_body e
 body_of (mark c) = mark_kind ∷ checkpoint_bytes c
 body_of (partial m) = partial_bytes m
 
--- the record behind its open gate
+-- the record after its open gate
 abbrev pub record_bytes : Record → List ℕ
 record_bytes r = record_of (body_of r)
 
@@ -42,7 +42,7 @@ IsRecord r = IsContent r × (length (body_of r) ≤ MAX_BODY_BYTES)
 
 -- ---- what a reader accepts as a body
 
--- the checkpoint of a full mark's body, which has nothing behind it
+-- the checkpoint of a full mark's body, with no byte after it
 unfoldable pub mark_in : List ℕ → Option Checkpoint
 mark_in body = do
   kind ← number_at 1 body
@@ -60,7 +60,7 @@ record_in body = first_of (option_map epoch (whole epoch_body_at body))
 
 -- ---- what a reader finds at a gate
 
--- the body behind an open gate and its length, and the bytes behind it: none where it isn't there whole
+-- the body after an open gate and its length, and the bytes after it: none if it isn't there whole
 unfoldable pub fitting_at : List ℕ → Option (List ℕ × List ℕ)
 fitting_at bytes = do
   gate ← number_at 1 bytes
@@ -68,7 +68,7 @@ fitting_at bytes = do
   body ← bytes_at size.0 size.1
   if gate.0 == open_gate then Some body else None
 
--- the journal ends here; or a body stands here that is no record's; or a record does, with the bytes behind it
+-- the journal ends here; or here is a body that is no record's; or a record, with the bytes after it
 pub data NextRecord : Type 0 where
   ended : NextRecord
   bad : NextRecord
@@ -88,13 +88,13 @@ next_at bytes = next_of (fitting_at bytes)
 
 -- ---- the records one after another
 
--- a record in front of those behind it, or none where no record stands
+-- a record before those that follow it, or none if there is no record
 abbrev pub listed : (List ℕ → List Record × List ℕ) → List ℕ → NextRecord → List Record × List ℕ
 listed others bytes ended = ([], bytes)
 listed others bytes bad = ([], bytes)
 listed others bytes (found r rest) = (r ∷ (others rest).0, (others rest).1)
 
--- at most so many
+-- at most this many
 abbrev pub records_at : ℕ → List ℕ → List Record × List ℕ
 records_at zero bytes = ([], bytes)
 records_at (suc n) bytes = listed (records_at n) bytes (next_at bytes)

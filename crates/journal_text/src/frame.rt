@@ -8,7 +8,7 @@ use dp_base::journal::write_frame;
 use std::alloc::Global;
 use std::marker::Model;
 
-/// A record as it is written behind the closed gate: its length, its body and the next closed gate.
+/// A record as it is written after the closed gate: its length, its body and the next closed gate.
 #[derive(Drop)]
 pub struct Frame {
     bytes: Vec<u8>,
@@ -27,7 +27,7 @@ impl Model for Frame {
 }
 
 impl Frame {
-    /// The frame of a record with this body.
+    /// Makes the frame of a record with this body.
     ///
     /// # Errors
     /// No memory.
@@ -40,7 +40,7 @@ impl Frame {
         Ok(Frame { bytes })
     }
 
-    /// The bytes.
+    /// Borrows the bytes.
     pub fn as_slice(&self) -> &[u8]
         ensures bytes { result.now ≡ self.now }
         ensures length { IsFrameLength self.now }

@@ -8,16 +8,16 @@ use crate::read_limit::first_bytes;
 use dp_base::field::{read_bytes, read_u8, read_u32};
 use dp_base::journal::OPEN_GATE;
 
-/// What stands at the start of a file.
+/// What a file starts with.
 #[derive(Clone, Copy, Debug, PartialEq, Eq)]
 pub enum Head {
-    /// A journal's header, with a guest of so many bytes.
+    /// A journal's header, with a guest of this many bytes.
     Whole { guest_len: u32 },
     /// No header of a journal: the file is empty, of another format, or its header was never finished.
     NoJournal,
 }
 
-/// What stands at the start of the file. A header that ends past the first 2^30 bytes is none.
+/// Returns what the file starts with. A header that ends past the first 2^30 bytes is none.
 pub fn header(bytes: &[u8]) -> Head
     ensures { IsHead (header_at (first_bytes bytes.now)) result }
 {

@@ -18,14 +18,14 @@ pub fn a_record_is_its_body()
         (body ≡ body_of r) × IsRecord r }
 {}
 
-/// A record is found where its bytes stand behind an open gate, whatever follows, and nowhere else.
+/// A record is found if its bytes follow an open gate, whatever comes after them, and only then.
 pub fn a_record_stands_at_its_gate()
     ensures found { (r : Record) (rest : List ℕ) → IsRecord r → next_at (record_bytes r ++ rest) ≡ found r rest }
     ensures taken { (bytes rest : List ℕ) (r : Record) → AreBytes bytes → next_at bytes ≡ found r rest →
         (bytes ≡ record_bytes r ++ rest) × IsRecord r }
 {}
 
-/// Where the guest and the first record of a journal stand.
+/// A journal's guest and its first record are at fixed offsets.
 pub fn a_header_stands_first()
     ensures guest { (bytes guest behind : List ℕ) → AreBytes bytes → header_at (first_bytes bytes) ≡ Some (guest, behind) →
         guest ≡ take (length guest) (drop 9 (first_bytes bytes)) }
@@ -33,15 +33,15 @@ pub fn a_header_stands_first()
         behind ≡ drop (9 + length guest) (first_bytes bytes) }
 {}
 
-/// A file reads as the parts that its first bytes are made of, and as nothing else: a header, records, and a rest at which no
-/// record begins. It reads as no journal exactly if it has no header.
+/// A file reads as the parts that its first bytes are made of, and as nothing else: a header, records, and a rest at
+/// which no record begins. It reads as no journal exactly if it has no header.
 pub fn a_journal_is_its_parts()
     ensures parts { (bytes : List ℕ) (reading : Reading) → AreBytes bytes → reads bytes ≡ Some reading → IsMadeOf (first_bytes bytes) reading }
     ensures whole { (bytes : List ℕ) (reading : Reading) → IsMadeOf (first_bytes bytes) reading → reads bytes ≡ Some reading }
     ensures no_journal { (bytes : List ℕ) → (reads bytes ≡ None) ↔ (header_at (first_bytes bytes) ≡ None) }
 {}
 
-/// A record that is written where a journal ends, with a closed gate behind it, is read behind the records that were there.
+/// A record written where a journal ends, followed by a closed gate, is read as the next record.
 pub fn appending()
     ensures { (bytes guest : List ℕ) (records : List Record) (place : ℕ) (r : Record) → AreBytes bytes →
         reads bytes ≡ Some (ending guest records place) → IsRecord r → place + length (record_bytes r) + 1 ≤ MAX_JOURNAL_BYTES →
@@ -49,8 +49,8 @@ pub fn appending()
         ≡ Some (ending guest (records ++ r ∷ []) (place + length (record_bytes r))) }
 {}
 
-/// What is left of a journal without a bad record that is cut somewhere reads as no journal, or as the first of its records,
-/// and ends as a journal does.
+/// What is left of a journal without a bad record that is cut somewhere reads as no journal, or as the first of its
+/// records, and ends as a journal does.
 pub fn cutting()
     ensures { (bytes guest : List ℕ) (records : List Record) (place n : ℕ) → AreBytes bytes →
         reads bytes ≡ Some (ending guest records place) →
@@ -65,7 +65,8 @@ pub fn a_journal_at_rest_reads_as_itself()
         reads (journal_of guest records) ≡ Some (ending guest records (length (journal_of guest records) - 1)) }
 {}
 
-/// What stands at a place determines the list of records from there, and a file reads as its header and the list behind it.
+/// The bytes from an offset on determine the list of records from there, and a file reads as its header and the list
+/// after it.
 pub fn reading_goes_on()
     ensures header { (bytes guest behind : List ℕ) → header_at (first_bytes bytes) ≡ Some (guest, behind) →
         reads bytes ≡ Some (reading_of guest (length (first_bytes bytes)) (list_from behind)) }

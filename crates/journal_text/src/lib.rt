@@ -1,10 +1,10 @@
 //! The journal's grammar, whole, marks included: what a file says, read as a journal (`specs/Records.antt`,
 //! `specs/Reading.antt`).
 //!
-//! Promises: `header` and `next_record` answer exactly as the definitions say, and take no memory; a file reads as its parts
-//! and as nothing else; of a journal without a bad record, what is appended is read behind what was there, and what is left
-//! of it when it is cut reads as no journal, or as its first records (`laws`). Stands on `dp_base`, `guest_state` and
-//! `partial_mark`.
+//! Promises: `header` and `next_record` answer exactly as the definitions say, and take no memory; a file reads as its
+//! parts and as nothing else. In a journal without a bad record, what is appended is read after what was there, and
+//! what is left of it when it is cut reads as no journal, or as its first records (`laws`). Builds on `dp_base`,
+//! `guest_state` and `partial_mark`.
 //!
 //! ```text
 //! let Head::Whole { guest_len } = header(file) else { return };

@@ -1,4 +1,4 @@
-// What stands at a record's gate.
+// The record at a gate.
 ghost use Rattle.std.specs.Prelude.{◌≡◌, ◌≤◌, ◌<◌, is_some, length, option_map};
 ghost use Rattle.journal_text.specs.Reading.{first_bytes};
 ghost use Rattle.journal_text.specs.Records.{fitting_at, mark_in};
@@ -12,7 +12,7 @@ use dp_base::limits::MAX_BODY_BYTES;
 use guest_state::is_checkpoint;
 use partial_mark::is_partial;
 
-/// What stands at a record's gate.
+/// The record at a gate.
 #[derive(Clone, Copy, Debug, PartialEq, Eq)]
 pub enum Rec<'a> {
     /// An epoch: the whole body of its record, and the place of the next gate.
@@ -23,12 +23,13 @@ pub enum Rec<'a> {
     Partial { body: &'a [u8], next: u64 },
     /// The journal ends here.
     End { at: u64 },
-    /// A body stands here whole, and is no record's.
+    /// A whole body that no record has.
     Bad,
 }
 
-/// What stands at the place `at` of the file, where a record's gate is. The journal ends there if the gate isn't open, or if
-/// the record's length or body isn't there whole within the first 2^30 bytes; so it does at each place behind them.
+/// Returns the record whose gate is at the offset `at` of the file. The journal ends there if the gate isn't open, or
+/// if the record's length or body isn't there whole within the first 2^30 bytes. It also ends at each offset after
+/// these bytes.
 pub fn next_record(bytes: &[u8], at: u64) -> Rec<'_>
     ensures { IsNextRecord (first_bytes bytes.now) at result }
 {
@@ -56,7 +57,7 @@ pub fn next_record(bytes: &[u8], at: u64) -> Rec<'_>
     }
 }
 
-// The body behind the gate and the length at the start, and the bytes behind it.
+// The body that follows the gate and the length at the start, and the bytes after it.
 #[tactic(auto, unfolding(crate::specs::Records::fitting_at))]
 fn fitting(bytes: &[u8]) -> Option<(&[u8], &[u8])>
     ensures { option_map (λ x. (x.0.now, x.1.now)) result ≡ fitting_at bytes.now }

@@ -1,8 +1,8 @@
-//! Bytes of a journal: fields, epochs, records and headers, and the lists that an epoch is read into; and what the definitions say of
-//! bytes, files and limits that stand here in full.
+//! Bytes of a journal: fields, epochs, records and headers, and the lists that an epoch is read into; and what the
+//! definitions say of bytes, files and limits that stand here in full.
 //!
-//! This crate is its tests: they call `dp_base`, `slice_log`, `syscall_log`, `epoch_record` and `journal_text` as a crate above them
-//! does. The bytes were written out from the format's tables.
+//! This crate is its tests: they call `dp_base`, `slice_log`, `syscall_log`, `epoch_record` and `journal_text` as a
+//! crate above them does. The bytes were written out from the format's tables.
 #![tactic(auto)]
 
 #[cfg(test)]

@@ -17,13 +17,13 @@ fn records(rt: HostRuntime) {
             30,
             (Kind::End, 30, 0),
         ),
-        // behind it
+        // after it
         (
             b"\x01DPJ1\x01\x00\x00\x00\xaa\x01\x0f\x00\x00\x00\x00\x01\x00\x00\x00\x01\x00\x03\x00\x00\x00\x00\x00\x00\x00\x00",
             31,
             (Kind::End, 31, 0),
         ),
-        // far behind it
+        // far after it
         (b"\x01", u64::MAX, (Kind::End, u64::MAX, 0)),
         // the gate is closed
         (
@@ -48,7 +48,7 @@ fn records(rt: HostRuntime) {
             0,
             (Kind::End, 0, 0),
         ),
-        // a byte behind the answers
+        // a byte after the answers
         (
             b"\x01\x10\x00\x00\x00\x00\x01\x00\x00\x00\x01\x00\x03\x00\x00\x00\x00\x00\x00\x00\x00\x00",
             0,
@@ -63,7 +63,7 @@ fn records(rt: HostRuntime) {
         // a partial mark's kind alone; a fourth kind
         (b"\x01\x01\x00\x00\x00\x02\x00", 0, (Kind::Bad, 0, 0)),
         (b"\x01\x01\x00\x00\x00\x03\x00", 0, (Kind::Bad, 0, 0)),
-        // a mark of a guest of one thread that is gone
+        // a mark of a guest of one thread that has exited
         (
             b"\x01\x23\x00\x00\x00\x01\x03\x00\x00\x00\x00\x00\x00\x00\x00\x00\x00\x00\x00\x00\x00\x00\x00\x10\x00\x00\x04\x10\x00\x00\x00\x01\x00\x02\x07\x00\x00\x00\x00\x00\x00",
             0,
@@ -87,7 +87,7 @@ fn records(rt: HostRuntime) {
             0,
             (Kind::Bad, 0, 0),
         ),
-        // a byte behind the page
+        // a byte after the page
         (
             b"\x01\x2a\x00\x00\x00\x02\x03\x00\x00\x00\x00\x00\x00\x00\x00\x00\x00\x00\x00\x00\x00\x00\x00\x10\x00\x00\x04\x10\x00\x00\x00\x01\x00\x02\x07\x00\x00\x00\x01\x00\x10\x00\x00\x00\x05\x00\x00\x00",
             0,
@@ -104,7 +104,7 @@ fn records(rt: HostRuntime) {
             0,
             (Kind::Bad, 0, 0),
         ),
-        // a byte behind the pages
+        // a byte after the pages
         (
             b"\x01\x24\x00\x00\x00\x01\x03\x00\x00\x00\x00\x00\x00\x00\x00\x00\x00\x00\x00\x00\x00\x00\x00\x10\x00\x00\x04\x10\x00\x00\x00\x01\x00\x02\x07\x00\x00\x00\x00\x00\x00\x00",
             0,

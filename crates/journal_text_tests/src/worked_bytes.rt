@@ -19,7 +19,7 @@ fn fields()
     ensures no_byte { AreBytes (256 ∷ []) → ⊥ }
 {}
 
-// A prefix may have more behind it, and no less.
+// A prefix may have more after it, and no less.
 fn prefixes()
     ensures more { IsPrefixOf (1 ∷ []) (1 ∷ 2 ∷ []) }
     ensures less { IsPrefixOf (1 ∷ 2 ∷ []) (1 ∷ []) → ⊥ }

@@ -1,6 +1,6 @@
-//! What the definitions say of files that stand here in full: at each a mistake in one of them shows. The expected sides were
-//! written by hand. The guest's file has one byte, AA; the epoch is of three steps of thread 1; the mark is of a guest whose
-//! one thread is gone with code 7.
+//! What the definitions say of files that stand here in full: at each a mistake in one of them shows. The expected
+//! sides were written by hand. The guest's file has one byte, AA; the epoch is of three steps of thread 1; the mark is
+//! of a guest whose one thread is gone with code 7.
 
 ghost use Rattle.std.specs.Prelude.{◌≡◌, ◌∷◌, [], ◌++◌, ℕ, List, length, Some, None};
 ghost use Rattle.dp_base.specs.Journal.{record_of};
@@ -18,7 +18,7 @@ fn encodings()
     ensures first { (file : List ℕ) → length file ≡ 1073741824 → first_bytes (file ++ 1 ∷ []) ≡ file }
 {}
 
-// What stands at a gate.
+// What is at a gate.
 #[tactic(auto, unfolding(journal_text::specs::Records::next_at, journal_text::specs::Records::fitting_at, journal_text::specs::Records::record_in, journal_text::specs::Records::mark_in, dp_base::specs::Journal::epoch_body_at, dp_base::specs::Journal::many_at, dp_base::specs::Journal::slice_at, dp_base::specs::Journal::answer_at, dp_base::specs::Journal::read_at, dp_base::specs::Journal::clock_at, guest_state::specs::Checkpoint::checkpoint_from, guest_state::specs::Checkpoint::end_from, guest_state::specs::Checkpoint::thread_from, guest_state::specs::Checkpoint::gone_from, partial_mark::specs::Partial::partial_from, partial_mark::specs::Partial::parts_from, partial_mark::specs::Partial::fields_from, partial_mark::specs::Partial::counted_from, partial_mark::specs::Partial::partial_page_from, partial_mark::specs::Partial::content_from))]
 fn gates()
     ensures nothing { next_at [] ≡ ended }

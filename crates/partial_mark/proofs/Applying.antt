@@ -1,4 +1,5 @@
--- Partial marks against their base: what is written of a checkpoint stands for it, and what one stands for is a checkpoint.
+-- Partial marks against their base: what is written of a checkpoint stands for it, and what one stands for is a
+-- checkpoint.
 use Rattle.std.proofs.Common.{◌≡◌, ℕ, suc, ◌+◌, Bool, true, false, cond, eqb, leb, ◌&&◌, List, [], ◌∷◌, length, map, Option, Some, None, refl, ap, subst, ◌∙◌, inl, inr}
 use Rattle.std.specs.List.{AllByRecursion}
 use Rattle.std.specs.Option.{option_map}

@@ -1,5 +1,5 @@
--- A partial mark against its base, which is a checkpoint too: that of the mark before, or of the guest's start. This machine's
--- own.
+-- A partial mark against its base, which is a checkpoint too: that of the mark before, or of the guest's start. This
+-- machine's own.
 use Rattle.std.specs.Prelude.{ℕ, Bool, false, List, [], ◌∷◌, map, Option, Some, None, option_map, if◌then◌else◌}
 use Rattle.std.specs.Str.{bytes_eq}
 use Rattle.dp_base.specs.declared.page.Page.{Page}
@@ -35,7 +35,7 @@ applied base m = do
   pages ← pages_over base.pages m.pages
   Some (checkpoint_with m.fields m.threads pages)
 
--- of the bytes of a partial mark, which have nothing behind them
+-- of the bytes of a partial mark, with no byte after them
 abbrev pub restored : (base : Checkpoint) → List ℕ → Option Checkpoint
 restored base bytes = whole partial_from bytes >>= applied base
 

@@ -1,7 +1,7 @@
--- The body of a partial mark: all that a guest is between two slices, but for the bytes of those pages that are the same in
--- its base (`specs/Base.antt`). This machine's own; docs/JOURNAL.md shows it. Its fields, its threads and its bounds are those of
--- a checkpoint. Each part has an encoding (`content_bytes`, `partial_page_bytes`, ..), and beside it stands what a reader
--- accepts at the start of bytes (`content_from`, ..): the value, and the bytes after it.
+-- The body of a partial mark: all that a guest is between two slices, but for the bytes of those pages that are the
+-- same in its base (`specs/Base.antt`). This machine's own; docs/JOURNAL.md shows it. Its fields, its threads and its
+-- bounds are those of a checkpoint. Each part has an encoding (`content_bytes`, `partial_page_bytes`, ..), and with it
+-- what a reader accepts at the start of bytes (`content_from`, ..): the value, and the bytes after it.
 use Rattle.std.specs.Prelude.{◌≡◌, ◌^◌, ◌<◌, ℕ, List, [], ◌∷◌, ◌++◌, length, map, true, Option, Some, None, ◌==◌, ◌&&◌, nat_lt, if◌then◌else◌}
 use Rattle.std.specs.List.{flat_map, AllByRecursion}
 use Rattle.byteorder.specs.Endian.{little_bytes}

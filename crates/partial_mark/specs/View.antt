@@ -1,4 +1,4 @@
--- A page that is lent from bytes, as the value that it stands for; and what is counted of pages that are skipped. These serve the
+-- A page that is borrowed from bytes, as its value; and what is counted of pages that are skipped. These serve the
 -- contracts of this crate's readers. This project's own.
 use Rattle.std.specs.Prelude.{◌≡◌, ◌<◌, List, length, map, option_map, IfSome}
 use Rattle.dp_base.specs.declared.limits.TheConstants.{PAGE_BYTES, PAGE_NUMBERS}

@@ -1,4 +1,4 @@
-// What stands before the threads.
+// The fields before the threads.
 ghost use Rattle.std.specs.Prelude.{◌≡◌, option_map};
 ghost use Rattle.partial_mark.specs.Partial.{fields_from};
 
@@ -12,14 +12,14 @@ pub struct Fields {
     pub steps: u64,
     /// The number of bytes of input that were read.
     pub input: u64,
-    /// Where the heap starts, and where it ends.
+    /// The addresses at which the heap starts and ends.
     pub heap: u32,
     pub brk: u32,
     pub end: End,
 }
 
-/// Returns the fields at the start of bytes, and the bytes after them. Returns `None` exactly if the bytes don't start with
-/// fields.
+/// Returns the fields at the start of bytes, and the bytes after them. Returns `None` exactly if the bytes don't start
+/// with fields.
 #[tactic(auto, unfolding(crate::specs::Partial::fields_from))]
 pub fn read_fields(bytes: &[u8]) -> Option<(Fields, &[u8])>
     ensures { option_map (λ x. (x.0, x.1.now)) result ≡ fields_from bytes.now }

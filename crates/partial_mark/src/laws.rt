@@ -17,21 +17,21 @@ pub fn partials()
     ensures { IsPrefixCode partial_from partial_bytes IsPartial }
 {}
 
-/// What is decoded from all of the bytes, with none left over: an encoding gives its partial mark, and bytes that give a partial mark
+/// Decoding all of the bytes, with none left: an encoding gives its partial mark, and bytes that give a partial mark
 /// are its encoding.
 pub fn whole_partials()
     ensures { IsWholeCode partial_from partial_bytes IsPartial }
 {}
 
-/// The partial mark that is written of a checkpoint has an encoding. With the same base it stands for that checkpoint, and so do its
-/// bytes.
+/// The partial mark that is written of a checkpoint has an encoding. Over the same base it restores that checkpoint,
+/// and so do its bytes.
 pub fn a_partial_stands_for_its_checkpoint()
     ensures encodable { (base c : Checkpoint) → IsCheckpoint c → IsPartial (partial_of base c) }
     ensures applied { (base c : Checkpoint) → applied base (partial_of base c) ≡ Some c }
     ensures restored { (base c : Checkpoint) → IsCheckpoint c → restored base (partial_bytes (partial_of base c)) ≡ Some c }
 {}
 
-/// What a partial mark stands for, if its base is a checkpoint, is a checkpoint.
+/// What a partial mark restores over a base that is a checkpoint is a checkpoint.
 pub fn a_partial_stands_for_a_checkpoint()
     ensures { (base : Checkpoint) (m : Partial) (c : Checkpoint) → IsCheckpoint base → IsPartial m
         → applied base m ≡ Some c → IsCheckpoint c }

@@ -1,9 +1,10 @@
-//! The body of a partial mark, as data: a guest between two slices without the bytes of those pages that are the same in its
-//! base, which is the state of the mark before, or the one in which the guest starts.
+//! The body of a partial mark, as data: a guest between two slices without the bytes of those pages that are the same
+//! in its base, which is the state of the mark before, or the one in which the guest starts.
 //!
-//! Promises: a partial mark has one encoding, and no encoding is a prefix of another; each reader takes exactly what the grammar
-//! accepts (`specs/Partial.antt`). The partial mark that is written of a state, applied to the same base, is that state again
-//! (`specs/Base.antt`, `laws`). Stands on `guest_state`, whose checkpoints have the same fields, threads and bounds.
+//! Promises: a partial mark has one encoding, and no encoding is a prefix of another; each reader takes exactly what
+//! the grammar accepts (`specs/Partial.antt`). The partial mark that is written of a state, applied to the same base,
+//! is that state again (`specs/Base.antt`, `laws`). Builds on `guest_state`, whose checkpoints have the same fields,
+//! threads and bounds.
 //!
 //! ```text
 //! if is_partial(body) {

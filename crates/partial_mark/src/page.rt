@@ -21,7 +21,8 @@ pub struct PartialPageView<'a> {
     pub content: Option<&'a [u8]>,
 }
 
-/// Returns the page at the start of bytes, and the bytes after it. Returns `None` exactly if the bytes don't start with a page.
+/// Returns the page at the start of bytes, and the bytes after it. Returns `None` exactly if the bytes don't start with
+/// a page.
 #[tactic(auto, unfolding(crate::specs::Partial::partial_page_from))]
 pub fn read_partial_page(bytes: &[u8]) -> Option<(PartialPageView<'_>, &[u8])>
     ensures page { option_map (λ x. (partial_page_of x.0, x.1.now)) result ≡ partial_page_from bytes.now }

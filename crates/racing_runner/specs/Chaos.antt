@@ -1,4 +1,5 @@
--- What `ChaosRacer` offers: the states after each whole epoch of a run by round robin, one of them spoilt, or none. This machine's own.
+-- What `ChaosRacer` offers: the states after each whole epoch of a run by round robin, one of them spoilt, or none.
+-- This machine's own.
 use Rattle.std.specs.Prelude.{◌+◌, ◌-◌, ◌%◌, ◌/◌, ◌==◌, ℕ, zero, suc, Bool, not, ◌&&◌, if◌then◌else◌, List, [], ◌∷◌, position, slice_get, slice_set, Option, Some, None, min, bit_xor}
 use Rattle.std.proofs.Math.Nat.{le_trans, min-le_left}
 use Rattle.epoch_runner.specs.declared.bounds.Bounds.{Bounds}
@@ -63,7 +64,8 @@ abbrev pub made_by : (n place : ℕ) → Plan → (before : State) → Raced →
 made_by n place p before r =
     if is_whole p r then Some (record { offer = record { hints = r.hints; next = offered n place before (raced_end r) }; end = raced_end r }) else None
 
--- the offer of this place, after a stretch from a state with so many steps left; and where the run goes on
+-- the offer with this number, after a stretch from a state with `left` steps left; and the state from which the run
+-- goes on
 abbrev pub made : (n place : ℕ) → Supplied → Plan → (left : ℕ) → State → Option Made
 made n place w p left s = made_by n place p s (stretch w (bounds_of p left) s)
 
@@ -71,7 +73,7 @@ abbrev pub offers_after : (State → List Offer) → Option Made → List Offer
 offers_after rest None = []
 offers_after rest (Some m) = m.offer ∷ rest m.end
 
--- so many offers at most, the first of this place
+-- at most this many offers, the first with this number
 unfoldable pub offers : (count : ℕ) → (n place : ℕ) → Supplied → Plan → (left : ℕ) → State → List Offer
 offers zero n place w p left s = []
 offers (suc count) n place w p left s = offers_after (offers count n (place + 1) w p (left - p.epoch)) (made n place w p left s)

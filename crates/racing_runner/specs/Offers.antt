@@ -13,7 +13,7 @@ use Rattle.sync_hints.specs.declared.hints.Hints.{Hints}
 abbrev pub Tells : Type 0
 Tells = State → Supplied → Plan → Option (List Offer)
 
--- nothing is asked of a run that doesn't tell what it offers
+-- nothing is asked of a run whose offers aren't known
 abbrev pub IfTold : Option (List Offer) → (List Offer → Type 0) → Type 0
 IfTold None P = ⊤
 IfTold (Some list) P = P list
@@ -23,7 +23,7 @@ abbrev pub HasTakenOffer : (got : List Offer) → Offer → (now : List Offer) �
 HasTakenOffer got o now enough Yes = now ≡ got ++ o ∷ []
 HasTakenOffer got o now enough Enough = enough × ((now ≡ got ++ o ∷ []) ⊎ (now ≡ got))
 
--- a race is over if all was offered, or the sink takes no more; after want of memory it need not be
+-- a race is over if all was offered, or the sink takes no more; after `OutOfMemory` it need not be
 abbrev pub IsOfferingOver : (count : ℕ) → List Offer → (enough : Type 0) → Result (Unit {0}) OutOfMemory → Type 0
 IsOfferingOver count list enough (Ok done) = (length list ≤ count) ⊎ enough
 IsOfferingOver count list enough (Err error) = ⊤
@@ -44,8 +44,8 @@ pub record Gathered : Type 0 where
 abbrev pub offer_of : Hints × State → Offer
 offer_of pair = record { hints = pair.0; next = pair.1 }
 
--- The first of a list were offered, each once and in order: those that the sink took, and then one that it dropped, or none. The rest is left.
--- There is a rest only if the sink takes no more.
+-- The first of a list were offered, each once and in order: those that the sink took, and then one that it dropped, or
+-- none. The rest is left. There is a rest only if the sink takes no more.
 pub record HasGiven (got list now left : List Offer) (enough : Type 0) : Type 0 where
   pub given : List Offer
   pub dropped : List Offer

@@ -1,5 +1,5 @@
--- A run of a guest by round robin that notes what its turns were: the steps of each thread, and the order of the turns that synchronise.
--- This machine's own.
+-- A run of a guest by round robin that notes what its turns were: the steps of each thread, and the order of the turns
+-- that synchronise. This machine's own.
 use Rattle.std.specs.Prelude.{◌+◌, ◌==◌, ℕ, zero, suc, Bool, List, [], ◌∷◌, ◌++◌, position, slice_get, slice_set, Option, Some, None}
 use Rattle.dp_base.specs.declared.tid.Tid.{Tid}
 use Rattle.epoch_runner.specs.declared.bounds.Bounds.{Bounds}

@@ -16,23 +16,23 @@ use std::alloc::Global;
 use std::thread::Threads;
 use supply::Supply;
 
-/// Runs the guest by round robin, and offers its state and hints after each whole epoch. By its number one of the states is spoilt, or
-/// none is offered, so that tests can meet each answer to an offer.
+/// Runs the guest by round robin, and offers its state and hints after each whole epoch. By its number one of the
+/// states is spoilt, or none is offered, so that tests can meet each answer to an offer.
 #[derive(Clone, Copy, Debug, PartialEq, Eq)]
 pub struct ChaosRacer {
     number: u32,
 }
 
 impl ChaosRacer {
-    /// Makes the racer of a number n. With c = 1 + (n / 4) mod 8: if n mod 4 is 0, all offers are good; if 1, a bit of the c-th
-    /// offered state is flipped; if 2, nothing is offered; if 3, the c-th offered state is the one before it.
+    /// Makes the racer of a number n. With c = 1 + (n / 4) mod 8: if n mod 4 is 0, all offers are good; if 1, a bit of
+    /// the c-th offered state is flipped; if 2, nothing is offered; if 3, the c-th offered state is the one before it.
     pub fn new(number: u32) -> ChaosRacer
         ensures { result.number ≡ number }
     {
         ChaosRacer { number }
     }
 
-    // Runs a stretch from a state with so many steps left, and makes the offer of this place.
+    // Runs a stretch from a state with `left` steps left, and makes the offer with this number.
     fn make(
         self,
         alloc: Global,
@@ -151,7 +151,7 @@ fn is_whole(stretch: &Stretch, plan: &Plan) -> bool
     stretch.steps == plan.epoch && !stretch.end.ended()
 }
 
-// How far a stretch goes that may have so many steps.
+// The bounds of a stretch that may have `left` steps.
 fn bounds_of(plan: &Plan, left: u64) -> Bounds
     ensures { result ≡ bounds_of plan.now left }
 {

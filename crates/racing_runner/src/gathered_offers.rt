@@ -33,7 +33,7 @@ impl Model for Gather {
 }
 
 impl Gather {
-    /// Makes a sink that keeps so many offers at most.
+    /// Makes a sink that keeps at most `room` offers.
     pub fn new(alloc: Global, room: u32) -> Result<Gather, OutOfMemory>
         ensures { IfOk result (λ g. g ≡ record { got = []; room = room }) }
     {

@@ -1,12 +1,13 @@
-//! Racing runs: runs of a guest ahead of its recording. They offer states in which later epochs may start, and hints of the epochs in
-//! between, and nothing they offer is trusted.
+//! Racing runs: runs of a guest ahead of its recording. They offer states in which later epochs may start, and hints of
+//! the epochs in between, and nothing they offer is trusted.
 //!
-//! Promises: `race` offers to a sink until all is offered, the sink takes no more, or memory runs out. A racer may tell beforehand all
-//! that it offers from a start with a supply by a plan (`specs/Offers.antt`). Then `race` leaves the racer as it was, the sink gets
-//! the first of the list in order, and `Ok` comes only after the whole list or an `Enough`. `IdleRacer` tells that it offers nothing.
-//! `ChaosRacer` tells what `specs/Chaos.antt` says: a run by the epoch runner's round robin, in stretches of an epoch, with what
-//! each turn was (`specs/Racing.antt`), and one state spoilt. `WildRacer` has a list of offers, which it makes whatever the guest does, each
-//! once, over all its rounds. `offers_of` gathers the offers of a round. Stands on `epoch_runner` for the schedule, on `guest_kernel` for
+//! Promises: `race` offers to a sink until all is offered, the sink takes no more, or memory runs out. All that a racer
+//! offers from a start with a supply by a plan may be known beforehand (`specs/Offers.antt`). Then `race` leaves the
+//! racer as it was, the sink gets the first of the list in order, and `Ok` is answered only after the whole list or an
+//! `Enough`. `IdleRacer` is known to offer nothing. `ChaosRacer` is known to offer what `specs/Chaos.antt` says: a run
+//! by the epoch runner's round robin, in stretches of an epoch, with what each turn was (`specs/Racing.antt`), and one
+//! state spoilt. `WildRacer` has a list of offers, which it makes whatever the guest does, each once, over all its
+//! rounds. `offers_of` gathers the offers of a round. Builds on `epoch_runner` for the schedule, on `guest_kernel` for
 //! states, on `supply` for the input and the clock, and on `sync_hints` for the hints.
 //!
 //! ```text

@@ -29,8 +29,8 @@ pub trait JobSink {
     /// What an offer leaves as it is.
     ghost goes: { Self → Self → Type 0 };
 
-    /// Ends an epoch with its hints, and begins the next one, which starts in this state. Returns `Enough` if no more are taken. This
-    /// one may have been dropped then.
+    /// Ends an epoch with its hints, and begins the next one, which starts in this state. Returns `Enough` if no more
+    /// are taken. This one may have been dropped then.
     fn offer(&mut self, hints: Hints, next: State) -> More
         requires { ready self.old }
         ensures ready { ready self.new }
@@ -51,7 +51,8 @@ pub trait Racer {
     /// All that it offers, if that is known beforehand.
     ghost tells: { Self → Tells };
 
-    /// Runs a guest from a start with a supply of its input, by a plan, and offers states to a sink until that has enough.
+    /// Runs a guest from a start with a supply of its input, by a plan, and offers states to a sink until that has
+    /// enough.
     ///
     /// # Errors
     ///

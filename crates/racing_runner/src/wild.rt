@@ -14,8 +14,8 @@ use std::vec::IntoIter;
 use supply::Supply;
 use sync_hints::Hints;
 
-/// Offers hints and states from a list, whatever the guest does. No run of the guest need have them, so that tests offer what a racing
-/// run offers that is broken or malicious. A state may hold reservations too.
+/// Offers hints and states from a list, whatever the guest does. No run of the guest need have them, so that tests
+/// offer what a racing run offers that is broken or malicious. A state may hold reservations too.
 #[derive(Drop)]
 pub struct WildRacer {
     left: IntoIter<(Hints, State)>,
@@ -48,7 +48,8 @@ impl Racer for WildRacer {
 
     ghost tells = { λ racer start supply plan. None };
 
-    // Always answers `Ok`. What is left of the list is for the next rounds. An offer that the sink dropped isn't made again.
+    // Always answers `Ok`. What is left of the list is for the next rounds. An offer that the sink dropped isn't made
+    // again.
     fn race<R: Threads + Sync, K: JobSink>(
         &mut self,
         _rt: &R,

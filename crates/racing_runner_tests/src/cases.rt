@@ -10,8 +10,9 @@ use supply::{MAX_ROOM, Supply};
 use test_files::file_of;
 use test_worlds::{Failing, inlet_of};
 
-// A line of a table. A case is a line of numbers with blanks in between, and a line for each offer, as `push_offer` has it. The numbers
-// are the racer's, the steps of an epoch and of a slice, the jobs, the steps that are left (2^62 for `all`), and the first thread.
+// A line of a table. A case is a line of numbers with blanks in between, and a line for each offer, as `push_offer` has
+// it. The numbers are the racer's, the steps of an epoch and of a slice, the jobs, the steps that are left (2^62 for
+// `all`), and the first thread.
 pub(crate) type Line = &'static str;
 
 // The steps that are left in a case that says `all`.

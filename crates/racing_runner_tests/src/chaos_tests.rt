@@ -1,4 +1,5 @@
-// What `ChaosRacer` offers. Each offer is that of a model of the machine and of the racer, which was written apart from this code.
+// What `ChaosRacer` offers. Each offer is that of a model of the machine and of the racer, which was written apart from
+// this code.
 use crate::cases::{Line, supply_of, texts_of};
 use crate::guests::*;
 use std::alloc::Global;
@@ -136,7 +137,8 @@ fn wait_lines() -> [Line; 2] {
     ]
 }
 
-// Guests that end in the first stretch, with it, and by a trap in the second; and one whose threads all wait after its third step.
+// Guests that end in the first stretch, with it, and by a trap in the second; and one whose threads all wait after its
+// third step.
 #[test]
 fn ends_of_guests(rt: HostRuntime) -> Result<(), Fail> {
     let alloc = rt.alloc();

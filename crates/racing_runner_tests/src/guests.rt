@@ -15,8 +15,8 @@ pub(crate) const READS_A_PIECE: [u32; 8] = [
     0x0000_0073,
 ];
 
-// Thread 1 spawns three, and the four add one to a word three times each, under a lock of LR, SC, wait and wake. Then it waits
-// for the three by their clear addresses, and ends the guest with the word as its code.
+// Thread 1 spawns three, and the four add one to a word three times each, under a lock of LR, SC, wait and wake. Then
+// it waits for the three by their clear addresses, and ends the guest with the word as its code.
 pub(crate) const LOCKED: [u32; 58] = [
     0x7fff_0437,
     0x0030_0913,
@@ -97,7 +97,8 @@ pub(crate) const EXITS_FIRST: [u32; 15] = [
     0xff5f_f06f,
 ];
 
-// Thread 1 spawns a thread and waits on a word, with 8 in x5. The other counts in x6, wakes it after a while, and counts on.
+// Thread 1 spawns a thread and waits on a word, with 8 in x5. The other counts in x6, wakes it after a while, and
+// counts on.
 pub(crate) const WAITS_FIRST: [u32; 22] = [
     0x7fff_0437,
     0x0080_0293,

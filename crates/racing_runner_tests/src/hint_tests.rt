@@ -1,5 +1,5 @@
-// Epochs by the hints of good offers. A model of the schedule by hints, over the machine of the model of the offers, says that each
-// ends in the state that is offered.
+// Epochs by the hints of good offers. A model of the schedule by hints, over the machine of the model of the offers,
+// says that each ends in the state that is offered.
 use crate::cases::{offers_from, plan_in, start, supply_of};
 use crate::guests::*;
 use epoch_runner::{Bounds, Ran, run_epoch};

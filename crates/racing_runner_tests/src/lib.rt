@@ -1,7 +1,7 @@
 //! Racing runs: what `ChaosRacer`, `IdleRacer` and `WildRacer` offer, to `offers_of` and to sinks.
 //!
-//! This crate is its tests: they call `racing_runner` as a crate above it does. Each offer of a table is that of a model of the machine,
-//! its schedule and the racer, which was written apart from this code.
+//! This crate is its tests: they call `racing_runner` as a crate above it does. Each offer of a table is that of a
+//! model of the machine, its schedule and the racer, which was written apart from this code.
 #![tactic(auto)]
 
 #[cfg(test)]

@@ -14,8 +14,8 @@ fn push_counts(text: &mut String, alloc: Global, hints: &Hints) -> Result<(), Al
     Ok(())
 }
 
-// A number of equal hints: the thread and one of `n`, `w` and `l` for `NotSc`, `Won` and `Lost`, with `*` and the number if they are
-// several.
+// A number of equal hints: the thread and one of `n`, `w` and `l` for `NotSc`, `Won` and `Lost`, with `*` and the
+// number if they are several.
 fn push_hints(
     text: &mut String,
     alloc: Global,
@@ -67,8 +67,8 @@ fn lowest_alive(state: &State) -> (usize, u32) {
     (0, 0)
 }
 
-// An offer as a line of a table: the counts of its hints; their order; the state's step count and place of the input; its lowest
-// thread that is alive and the x5 of this in hexadecimal; and the hash of its encoding.
+// An offer as a line of a table: the counts of its hints; their order; the state's step count and place of the input;
+// its lowest thread that is alive and the x5 of this in hexadecimal; and the hash of its encoding.
 pub(crate) fn push_offer(
     text: &mut String,
     alloc: Global,

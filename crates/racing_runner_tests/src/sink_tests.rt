@@ -59,7 +59,8 @@ fn hashes(alloc: Global, offers: &[Offer]) -> Result<Vec<u64>, Fail> {
     Ok(hashes)
 }
 
-// Whether a sink that keeps two gets the first two of all offers; whether it was offered a third; and how many after that.
+// Whether a sink that keeps two gets the first two of all offers; whether it was offered a third; and how many after
+// that.
 fn first_two<R: Threads + Sync>(rt: &R, alloc: Global) -> Result<(bool, bool, u32), Fail> {
     let (start, supply) = (start(alloc, &LOCKED)?, supply_of(alloc, b"", 0)?);
     let plan = plan_in(PLAN);

@@ -9,7 +9,8 @@ use std::test::Fail;
 use std::thread::Threads;
 use sync_hints::Hints;
 
-// The offer with this number: its state has taken so many steps, and its hints give so many to the thread of this number.
+// The offer with this number: its state has taken so many steps, and its hints give so many to the thread of this
+// number.
 fn pair(alloc: Global, number: u8) -> Result<(Hints, State), Fail> {
     let mut next = start(alloc, &LOCKED)?;
     next.steps = u64::from(number);
@@ -40,8 +41,8 @@ fn number_of(offer: &Offer) -> u64 {
     }
 }
 
-// The numbers of the offers of a round, as the digits of one number, where the sink keeps this many. It says with the last of them that it
-// has enough, and drops each after that.
+// The numbers of the offers of a round, as the digits of one number, where the sink keeps this many. It says with the
+// last of them that it has enough, and drops each after that.
 fn round_of<R: Threads + Sync>(
     rt: &R,
     alloc: Global,

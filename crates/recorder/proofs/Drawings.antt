@@ -1,4 +1,4 @@
--- What rounds have drawn from an input so far, and that the answers that were taken are honest of it.
+-- What rounds have drawn from an input so far, and that the answers that were taken are faithful to it.
 use Rattle.std.proofs.Common.{◌≡◌, ◌⊎◌, inl, inr, ◌+◌, ◌-◌, ◌^◌, ◌<◌, ◌≤◌, min, ℕ, zero, suc, Bool, true, false, List, [], ◌∷◌, ◌++◌, length, take, drop, Option, Some, refl, sym, ap, subst, ◌∙◌, append_assoc, arith}
 use Rattle.std.specs.Prelude.{◌&&◌, ◌||◌, ◌↔◌, nat_lt, slice_get}
 use Rattle.std.specs.List.{AllByRecursion, concat}
@@ -52,7 +52,7 @@ last-found reading readings last =
       ap (drop (length front)) last.1 ∙ drop-append-le (length front) front (reading ∷ []) (omega arith) ∙ ap (λ (l : List ℕ). l ++ reading ∷ []) (drop_all (length front) front (omega arith)),
     )
 
--- what is left of readings behind a place still ends with the last
+-- what is left of readings after a place still ends with the last
 last-behind : (reading : ℕ) (readings : List ℕ) (place v : ℕ) → IsLast reading readings → slice_get readings place ≡ Some v → IsLast reading (drop place readings)
 last-behind reading readings place v last is =
     let front : List ℕ = last.0 in
@@ -129,7 +129,7 @@ pub record TakeLaws : Type 0 where
   pub at_end : (room : ℕ) (left : List (List ℕ)) → 0 < room → length (taken room left) ≡ 0 → is_at_end left ≡ true
   pub stays : (room : ℕ) (i : Input) → is_at_end i.left ≡ true → is_at_end (took room i).left ≡ true
 
--- behind a take, before the clock is read
+-- after a take, before the clock is read
 record IsTaken (w : Supplied) (place : ℕ) (answers : List Answer) (i j mid : Input) (now : Supplied) (given : List ℕ) : Type 0 where
   given_is : mid.given ≡ i.given ++ given
   left_is : given ++ bytes_left mid.left ≡ bytes_left i.left

@@ -80,7 +80,7 @@ kept_more true others e marks = refl
 kept_more false [] e marks = refl
 kept_more false (x ∷ xs) e marks = refl
 
--- an epoch more: behind all marks so far
+-- an epoch more: after all marks so far
 pub epoch_more : (every since : ℕ) (base s : State) (epochs : List Epoch) (mid : State) (output : List ℕ) (e : Epoch) (there : After) → chain s epochs ≡ Ok (mid, output) → run e.slices (at mid [] e.answers) ≡ Ok there
     → marked_from false every since base s (epochs ++ e ∷ []) ≡ marked_from true every since base s epochs ++ epoch e ∷ []
 unfolding chain state_in

@@ -92,7 +92,7 @@ module _ (guest : List ℕ) (every : ℕ) (start : State) where
   pub begins_partly : chain start [] ≡ Ok (start, []) → (s t : History) → Always (IsBeginning guest s) s t → Always (IsPartly guest every start [] s) s t
   begins_partly none s t a = always-weaker (IsBeginning guest s) (IsPartly guest every start [] s) s t (partly_begun none s) a
 
-  -- an epoch is committed behind others whose whole output was sent
+  -- an epoch is committed after others whose whole output was sent
   module _ (epochs : List Epoch) (e : Epoch) (mid end : State) (before output : List ℕ) (chained : chain start epochs ≡ Ok (mid, before)) (longer : chain start (epochs ++ e ∷ []) ≡ Ok (end, before ++ output))
       (push : records_with false every start (epochs ++ e ∷ []) ≡ records_with true every start epochs ++ epoch e ∷ []) (s t : History) (sent_is : t.sent ≡ s.sent ++ before) where
     abbrev P : List ℕ → List ℕ → Type 0

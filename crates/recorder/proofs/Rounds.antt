@@ -250,7 +250,7 @@ module _ (B : Type 0) (disk disk_after sink sink_after input input_after : ℕ) 
       let e : f ≡ fault = cc in
       subst (λ (f : RecordFault). MetNoOther {A = B} (Err f) disk disk_after sink sink_after input input_after) e (met_same AfterJudging B f disk disk disk_after sink sink sink_after 0 input input_after refl refl same met)
 
--- a fault that isn't want of memory is that of the last result
+-- a fault that isn't `OutOfMemory` is that of the last result
 pub fault_of_last : (last : Result AfterJudging RecordFault) (answer : Result (Unit {0}) OutOfMemory) (fault : RecordFault) → outcome last answer ≡ Err fault → (fault ≡ faults.OutOfMemory) ⊎ (last ≡ Err fault)
 fault_of_last (Ok Committed) (Ok done) fault is = absurd cc
 fault_of_last (Ok Committed) (Err error) fault is = inl (let e : faults.OutOfMemory ≡ fault = cc in sym e)

@@ -45,8 +45,8 @@ BegunIsFirst guest start i room j before after =
 
 -- ---- a new core
 
--- A core that is made over the committed state, after `draw` has read the round's input, is a round. Its window doesn't begin after what
--- the committed state has read.
+-- A core that is made over the committed state, after `draw` has read the round's input, is a round. Its window doesn't
+-- begin after the input that the committed state has read.
 abbrev pub DrawIsRound : (guest : List ℕ) → (supplied : Bool) → Machine → Draw → (jobs : ℕ) → Input → Supplied → Core → Type 0
 DrawIsRound guest supplied m d jobs i w core =
     m.left ≡ None → IsAtRest m → (m.core.closed ≡ true) ⊎ (m.core.judged ≡ length m.core.jobs) → 0 < jobs → jobs ≤ MAX_JOBS
@@ -56,8 +56,8 @@ DrawIsRound guest supplied m d jobs i w core =
 
 -- ---- the events of a core
 
--- What the machine asks besides: a result may be taken; the next one is judged at rest, and the window doesn't begin after what the
--- committed state has read.
+-- What the machine asks besides: a result may be taken; the next one is judged at rest, and the window doesn't begin
+-- after what the committed state has read.
 abbrev pub IsAllowed : (supplied : Bool) → Machine → rounds.Event → Type 0
 IsAllowed supplied m (events.Offer i) = ⊤
 IsAllowed supplied m (events.Claim i) = ⊤
@@ -65,8 +65,8 @@ IsAllowed supplied m (events.Done i) = ⊤
 IsAllowed supplied m (events.Take i ran) = IsTakeable supplied m.supply ran
 IsAllowed supplied m events.Judge = IsAtRest m × IsReached supplied m.supply m.core.committed
 
--- An event that `apply` doesn't refuse is the machine's, and leaves the core that `apply` leaves. One that it refuses isn't, and changes
--- nothing.
+-- An event that `apply` doesn't refuse is the machine's, and leaves the core that `apply` leaves. One that it refuses
+-- isn't, and changes nothing.
 abbrev pub AppliedIsEvent : (guest : List ℕ) → (supplied : Bool) → Machine → rounds.Event → Verdict → Core → Type 0
 AppliedIsEvent guest supplied m e verdict core = m.left ≡ None → IsAllowed supplied m e → HasApplied m.core e verdict core
     → ((n : Machine) × Step guest supplied m (in_round e) n × (n.core ≡ core) × (IsRefusal verdict → ⊥))
@@ -110,7 +110,8 @@ AppendIsEvents guest supplied m before after added result t =
 
 -- ---- output
 
--- Bytes are sent in pieces, once this number of them was sent. Each piece is all that is left, and of each Out takes this many bytes.
+-- Bytes are sent in pieces, once this number of them was sent. Each piece is all that is left, and of each Out takes
+-- this many bytes.
 abbrev pub pieces_of : List ℕ → (sent : ℕ) → (counts : List ℕ) → List MachineEvent
 pieces_of bytes sent [] = []
 pieces_of bytes sent (k ∷ counts) = sends (left_to_send bytes sent) k ∷ pieces_of bytes (sent + k) counts
@@ -132,7 +133,8 @@ SendIsEvents guest supplied m bytes ok t =
 abbrev pub after_commit : Machine → EpochRun → (output : List ℕ) → History → Machine
 after_commit m r output t = record (after_machine_call m (record_of_run r) (r ∷ []) gate_sync t) { released = m.released ++ output }
 
--- A commit is the four calls of the epoch's record and then the pieces of its output, or these up to a call that fails, or no event.
+-- A commit is the four calls of the epoch's record and then the pieces of its output, or these up to a call that fails,
+-- or no event.
 abbrev pub CommitEvents : (guest : List ℕ) → (supplied : Bool) → Machine → EpochRun → Journal → Result (Unit {0}) CommitFault → History → Type 0
 CommitEvents guest supplied m r after (Ok done) t = (counts : List ℕ) × Reaches guest supplied m (record_calls ++ pieces_of r.out 0 counts) (after_commit m r r.out t)
     × IsAtRest (after_commit m r r.out t) × IsJournalOf guest (after_commit m r r.out t) after

@@ -14,8 +14,8 @@ use Rattle.journal_text.specs.Records.{IsRecord, Record}
 use Rattle.recorder.specs.declared.commit.CommitFault.{CommitFault}
 use Rattle.recorder.specs.declared.commit.CommitFault.TheVariants as commits
 
--- While an epoch is committed a crash leaves the journal as it was, or with the record. Some of the output was sent only if it
--- leaves the record.
+-- While an epoch is committed a crash leaves the journal as it was, or with the record. Some of the output was sent
+-- only if it leaves the record.
 abbrev pub IsCommitting : (guest : List ℕ) → List Record → Record → (output : List ℕ) → History → (image sent : List ℕ) → Type 0
 IsCommitting guest records r output h image sent =
     IsBeforeOrAfter guest records r h image sent ⊎ (Reads guest (records ++ r ∷ []) image × IsPrefixSent output h.sent sent)
@@ -46,7 +46,8 @@ HasCommitted j size after (Err (commits.Full end need)) = HasAppended j size aft
 HasCommitted j size after (Err (commits.Failed last)) = HasAppended j size after (Err (appends.Failed last))
 HasCommitted j size after (Err commits.DiskFault) = HasAppended j size after (Err appends.DiskFault)
 
--- No device has met a fault but the one that the answer names: the counts of the disk's faults and of the sink's, before and after.
+-- No device has failed but the one that the answer names: the counts of the disk's faults and of the sink's, before and
+-- after.
 abbrev pub MetNoOther : Result (Unit {0}) CommitFault → (disk disk_after sink sink_after : ℕ) → Type 0
 MetNoOther (Ok done) disk disk_after sink sink_after = (disk_after ≡ disk) × (sink_after ≡ sink)
 MetNoOther (Err commits.OutputFault) disk disk_after sink sink_after = disk_after ≡ disk
@@ -54,7 +55,7 @@ MetNoOther (Err (commits.Full end need)) disk disk_after sink sink_after = (disk
 MetNoOther (Err (commits.Failed last)) disk disk_after sink sink_after = (disk_after ≡ disk) × (sink_after ≡ sink)
 MetNoOther (Err commits.DiskFault) disk disk_after sink sink_after = sink_after ≡ sink
 
--- the calls that it makes of the world: those of the append, and behind them those that send the output
+-- the calls that it makes of the world: those of the append, and after them those that send the output
 abbrev pub CommitCalls : Journal → (added output : List ℕ) → Result (Unit {0}) CommitFault → History → History → Type 0
 CommitCalls j added output (Ok done) before after = (mid : History) × RecordCalls j.end added true before mid × SendCalls Out output true mid after
 CommitCalls j added output (Err commits.OutputFault) before after = (mid : History) × RecordCalls j.end added true before mid × SendCalls Out output false mid after

@@ -1,4 +1,5 @@
--- What the rounds of a recording draw from its input, and which answers are honest of one. This project's own.
+-- What the rounds of a recording read from its input and clock (their draws), and which answers are faithful to an
+-- input. This project's own.
 use Rattle.std.specs.Prelude.{◌≡◌, ℕ, ◌+◌, ◌-◌, ◌^◌, min, Bool, true, false, List, [], ◌∷◌, ◌++◌, length, map, slice_get, drop, Some, ⊤, if◌then◌else◌}
 use Rattle.std.specs.List.{flat_map}
 use Rattle.dp_base.specs.Encoding.{IsPrefixOf}
@@ -12,13 +13,13 @@ use Rattle.supply.specs.declared.TheConstants.{MAX_ROOM}
 
 -- ---- rounds
 
--- what a round draws: whether input was due, the bytes that it took then, and the reading of its clock
+-- the draw of a round: whether input was due, the bytes that it took then, and the reading of its clock
 pub record Draw : Type 0 where
   pub due : Bool
   pub taken : List ℕ
   pub reading : ℕ
 
--- a round: what it drew, the epochs of it that were committed, in order, and whether the result after them was squashed
+-- a round: its draw, the epochs of it that were committed, in order, and whether the result after them was squashed
 pub record Round : Type 0 where
   pub draw : Draw
   pub epochs : List Epoch
@@ -41,7 +42,7 @@ answers_in epochs = flat_map (λ e. e.answers) epochs
 
 -- ---- the supply
 
--- the supply of a round: it is refilled exactly where input is due, and the round's reading is its stamp
+-- the supply of a round: it is refilled exactly if input is due, and the round's reading is its stamp
 abbrev pub supply_of : Supplied → Draw → Supplied
 supply_of w d = record (if d.due then refilled d.taken w else w) { stamp = d.reading }
 
@@ -55,7 +56,7 @@ abbrev pub TookIf : Bool → (bytes : List ℕ) → Input → Input → Type 0
 TookIf true bytes i there = Took MAX_ROOM bytes i there
 TookIf false bytes i there = there ≡ i
 
--- a round takes from the input once where some is due, and else not; and then reads the clock once
+-- a round takes from the input once if some is due, and else not; and then reads the clock once
 abbrev pub Drew : Draw → Input → Input → Type 0
 Drew d i there = (mid : Input) × TookIf d.due d.taken i mid × ReadClock d.reading mid there
 
@@ -65,20 +66,21 @@ DrewAll (d ∷ draws) i there = (mid : Input) × Drew d i mid × DrewAll draws m
 
 -- ---- honest answers
 
--- each of these values is a reading, and none comes before the one in front of it
+-- each of these values is a reading, and they are in the order of the readings
 abbrev pub AreFound : (values readings : List ℕ) → Type 0
 AreFound [] readings = ⊤
 AreFound (v ∷ values) readings = (place : ℕ) × (slice_get readings place ≡ Some v) × AreFound values (drop place readings)
 
--- Answers that are honest of an input that gave these bytes, whose end was seen or wasn't, and whose clock had these readings.
+-- Answers that are faithful to an input that gave these bytes, whose end was seen or wasn't, and whose clock had these
+-- readings.
 pub record IsHonest (answers : List Answer) (given : List ℕ) (ended : Bool) (readings : List ℕ) : Type 0 where
   -- what reads took, joined, are the first bytes of the input
   pub reads : IsPrefixOf (bytes_read answers) given
-  -- a read that took none came where all of them had been read, and the end was seen
+  -- a read that took none came when all of them had been read, and the end was seen
   pub ends : (before after : List Answer) → answers ≡ before ++ Read [] ∷ after → (bytes_read before ≡ given) × (ended ≡ true)
   pub clocks : AreFound (clock_readings answers) readings
 
--- The readings of a clock from one moment to another. Where no more can be counted this has the last.
+-- The readings of a clock from one moment to another. If no more can be counted this has the last.
 abbrev pub readings_since : Input → Input → List ℕ
 readings_since i there = drop (min (length i.readings) (2 ^ 64 - 2)) there.readings
 
@@ -86,6 +88,6 @@ readings_since i there = drop (min (length i.readings) (2 ^ 64 - 2)) there.readi
 abbrev pub IsHonestSince : List Answer → Input → Input → Type 0
 IsHonestSince answers i there = (given : List ℕ) × (there.given ≡ i.given ++ given) × IsHonest answers given there.ended (readings_since i there)
 
--- rounds drew so much, and the answers that were taken are honest
+-- rounds had these draws, and the answers that were taken are faithful to the input
 abbrev pub HasDrawn : List Draw → List Answer → Input → Input → Type 0
 HasDrawn draws answers i there = DrewAll draws i there × IsHonestSince answers i there

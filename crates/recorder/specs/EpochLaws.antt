@@ -1,4 +1,5 @@
--- What the laws of the crates below say of one epoch. It serves the contracts of the crate's own steps. This project's own.
+-- What the laws of the crates below say of one epoch. It serves the contracts of the crate's own steps. This project's
+-- own.
 use Rattle.std.specs.Prelude.{◌≡◌, ◌+◌, ◌*◌, ◌^◌, ◌<◌, ◌≤◌, ℕ, List, [], ◌∷◌, ◌++◌, length, Ok}
 use Rattle.std.specs.List.{AllByRecursion}
 use Rattle.dp_base.specs.declared.answer.Answer.{Answer}

@@ -1,4 +1,4 @@
--- A fault of a recording, by that of its step; and which faults were met. This project's own.
+-- A fault of a recording, by that of its step; and which devices failed. This project's own.
 use Rattle.std.specs.Prelude.{◌≡◌, ℕ, Result, Ok, Err}
 use Rattle.epoch_journal.specs.declared.begin.BeginFault.{BeginFault}
 use Rattle.epoch_journal.specs.declared.begin.BeginFault.TheVariants as begins
@@ -19,8 +19,8 @@ of_commit (commits.Full end need) = faults.JournalFull end need
 of_commit (commits.Failed last) = faults.DiskFault
 of_commit commits.OutputFault = faults.OutputFault
 
--- No device has met a fault but the one that the answer names: the counts of the disk's faults, of the sink's and of the input's,
--- before and after.
+-- No device has failed but the one that the answer names: the counts of the disk's faults, of the sink's and of the
+-- input's, before and after.
 abbrev pub MetNoOther : {A : Type 0} → Result A RecordFault → (disk disk_after sink sink_after input input_after : ℕ) → Type 0
 MetNoOther (Ok done) disk disk_after sink sink_after input input_after = (disk_after ≡ disk) × (sink_after ≡ sink) × (input_after ≡ input)
 MetNoOther (Err faults.DiskFault) disk disk_after sink sink_after input input_after = (sink_after ≡ sink) × (input_after ≡ input)

@@ -1,4 +1,5 @@
--- What a recording is so far, between two rounds and within one. These serve the contracts of the crate's own steps. This project's own.
+-- What a recording is so far, between two rounds and within one. These serve the contracts of the crate's own steps.
+-- This project's own.
 use Rattle.std.specs.Prelude.{◌≡◌, ◌⊎◌, ◌<◌, ◌≤◌, ◌+◌, ◌-◌, ◌*◌, ◌^◌, ℕ, Bool, true, false, List, [], ◌∷◌, ◌++◌, length, take, Option, Some, None, Result, Ok, Err, slice_get}
 use Rattle.std.specs.List.{AllByRecursion, list_any}
 use Rattle.commit_core.specs.JudgedRound.{IsWithin}
@@ -62,7 +63,8 @@ pub record IsDrawn (w : Supplied) (place : ℕ) (draws : List Draw) (answers : L
 
 -- ---- every moment so far
 
--- The journal has the first of these epochs with their marks, but the last one may be missing, and of their output a prefix was sent.
+-- The journal has the first of these epochs with their marks, but the last one may be missing, and of their output a
+-- prefix was sent.
 pub record IsFront (guest : List ℕ) (every : ℕ) (start : State) (epochs : List Epoch) (image said : List ℕ) : Type 0 where
   pub front : List Epoch
   pub rest : List Epoch
@@ -100,7 +102,7 @@ pub record Setting : Type 0 where
   pub given : Option Input
   pub before : Option History
 
--- These epochs were committed and sent, in a journal of these records, and that was drawn.
+-- These epochs were committed and sent, in a journal of these records, and these were the draws.
 pub record Kept (a : Setting) (there : Option Input) (now : Option History) (records : List Record) (epochs : List Epoch) (draws : List Draw) (output : List ℕ) (state : State) (w : Supplied) (j : Journal) (tally : Tally) : Type 0 where
   pub is_guest : IsGuest a.guest
   pub chained : chain a.start epochs ≡ Ok (state, output)
@@ -129,7 +131,8 @@ pub record Kept (a : Setting) (there : Option Input) (now : Option History) (rec
   pub since_few : tally.since ≤ tally.epochs
   pub base_encodable : IsEncodable tally.base
 
--- Whether the mark after the last epoch was judged, the count of epochs since the last mark, and the base of the next one.
+-- Whether the mark after the last epoch was judged, the count of epochs since the last mark, and the base of the next
+-- one.
 abbrev pub IsSince : (judged : Bool) → Setting → List Epoch → State → (since : ℕ) → (base : State) → Type 0
 IsSince true a epochs state since base = (since ≡ since_after a.options.mark 0 a.start epochs) × (base ≡ base_after a.options.mark 0 a.start a.start epochs)
 IsSince false a epochs state since base =
@@ -150,8 +153,9 @@ pub record SoFar (a : Setting) (there : Option Input) (now : Option History) (ra
 
 -- ---- within a round
 
--- what stays while the results of a round are judged: the input after its draw, what the racer tells after its race, the round's supply and start,
--- how many results were squashed before, all results that will be taken in it, and whether they are those of all its jobs
+-- what stays while the results of a round are judged: the input after its draw, the racer's known offers after its
+-- race, the round's supply and start, how many results were squashed before, all results that will be taken in it, and
+-- whether they are those of all its jobs
 pub record InRound : Type 0 where
   pub setting : Setting
   pub later : Option Input
@@ -185,8 +189,8 @@ pub record Within (marked : Bool) (a : InRound) (now : Option History) (core : C
   pub last : IfKnown (λ s t. IsLast a.supply.stamp (readings_since s t)) a.setting.given a.later
   pub longer : run.end.steps + length runs ≤ core.committed.steps
 
--- What a committer's code stands on: all results that it took were committed, the counts of the committed state have room for those of the
--- other jobs, and the journal takes more.
+-- What a committer's code relies on: all results that it took were committed, the counts of the committed state don't
+-- overflow with those of the other jobs, and the journal takes more.
 pub record CanCommit (core : Core) (j : Journal) : Type 0 where
   pub not_closed : core.closed ≡ false
   pub judged : core.judged ≡ length core.jobs

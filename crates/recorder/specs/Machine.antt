@@ -1,5 +1,5 @@
--- A recording as a machine: its state, its events, and what each event may do. A list of events is any course of racers, workers, the
--- committer and the devices. This project's own.
+-- A recording as a machine: its state, its events, and what each event may do. A list of events is any course of
+-- racers, workers, the committer and the devices. This project's own.
 use Rattle.std.specs.Prelude.{◌≡◌, ◌≢◌, slice_get, ◌⊎◌, ◌<◌, ◌≤◌, ◌+◌, ◌-◌, ℕ, Bool, true, false, List, [], ◌∷◌, ◌++◌, length, map, take, Option, Some, None, Ok, Err, ⊤}
 use Rattle.std.specs.List.{flat_map}
 use Rattle.commit_core.specs.declared.event.Event as rounds
@@ -38,7 +38,8 @@ pub data MachineCall : Type 0 where
   gate_write : MachineCall
   gate_sync : MachineCall
 
--- What is written: nothing, or a record, which is that of these epochs (one, or none if it is a mark). The call is the next one.
+-- What is written: nothing, or a record, which is that of these epochs (one, or none if it is a mark). The call is the
+-- next one.
 pub data Hand : Type 0 where
   nothing : Hand
   holds : Record → List EpochRun → MachineCall → Hand
@@ -139,7 +140,8 @@ pub data MachineEvent : Type 0 where
 
 -- ---- round
 
--- It begins if the one before is closed or all of its jobs were judged. It takes a window only if the input's end wasn't seen.
+-- It begins if the one before is closed or all of its jobs were judged. It takes a window only if the input's end
+-- wasn't seen.
 abbrev pub BeginsRound : Machine → Draw → ℕ → Machine → Type 0
 BeginsRound m d jobs n = IsAtRest m × ((m.core.closed ≡ true) ⊎ (m.core.judged ≡ length m.core.jobs)) × (0 < jobs) × (jobs ≤ MAX_JOBS) × (d.due ≡ true → m.supply.ended ≡ false)
     × Drew d m.input n.input × (n ≡ record m {
@@ -168,19 +170,21 @@ abbrev pub IsTakeable : (supplied : Bool) → Supplied → Ran → Type 0
 IsTakeable true w ran = IsMachineResult ran × IsSupplied w ran
 IsTakeable false w ran = IsMachineResult ran
 
--- The window doesn't begin after the input that this state has read. This is asked only if answers must be the supply's.
+-- The window doesn't begin after the input that this state has read. This is asked only if answers must be the
+-- supply's.
 abbrev pub IsReached : (supplied : Bool) → Supplied → State → Type 0
 IsReached true w s = w.place ≤ s.input
 IsReached false w s = ⊤
 
--- An epoch that starts in the committed state is committed, and its record is in hand. Any other result closes the round.
+-- An epoch that starts in the committed state is committed, and its record is in hand. Any other result closes the
+-- round.
 abbrev pub Judges : (supplied : Bool) → Machine → Ran → Machine → Type 0
 Judges supplied m (Epoch r) n =
     ((r.start ≡ m.core.committed) × IsReached supplied m.supply m.core.committed × (n ≡ record m { core = with_epoch m.core r; round_runs = m.round_runs ++ r ∷ []; hand = holds (record_of_run r) (r ∷ []) frame_write }))
     ⊎ ((r.start ≢ m.core.committed) × (n ≡ record m { core = shut m.core }))
 Judges supplied m (Idle s) n = ((s ≡ m.core.committed) ⊎ (s ≢ m.core.committed)) × (n ≡ record m { core = shut m.core })
 
--- each comes once for a job, and after the one before it
+-- each happens once for a job, and after the one before it
 abbrev pub RoundEvent : (supplied : Bool) → Machine → rounds.Event → Machine → Type 0
 RoundEvent supplied m (events.Offer i) n = (i ≡ length m.core.jobs + 1) × (i ≤ m.core.max_jobs) × (n ≡ record m { core = with_job m.core })
 RoundEvent supplied m (events.Claim i) n = (stage_at m.core.jobs i ≡ Some Offered) × (n ≡ record m { core = with_stage m.core i Claimed })
@@ -244,7 +248,8 @@ SendFails m piece n = (m.stopped ≡ false) × IsNextOutput m piece × (h : Hist
 
 -- ---- a step, and steps
 
--- From a machine to the next by an event. Results are taken with any answers, or only with those of their round's supply.
+-- From a machine to the next by an event. Results are taken with any answers, or only with those of their round's
+-- supply.
 abbrev pub StepBy : (guest : List ℕ) → (supplied : Bool) → Machine → MachineEvent → Machine → Type 0
 StepBy guest supplied m (round d jobs) n = BeginsRound m d jobs n
 StepBy guest supplied m (in_round e) n = RoundEvent supplied m e n

@@ -19,8 +19,9 @@ use Rattle.recorder.specs.Machine.{MachineEvent, Hand, Machine, TakenResult, cra
 
 -- ---- the journal
 
--- These are the records of these epochs, from one state to another, in order. Between them are marks, each of the state there, and a
--- partial one against its base: the state of the mark before, or the base at the beginning. The next mark has this base then.
+-- These are the records of these epochs, from one state to another, in order. Between them are marks, each of the state
+-- there, and a partial one against its base: the state of the mark before, or the base at the beginning. The next mark
+-- has this base then.
 abbrev pub StandFor : (base s : State) → List Record → List EpochRun → (then_ t : State) → Type 0
 StandFor base s [] [] then_ t = (then_ ≡ base) × (t ≡ s)
 StandFor base s (epoch e ∷ records) (r ∷ rs) then_ t = (e ≡ epoch_of r.epoch) × StandFor base r.end records rs then_ t
@@ -41,7 +42,8 @@ record_opened (holds r rs frame_sync) = None
 record_opened (holds r rs gate_write) = None
 record_opened (holds r rs gate_sync) = Some r
 
--- The record that an image may have after those that are acknowledged: the one in hand if its gate was written, or if a device failed.
+-- The record that an image may have after those that are acknowledged: the one in hand if its gate was written, or if a
+-- device failed.
 abbrev pub in_question : Hand → (stopped : Bool) → Option Record
 in_question hand true = record_in_hand hand
 in_question hand false = record_opened hand
@@ -63,9 +65,9 @@ abbrev pub AreTaken : List TakenResult → ℕ → List Ran → Type 0
 AreTaken results i [] = ⊤
 AreTaken results i (ran ∷ rans) = WasTaken results i ran × AreTaken results (i + 1) rans
 
--- Of the results from job 1 on, the epochs that the round has committed are the longest list of first ones in which each is an epoch
--- that starts where the one before ended. While the round goes on all that were judged are committed; when it is closed one more was
--- judged, and isn't.
+-- Of the results from job 1 on, the epochs that the round has committed are the longest list of first ones in which
+-- each is an epoch that starts where the one before ended. While the round goes on all that were judged are committed;
+-- when it is closed one more was judged, and isn't.
 pub record IsMachineRound (m : Machine) : Type 0 where
   pub results : List Ran
   pub are_taken : AreTaken m.results 1 results

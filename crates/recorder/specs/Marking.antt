@@ -10,8 +10,8 @@ use Rattle.partial_mark.specs.Base.{partial_of}
 use Rattle.partial_mark.specs.Partial.{Partial}
 use Rattle.recorder.specs.declared.options.Options.{Options}
 
--- A mark is due so many epochs after the last one, if the guest hasn't ended. None is due where the number is 0: after an epoch at least one
--- was counted.
+-- A mark is due `every` epochs after the last one, if the guest hasn't ended. None is due if `every` is 0: after an
+-- epoch at least one was counted.
 abbrev pub is_due : (every since : ℕ) → State → Bool
 is_due every since s = if has_ended s.end then false else nat_eq since every
 
@@ -36,7 +36,7 @@ kept true later marks = marks
 kept false [] marks = []
 kept false (e ∷ later) marks = marks
 
--- Epochs from this state with their marks, so many epochs after the last mark, whose state is the base.
+-- Epochs from this state with their marks, `since` epochs after the last mark, whose state is the base.
 unfoldable pub marked_from : (all : Bool) → (every since : ℕ) → (base s : State) → List Epoch → List Record
 marked_from all every since base s [] = []
 marked_from all every since base s (e ∷ later) = epoch e ∷ either (run e.slices (at s [] e.answers))
@@ -58,14 +58,15 @@ base_after every since base s (e ∷ later) = either (run e.slices (at s [] e.an
     (λ stop. base)
     (λ here. base_after every (since_then every (since + 1) here.state) (base_then every (since + 1) base here.state) here.state later)
 
--- The records of these epochs, from the guest's start: a mark after every so many of them. The first mark's base is the start.
+-- The records of these epochs, from the guest's start: a mark after every `every` of them. The first mark's base is the
+-- start.
 abbrev pub records_with : (all : Bool) → (every : ℕ) → State → List Epoch → List Record
 records_with all every start epochs = marked_from all every 0 start start epochs
 
 abbrev pub records_of : Options → State → List Epoch → List Record
 records_of options start epochs = records_with true options.mark start epochs
 
--- the same where the mark after the last epoch isn't there
+-- those without the mark after the last epoch
 abbrev pub records_unmarked : Options → State → List Epoch → List Record
 records_unmarked options start epochs = records_with false options.mark start epochs
 

@@ -13,8 +13,9 @@ use Rattle.journal_text.specs.Reading.{reads}
 use Rattle.recorder.specs.Drawing.{IsHonestSince, answers_in}
 use Rattle.recorder.specs.Marking.{records_with}
 
--- The image reads as this guest's journal, with a mark after every so many epochs; the one after the last epoch may be missing. Its
--- epochs, all of them whole and in order, are one run of the guest from its start, their answers are honest of what the input has given by the end of the call, and what was said is a prefix of the run's output.
+-- The image reads as this guest's journal, with a mark after every `every` epochs; the one after the last epoch may be
+-- missing. Its epochs, all of them whole and in order, are one run of the guest from its start. Their answers are
+-- faithful to what the input has given by the end of the call, and what was sent is a prefix of the run's output.
 pub record IsRecording (guest : List ℕ) (every : ℕ) (start : State) (i j : Option Input) (image said : List ℕ) : Type 0 where
   pub epochs : List Epoch
   pub all : Bool
@@ -29,11 +30,11 @@ pub record IsRecording (guest : List ℕ) (every : ℕ) (start : State) (i j : O
 abbrev pub StandsAt : (guest : List ℕ) → (every : ℕ) → (start : State) → (i j : Option Input) → (image said : List ℕ) → Type 0
 StandsAt guest every start i j image said = ((reads image ≡ None) × (said ≡ [])) ⊎ IsRecording guest every start i j image said
 
--- The same of all that Out has got since a recording began.
+-- An image and all that Out has got since a recording began.
 abbrev pub HoldsAt : (guest : List ℕ) → (every : ℕ) → (start : State) → (i j : Option Input) → History → (image sent : List ℕ) → Type 0
 HoldsAt guest every start i j before image sent = (said : List ℕ) × (sent ≡ before.sent ++ said) × StandsAt guest every start i j image said
 
--- At every moment, where the disk was empty and nothing was pending on it.
+-- At every moment, if the disk was empty and nothing was pending on it.
 abbrev pub EachMoment : (guest : List ℕ) → (every : ℕ) → (start : State) → (i j : Option Input) → (before after : Option History) → Type 0
 EachMoment guest every start i j before after =
     IfKnown (λ s t. s.disk ≡ [] → IsSynced s → Always (HoldsAt guest every start i j s) s t) before after

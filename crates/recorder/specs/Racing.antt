@@ -13,7 +13,7 @@ use Rattle.supply.specs.Supplied.{Supplied}
 use Rattle.sync_hints.specs.declared.hints.Hints.{Hints}
 use Rattle.sync_hints.specs.NoHints.{no_hints}
 
--- the most steps of an epoch that starts here; none where the start has passed the limit
+-- the most steps of an epoch that starts here; none if the start has passed the limit
 abbrev pub epoch_steps : Options → State → ℕ
 epoch_steps options s = min options.epoch (options.limit - s.steps)
 
@@ -44,16 +44,18 @@ plan_of options first s = record {
 
 -- ---- the results of a round
 
--- What became of the first jobs of a round with a supply: one result each, in order. Job 1 starts in this state, each other one in the state of an
--- offer. The hints of a job are those of the offer that ends it, and the last job has none. After job 1 the first thread is sought from 1 on.
+-- What became of the first jobs of a round with a supply: one result each, in order. Job 1 starts in this state, each
+-- other one in the state of an offer. The hints of a job are those of the offer that ends it, and the last job has
+-- none. After job 1 the first thread is sought from 1 on.
 abbrev pub AreResults : Options → (first : ℕ) → State → List Offer → Supplied → List Ran → Type 0
 AreResults options first s offers w [] = ⊤
 AreResults options first s [] w (x ∷ []) = HasRun s no_hints w (job_bounds options first s) x
 AreResults options first s [] w (x ∷ y ∷ results) = ⊥
 AreResults options first s (o ∷ offers) w (x ∷ results) = HasRun s o.hints w (job_bounds options first s) x × AreResults options 1 o.next offers w results
 
--- These are the first results of a round from a state, with its supply and the thread that is tried first, by a racer that tells this. Where it tells
--- its offers the round has the first of them, one for each job but job 1, and the racer tells the same afterwards.
+-- These are the first results of a round from a state, with its supply and the thread that is tried first, by a racer.
+-- If the racer's offers are known, the round has the first of them, one for each job but job 1, and they are the same
+-- afterwards.
 pub record IsRaced (tells : Tells) (options : Options) (first : ℕ) (s : State) (w : Supplied) (results : List Ran) (after : Tells) : Type 0 where
   pub offers : List Offer
   pub told : IfTold (tells s w (plan_of options first s)) (λ list. offers ≡ take (options.ahead - 1) list)

@@ -1,5 +1,5 @@
--- What a recording results in: a run of the guest in rounds, each of which reads from the input and runs epochs of which the first ones are
--- committed; what of the run is in the journal; and what was sent. This project's own.
+-- What a recording results in: a run of the guest in rounds, each of which reads from the input and runs epochs of
+-- which the first ones are committed; what of the run is in the journal; and what was sent. This project's own.
 use Rattle.std.specs.Prelude.{◌≡◌, ◌⊎◌, ◌<◌, ◌≤◌, ◌+◌, ℕ, Bool, true, false, List, [], ◌∷◌, ◌++◌, length, map, take, Option, Some, None, Result, Ok, Err, ⊤}
 use Rattle.dp_base.specs.Encoding.{IsPrefixOf}
 use Rattle.dp_base.specs.declared.answer.Answer.{Answer}
@@ -63,8 +63,8 @@ is_squash used_up = false
 is_squash squashed = true
 is_squash over = false
 
--- A round from a state to another, by a racer that tells this: its jobs were run, and their results judged in order, all of them unless one ended
--- the round. At least one epoch was committed.
+-- A round from a state to another, by a racer: its jobs were run, and their results judged in order, all of them unless
+-- one ended the round. At least one epoch was committed.
 pub record IsRound (tells : Tells) (options : Options) (first : ℕ) (s : State) (w : Supplied) (r : Round) (end : State) (after : Tells) : Type 0 where
   pub results : List Ran
   pub raced : IsRaced tells options first s w results after
@@ -76,13 +76,14 @@ pub record IsRound (tells : Tells) (options : Options) (first : ℕ) (s : State)
   pub epochs_are : r.epochs ≡ epochs_of_runs runs
   pub squashed_is : r.squashed ≡ is_squash stop
 
--- Each round starts in the state in which the one before ends, while the guest goes on. It takes input exactly if some is due.
+-- Each round starts in the state in which the one before ends, while the guest goes on. It takes input exactly if some
+-- is due.
 abbrev pub EachIsRound : Tells → Options → ℕ → State → Supplied → List Round → State → Tells → Type 0
 EachIsRound tells options first s w [] t after = (t ≡ s) × (after ≡ tells)
 EachIsRound tells options first s w (r ∷ rounds) t after = GoesOn options s × (r.draw.due ≡ input_due s w) × (end : State) × (mid : Tells)
     × IsRound tells options first s (supply_of w r.draw) r end mid × EachIsRound mid options (first_after first r.epochs) end (supply_of w r.draw) rounds t after
 
--- a run of a guest from a state, in whole rounds, by a racer that tells this
+-- a run of a guest from a state, in whole rounds, by a racer with these known offers
 pub record Run (tells : Tells) (options : Options) (start : State) : Type 0 where
   pub rounds : List Round
   pub end : State
@@ -92,8 +93,8 @@ pub record Run (tells : Tells) (options : Options) (start : State) : Type 0 wher
   pub each : EachIsRound tells options 1 start (empty MAX_ROOM) rounds end racer
   pub counted : end.steps ≤ options.limit
 
--- its epochs, how many results were squashed, what its rounds read from the input, the answers that its epochs took, and the supply after its
--- last round
+-- its epochs, how many results were squashed, what its rounds read from the input, the answers that its epochs took,
+-- and the supply after its last round
 abbrev pub epochs : {tells : Tells} {options : Options} {start : State} → Run tells options start → List Epoch
 epochs r = epochs_of_rounds r.rounds
 
@@ -117,8 +118,8 @@ supply r = supply_behind (empty MAX_ROOM) (draws r)
 abbrev pub first_next : {tells : Tells} {options : Options} {start : State} → Run tells options start → ℕ
 first_next r = first_after 1 (epochs r)
 
--- A run that goes on, and a round after it of whose results the first ones are committed. It isn't known of the rest whether they will be, nor how
--- many follow.
+-- A run that goes on, and a round after it of whose results the first ones are committed. It isn't known of the rest
+-- whether they will be, nor how many follow.
 pub record RunOn (tells : Tells) (options : Options) (start : State) : Type 0 where
   pub run : Run tells options start
   pub goes_on : GoesOn options run.end
@@ -157,14 +158,14 @@ next_epoch n = epoch_of n.run.epoch
 abbrev pub BeginsWith : {A : Type 0} → (list front : List A) → Type 0
 BeginsWith {A} list front = (more : List A) × (list ≡ front ++ more)
 
--- a racer tells all that it offers, whatever the round
+-- all that a racer offers is known, whatever the round
 abbrev pub TellsAll : Tells → Type 0
 TellsAll tells = (s : State) (w : Supplied) (p : Plan) → (list : List Offer) × (tells s w p ≡ Some list)
 
 -- ---- a run in rounds of one job
 
--- An epoch from one state to another, as the schedule runs it without hints and with a supply, within the options' bounds. This thread is tried
--- first.
+-- An epoch from one state to another, as the schedule runs it without hints and with a supply, within the options'
+-- bounds. This thread is tried first.
 pub record IsNextEpoch (options : Options) (first : ℕ) (s : State) (w : Supplied) (e : Epoch) (end : State) (output : List ℕ) : Type 0 where
   pub bounds : Bounds
   pub steps : bounds.steps ≡ epoch_steps options s
@@ -174,8 +175,8 @@ pub record IsNextEpoch (options : Options) (first : ℕ) (s : State) (w : Suppli
   pub is_epoch : IsEpoch e
   pub fits : IsBody (epoch_body e)
 
--- Each round starts in the state in which the one before ends. It takes input exactly if some is due, and commits one epoch, the one
--- that is next with what it has read. No result is squashed.
+-- Each round starts in the state in which the one before ends. It takes input exactly if some is due, and commits one
+-- epoch, the one that is next with what it has read. No result is squashed.
 abbrev pub EachIsNextEpoch : Options → ℕ → State → Supplied → List Round → Type 0
 EachIsNextEpoch options first s w [] = ⊤
 EachIsNextEpoch options first s w (r ∷ rounds) = (e : Epoch) × (end : State) × (output : List ℕ) × (r.epochs ≡ e ∷ []) × (r.squashed ≡ false) × (r.draw.due ≡ input_due s w)
@@ -191,11 +192,12 @@ RunDrawn r i j = IfKnown (HasDrawn (draws r) (answers r)) i j
 abbrev pub DrawnOn : {tells : Tells} {options : Options} {start : State} → Run tells options start → Draw → (i j : Option Input) → Type 0
 DrawnOn r d i j = IfKnown (HasDrawn (draws r ++ d ∷ []) (answers r)) i j
 
--- The same, and maybe one round read more: it took from the input exactly if some was due.
+-- A run in whole rounds, and maybe one round that only read: it took from the input exactly if some was due.
 abbrev pub HasDrawnOn : {tells : Tells} {options : Options} {start : State} → Run tells options start → (i j : Option Input) → Type 0
 HasDrawnOn r i j = RunDrawn r i j ⊎ ((d : Draw) × (d.due ≡ input_due r.end (supply r)) × DrawnOn r d i j)
 
--- What the rounds read by then, and the answers that these epochs took, all of a round's that were committed by then among them.
+-- What the rounds read by then, and the answers that these epochs took, all of a round's that were committed by then
+-- among them.
 abbrev pub DrawnWithin : {tells : Tells} {options : Options} {start : State} → RunOn tells options start → List Epoch → (i j : Option Input) → Type 0
 DrawnWithin on epochs i j = IfKnown (HasDrawn (draws_on on) (answers_in epochs)) i j
 
@@ -212,8 +214,8 @@ pub record IsRecorded (guest : List ℕ) (records : List Record) (output note : 
   pub sent : after.sent ≡ before.sent ++ output
   pub noted : after.noted ≡ before.noted ++ note
 
--- The disk failed before the first epoch. If the disk was empty with nothing pending, a crash leaves no journal, or one without a
--- record. If it wasn't empty, nothing was done.
+-- The disk failed before the first epoch. If the disk was empty with nothing pending, a crash leaves no journal, or one
+-- without a record. If it wasn't empty, nothing was done.
 pub record IsUnbegun (guest : List ℕ) (before after : History) : Type 0 where
   pub sent : after.sent ≡ before.sent
   pub noted : after.noted ≡ before.noted
@@ -221,8 +223,8 @@ pub record IsUnbegun (guest : List ℕ) (before after : History) : Type 0 where
   pub synced : before.disk ≡ [] → IsSynced before → reads after.pending.synced ≡ None
   pub left : before.disk ≡ [] → IsSynced before → Then (λ image sent. (reads image ≡ None) ⊎ Reads guest [] image) (now after)
 
--- The disk failed while one more record was appended. The output of the epochs before was sent. A crash leaves the journal of these
--- records, or the one that has this record too.
+-- The disk failed while one more record was appended. The output of the epochs before was sent. A crash leaves the
+-- journal of these records, or the one that has this record too.
 pub record IsInterrupted (guest : List ℕ) (records : List Record) (output : List ℕ) (last : Record) (before after : History) : Type 0 where
   pub empty : before.disk ≡ []
   pub sent : after.sent ≡ before.sent ++ output
@@ -267,8 +269,8 @@ HasLostDisk guest tells start options i j before after =
     ⊎ ((on : RunOn tells options start) × (m : Partial) × IsMarkDue options start (epochs_on on) m × HasRoom guest options (records_of options start (epochs_on on))
     × DrawnWithin on (epochs_on on) i j × IfKnown (IsInterrupted guest (records_unmarked options start (epochs_on on)) on.output (partial m)) before after)
 
--- The epoch that is next was committed, and a part of its output was sent; or the guest has ended, and a part of the report's line was
--- sent. The mark after that epoch isn't there.
+-- The epoch that is next was committed, and a part of its output was sent; or the guest has ended, and a part of the
+-- report's line was sent. The mark after that epoch isn't there.
 abbrev pub HasLostSink : (guest : List ℕ) → (tells : Tells) → (start : State) → Options → (i j : Option Input) → (before after : Option History) → Type 0
 HasLostSink guest tells start options i j before after =
     ((on : RunOn tells options start) × (n : NextEpoch on) × HasRoom guest options (records_unmarked options start (epochs_on on ++ next_epoch n ∷ []))
@@ -277,8 +279,8 @@ HasLostSink guest tells start options i j before after =
     ⊎ ((r : Run tells options start) × (has_ended r.end.end ≡ true) × HasRoom guest options (records r) × RunDrawn r i j
     × IfKnown (λ s t. (count : ℕ) × IsRecorded guest (records r) r.output (take count (report_line (reported r))) s t) before after)
 
--- Memory ran out before the first epoch, between two rounds, or within a round: while its jobs were made and run, or before the epoch that is next
--- was appended.
+-- Memory ran out before the first epoch, between two rounds, or within a round: while its jobs were made and run, or
+-- before the epoch that is next was appended.
 abbrev pub HasLostMemory : (guest : List ℕ) → (tells : Tells) → (start : State) → Options → (i j : Option Input) → (before after : Option History) → Type 0
 HasLostMemory guest tells start options i j before after =
     ((j ≡ i) × IfKnown IsUntouched before after)
@@ -287,8 +289,8 @@ HasLostMemory guest tells start options i j before after =
     ⊎ ((on : RunOn tells options start) × HasRoom guest options (records_of options start (epochs_on on))
     × DrawnWithin on (epochs_on on) i j × IfKnown (IsRecorded guest (records_of options start (epochs_on on)) on.output []) before after)
 
--- By the answer: the run that was recorded, by a racer that told this at first, what the journal holds and what was sent of it, and what was
--- read from the input.
+-- By the answer: the run that was recorded, by a racer with these known offers at first, what the journal holds and
+-- what was sent of it, and what was read from the input.
 abbrev pub Recorded : (guest : List ℕ) → (tells : Tells) → (start : State) → Options → (i j : Option Input) → (before after : Option History) → Result Report RecordFault → Type 0
 Recorded guest tells start options i j before after (Ok report) =
     (r : Run tells options start) × (has_ended r.end.end ≡ true) × (report ≡ reported r) × HasRoom guest options (records r)

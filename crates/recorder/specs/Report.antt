@@ -1,4 +1,4 @@
--- What sending a recording's report comes to, by the answer. This project's own.
+-- The outcome of sending a recording's report, by the answer. This project's own.
 use Rattle.std.specs.Prelude.{◌≡◌, ℕ, true, false, Result, Ok, Err, ⊤}
 use Rattle.checkpoint.specs.State.{digest_of}
 use Rattle.device.specs.Sending.{Sent}
@@ -14,7 +14,7 @@ use Rattle.recorder.specs.declared.record_fault.RecordFault.TheVariants as fault
 abbrev pub report_at : (epochs squashes sent : ℕ) → State → Report
 report_at epochs squashes sent s = record { epochs = epochs; squashes = squashes; steps = s.steps; sent = sent; end = s.end; state = digest_of s }
 
--- it answers the report, a fault of the output or want of memory
+-- it answers the report, a fault of the output or `OutOfMemory`
 abbrev pub IsReportSent : Report → Result Report RecordFault → Type 0
 IsReportSent r (Ok told) = told ≡ r
 IsReportSent r (Err faults.OutputFault) = ⊤

@@ -1,4 +1,5 @@
--- What a committer does with a result of its round. This serves the contracts of the crate's own steps. This project's own.
+-- What a committer does with a result of its round. This serves the contracts of the crate's own steps. This project's
+-- own.
 use Rattle.std.specs.Prelude.{◌≡◌, ◌≤◌, ◌+◌, ℕ, true, Option, Some, length, slice_get, Result, Ok, Err}
 use Rattle.commit_core.specs.Judging.{Core}
 use Rattle.dp_base.specs.Counts.{Rose}
@@ -16,8 +17,8 @@ use Rattle.recorder.specs.declared.tally.Tally.{Tally}
 use Rattle.recorder.specs.Faults.{MetNoOther}
 use Rattle.recorder.specs.Keeping.{InRound, StepSays, Within}
 
--- what a committer holds: what is known of the world, the faults of its disk and of its sink, and what was committed; a mark is due after so
--- many epochs
+-- what a committer holds: what is known of the world, the faults of its disk and of its sink, and what was committed; a
+-- mark is due after so many epochs
 pub record Holding : Type 0 where
   pub history : Option History
   pub disk : ℕ
@@ -34,7 +35,7 @@ more_after (Ok Squashed) = Enough
 more_after (Ok Over) = Enough
 more_after (Err fault) = Enough
 
--- A result was judged, and this came of it. If it is the next one of the round, this is what then stands.
+-- A result was judged, with this outcome. If it is the next one of the round, this holds then.
 pub record HasTaken (h : Holding) (ran : Ran) (more : More) (there : Holding) (last : Result AfterJudging RecordFault) : Type 0 where
   pub says : (a : InRound) → a.setting.options.mark ≡ h.every → Within true a h.history h.core h.journal h.tally → slice_get a.results (length h.core.jobs) ≡ Some ran
       → StepSays a there.history there.core there.journal there.tally last

@@ -13,9 +13,10 @@ use epoch_journal::{AppendFault, Journal};
 #[derive(Clone, Copy, Debug, PartialEq, Eq)]
 pub enum CommitFault {
     DiskFault,
-    /// The record ends past the room, and nothing was written or sent: the journal's end, and the frame's length.
+    /// The record ends past the journal's maximum length, and nothing was written or sent: the journal's end, and the
+    /// frame's length.
     Full { end: u64, need: u64 },
-    /// An append before this one met a fault of the disk, and nothing was written or sent: how many records were
+    /// An append before this one failed, and nothing was written or sent: how many records were
     /// acknowledged.
     Failed { last: u32 },
     /// The record is in the journal, and a prefix of the output was sent.
@@ -24,8 +25,8 @@ pub enum CommitFault {
 
 /// Appends an epoch's record, and sends its output once the record is on the disk. Takes no memory.
 ///
-/// At every moment of the call a crash leaves the journal as it was, and nothing of this output was sent; or the journal with this
-/// record, and a prefix of the output was sent.
+/// At every moment of the call a crash leaves the journal as it was, and nothing of this output was sent; or the
+/// journal with this record, and a prefix of the output was sent.
 pub fn commit_epoch<W: World>(
     journal: &mut Journal,
     world: &mut W,

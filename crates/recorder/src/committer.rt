@@ -13,7 +13,7 @@ use epoch_stream::Taker;
 use racing_runner::More;
 use std::alloc::Global;
 
-/// Judges the results of a round as they come, and commits each epoch that is to be.
+/// Judges the results of a round as they are available, and commits each epoch that is to be.
 #[derive(Drop)]
 pub(crate) struct Committer<W: World + Drop> {
     pub alloc: Global,
@@ -21,7 +21,7 @@ pub(crate) struct Committer<W: World + Drop> {
     pub journal: Journal,
     pub core: Core,
     pub tally: Tally,
-    /// After so many epochs a mark is appended.
+    /// A mark is appended after this many epochs.
     pub every: u32,
     /// How many results it has taken.
     pub taken: u32,

@@ -1,5 +1,5 @@
-//! What follows from the definitions of a recording alone. A call of such a function costs nothing, and hands the law to the
-//! caller's proof.
+//! What follows from the definitions of a recording alone. A call of such a function costs nothing, and hands the law
+//! to the caller's proof.
 
 ghost use Rattle.std.specs.Prelude.{◌≡◌, ◌≤◌, ◌++◌, ◌∷◌, ℕ, Bool, List, [], Result, Some, length, true};
 ghost use Rattle.commit_core.specs.declared.event.Event as rounds;
@@ -35,8 +35,8 @@ ghost use Rattle.supply.specs.Supplied.{Supplied, empty};
 ghost use Rattle.sync_hints.specs.declared.hints.Hints.{Hints};
 ghost use Rattle.supply.specs.Windows.{bytes_left};
 
-/// The epoch that is next from a state, by a supply, the options of a recording and the thread that is first, is one, with one end
-/// and one output: whoever records it again gets the same.
+/// The epoch that is next from a state, by a supply, the options of a recording and the thread that is first, is one,
+/// with one end and one output: whoever records it again gets the same.
 pub fn an_epoch_is_determined()
     ensures { (options : Options) (first : ℕ) (s : State) (w : Supplied) (e f : Epoch) (end other : State) (output written : List ℕ) →
         IsNextEpoch options first s w e end output → IsNextEpoch options first s w f other written →
@@ -45,8 +45,9 @@ pub fn an_epoch_is_determined()
     epoch_runner::laws::a_schedule_is_determined();
 }
 
-/// If a racer tells its offers, two recordings whose rounds read the same from the input are the same, round by round: whatever the number
-/// of workers and whichever of them ends first, the same epochs are committed, the same results squashed, and the end is the same.
+/// If a racer's offers are known, two recordings whose rounds read the same from the input are the same, round by
+/// round: whatever the number of workers and whichever of them ends first, the same epochs are committed, the same
+/// results squashed, and the end is the same.
 pub fn a_told_racer_leaves_no_choice()
     ensures { (tells : Tells) → TellsAll tells → (options : Options) (start : State) (r q : Run tells options start) → draws r ≡ draws q →
         (r.rounds ≡ q.rounds) × (r.end ≡ q.end) × (squashes r ≡ squashes q) }
@@ -54,8 +55,9 @@ pub fn a_told_racer_leaves_no_choice()
     epoch_runner::laws::a_schedule_is_determined();
 }
 
-/// A recording that stopped early has the first epochs of any that reads the same and goes further, if the racer tells its offers: between two
-/// rounds (`rounds`), within a round (`within`), and with the epoch that is next (`next`).
+/// A recording that stopped early has the first epochs of any that reads the same and goes further, if the racer's
+/// offers are known: between two rounds (`rounds`), within a round (`within`), and with the epoch that is next
+/// (`next`).
 pub fn a_told_racer_gives_the_first_epochs()
     ensures rounds { (tells : Tells) → TellsAll tells → (options : Options) (start : State) (r q : Run tells options start) →
         BeginsWith (draws q) (draws r) → BeginsWith q.rounds r.rounds }
@@ -67,7 +69,8 @@ pub fn a_told_racer_gives_the_first_epochs()
     epoch_runner::laws::a_schedule_is_determined();
 }
 
-/// If a racer offers nothing, each round of a recording commits one epoch, the one that is next, and no result is squashed.
+/// If a racer offers nothing, each round of a recording commits one epoch, the one that is next, and no result is
+/// squashed.
 pub fn an_idle_racer_runs_one_job()
     ensures { (tells : Tells) → ((s : State) (w : Supplied) (p : Plan) → tells s w p ≡ Some []) → (options : Options) (start : State) (r : Run tells options start) →
         EachIsNextEpoch options 1 start (empty MAX_ROOM) r.rounds }
@@ -78,8 +81,8 @@ pub fn a_round_commits_an_epoch()
     ensures { (tells : Tells) (options : Options) (start : State) (r : Run tells options start) → squashes r ≤ length (epochs r) }
 {}
 
-/// However the input is cut into pieces, the answers to a recording's reads, joined, are the first of the bytes that were left, and
-/// a read that took none came where all of them had been read.
+/// However the input is cut into pieces, the answers to a recording's reads, joined, are the first of the bytes that
+/// were left, and a read that took none came when all of them had been read.
 pub fn reads_take_the_input()
     ensures joined { (draws : List Draw) (answers : List Answer) (i j : Input) → HasDrawn draws answers i j →
         IsPrefixOf (bytes_read answers) (bytes_left i.left) }
@@ -91,16 +94,16 @@ pub fn reads_take_the_input()
     supply::the_windows_are_the_input();
 }
 
-/// Whatever happens after a journal was begun keeps what `specs/MachineKept.antt` says: in any order, whatever jobs, hints and results
-/// are offered, whichever calls of the devices fail, and whenever the machine stops.
+/// Whatever happens after a journal was begun keeps what `specs/MachineKept.antt` says: in any order, whatever jobs,
+/// hints and results are offered, whichever calls of the devices fail, and whenever the machine stops.
 pub fn every_event_keeps()
     ensures { (guest : List ℕ) (start : State) (h : History) (i : Input) (supplied : Bool) (events : List MachineEvent) (m : Machine) →
         IsGuest guest → length (journal_of guest []) ≤ MAX_JOURNAL_BYTES → Stands guest [] h →
         Reaches guest supplied (first_machine start h i) events m → IsKept guest start h m }
 {}
 
-/// If every result that was taken was answered by the supply of its round, the answers of all committed epochs are faithful to the
-/// input that the rounds read.
+/// If every result that was taken was answered by the supply of its round, the answers of all committed epochs are
+/// faithful to the input that the rounds read.
 pub fn answers_are_honest()
     ensures { (guest : List ℕ) (start : State) (h : History) (i : Input) (events : List MachineEvent) (m : Machine) →
         IsGuest guest → length (journal_of guest []) ≤ MAX_JOURNAL_BYTES → Stands guest [] h → start.input ≡ 0 →
@@ -117,7 +120,7 @@ pub fn a_begun_journal_is_a_beginning()
         BegunIsFirst guest start i room j before after }
 {}
 
-/// A core that is made over the committed state once `draw` has read the round's input is the machine's next round.
+/// A core that is made over the committed state after `draw` has read the round's input is the machine's next round.
 pub fn a_new_core_is_a_round()
     ensures { (guest : List ℕ) (supplied : Bool) (m : Machine) (d : Draw) (jobs : ℕ) (i : Input) (w : Supplied) (core : Core) →
         DrawIsRound guest supplied m d jobs i w core }
@@ -133,8 +136,8 @@ pub fn a_run_may_be_taken()
     epoch_runner::laws::an_epoch_is_supplied();
 }
 
-/// An event that `Core::apply` doesn't refuse is one of the machine's, and leaves the core that `apply` leaves. One that it refuses isn't
-/// the machine's, and changes nothing. An epoch that is committed is in hand then.
+/// An event that `Core::apply` doesn't refuse is one of the machine's, and leaves the core that `apply` leaves. One
+/// that it refuses isn't the machine's, and changes nothing. An epoch that is committed is in hand then.
 pub fn an_applied_event_is_an_event()
     ensures applied { (guest : List ℕ) (supplied : Bool) (m : Machine) (e : rounds.Event) (verdict : Verdict) (core : Core) →
         AppliedIsEvent guest supplied m e verdict core }
@@ -144,7 +147,8 @@ pub fn an_applied_event_is_an_event()
     commit_core::laws::an_event_is_noted_or_refused();
 }
 
-/// The calls that `Journal::append` makes for the record in hand are the record's four events, or those up to one that fails.
+/// The calls that `Journal::append` makes for the record in hand are the record's four events, or those up to one that
+/// fails.
 pub fn an_append_is_events()
     ensures { (guest : List ℕ) (supplied : Bool) (m : Machine) (before after : Journal) (added : List ℕ)
         (result : Result (Unit {0}) AppendFault) (t : History) → AppendIsEvents guest supplied m before after added result t }
@@ -156,8 +160,8 @@ pub fn a_sending_is_events()
         SendIsEvents guest supplied m bytes ok t }
 {}
 
-/// The calls that `commit_epoch` makes for the epoch in hand are events, whatever it answers: the record's four, and then the pieces of
-/// the output. After `Ok` the next result may be judged, and the next epoch committed.
+/// The calls that `commit_epoch` makes for the epoch in hand are events, whatever it answers: the record's four, and
+/// then the pieces of the output. After `Ok` the next result may be judged, and the next epoch committed.
 pub fn a_commit_is_events()
     ensures { (guest : List ℕ) (supplied : Bool) (m : Machine) (before after : Journal) (added output : List ℕ)
         (result : Result (Unit {0}) CommitFault) (t : History) → CommitIsEvents guest supplied m before after added output result t }

@@ -11,12 +11,12 @@ use supply::InputFault;
 /// Why a recording stopped before the guest's end. What is committed stays committed.
 #[derive(Clone, Copy, Debug, PartialEq, Eq)]
 pub enum RecordFault {
-    /// The disk failed. A crash leaves the journal of the epochs whose output was sent, or the one that also has the record that was being
-    /// appended: an epoch, none of whose output was sent, or the mark that is due. If the disk failed before the first epoch, a crash leaves no journal or one
-    /// without an epoch.
+    /// The disk failed. A crash leaves the journal of the epochs whose output was sent, or the one that also has the
+    /// record that was being appended: an epoch, none of whose output was sent, or the mark that is due. If the disk
+    /// failed before the first epoch, a crash leaves no journal or one without an epoch.
     DiskFault,
-    /// The output failed. The journal has the epoch whose output was being sent, and a prefix of that output was sent; or the
-    /// guest has ended, its whole output was sent, and a prefix of the report's line was.
+    /// The output failed. The journal has the epoch whose output was being sent, and a prefix of that output was sent;
+    /// or the guest has ended, its whole output was sent, and a prefix of the report's line was.
     OutputFault,
     /// The input could not be read. The journal has the epochs whose output was sent, whole, and nothing of it is lost.
     InputFault,
@@ -24,8 +24,8 @@ pub enum RecordFault {
     JournalInUse(u64),
     /// The guest took this many steps, as many as it may, and hasn't ended.
     StepLimit(u64),
-    /// The next record doesn't fit into the room: the journal's end, and how many bytes are needed from there on. It wasn't written. The
-    /// end is 0 if the header itself doesn't fit.
+    /// The next record ends past the journal's maximum length: the journal's end, and how many bytes are needed from
+    /// there on. It wasn't written. The end is 0 if the header itself doesn't fit.
     JournalFull { end: u64, need: u64 },
     OutOfMemory,
 }

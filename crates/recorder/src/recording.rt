@@ -35,13 +35,14 @@ use std::sync::Wait;
 use std::thread::Threads;
 use supply::{MAX_ROOM, Supply};
 
-/// Records a guest from its start state into a journal on the attached disk, with a mark after every `options.mark` epochs at which it
-/// hasn't ended, and sends its output on Out, each epoch's once the epoch's record is on the disk; and once the guest has ended, sends the
-/// report's line on Note. A round takes from the input exactly where a thread waits for it, and reads the clock once. The world comes back
-/// whatever happens.
+/// Records a guest from its start state into a journal on the attached disk, with a mark after every `options.mark`
+/// epochs at which it hasn't ended. Sends its output on Out, each epoch's once the epoch's record is on the disk. Once
+/// the guest has ended, sends the report's line on Note. A round reads from the input exactly if a thread waits for it,
+/// and reads the clock once. The world is returned whatever happens.
 ///
-/// On a disk that was empty, with nothing pending, a crash at any moment of the call leaves the journal of whole epochs that are one
-/// run of the guest from its start, with honest answers, and of that run's output a prefix was sent; or no journal, and nothing was sent.
+/// On a disk that was empty, with nothing pending, a crash at any moment of the call leaves one of two things. Either
+/// there is no journal, and nothing was sent. Or the journal holds whole epochs that are one run of the guest from its
+/// start, with answers that are faithful to the input, and a prefix of that run's output was sent.
 ///
 /// # Errors
 ///
@@ -276,8 +277,8 @@ fn round<
     }
 }
 
-// How many results a round has squashed, or why the recording stops: by what became of the last result that was taken, and by the round's answer.
-// Where the committer took no more, memory that ran out behind it stops nothing.
+// How many results a round has squashed, or why the recording stops: by what became of the last result that was taken,
+// and by the round's answer. If the committer took no more, memory that ran out afterwards stops nothing.
 fn outcome(
     last: Result<AfterJudging, RecordFault>,
     answer: Result<(), OutOfMemory>,

@@ -41,8 +41,9 @@ fn take_one(core: &mut Core, number: u32, ran: Ran)
     core.apply(Event::Take(number, ran));
 }
 
-// Judges the result of the next job. If its epoch is to be committed its record is appended, then its output is sent, and then the mark is
-// appended that is due. All memory is taken before. An epoch that is known to start in the committed state isn't compared with it.
+// Judges the result of the next job. If its epoch is to be committed its record is appended, then its output is sent,
+// and then the mark is appended that is due. All memory is taken before. An epoch that is known to start in the
+// committed state isn't compared with it.
 pub(crate) fn commit_next<W: World>(
     alloc: Global,
     core: &mut Core,
@@ -105,7 +106,7 @@ fn judge_next(core: &mut Core, is_known: bool) -> Verdict
     }
 }
 
-// The mark that is due so many epochs after the last one, if one is, against its base.
+// The mark that is due `since` epochs after the last one, if one is, against its base.
 fn due_mark(
     alloc: Global,
     state: &State,

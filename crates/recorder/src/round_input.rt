@@ -1,4 +1,4 @@
-// What a round draws from its input.
+// What a round reads from the input and the clock.
 ghost use Rattle.std.specs.Prelude.{◌≡◌, ◌<◌, ◌≤◌, ◌^◌, true, IsErr, OnErr, OnOk};
 ghost use Rattle.dp_base.specs.Counts.{Rose};
 ghost use Rattle.disk_model.specs.Known.{IfKnown};
@@ -12,7 +12,8 @@ use epoch_runner::input_due;
 use guest_kernel::State;
 use supply::{InputFault, Supply};
 
-/// Refills the supply exactly if a thread of the guest waits for input, and then reads the clock once, for the round's stamp.
+/// Refills the supply exactly if a thread of the guest waits for input, and then reads the clock once, for the round's
+/// stamp.
 ///
 /// # Errors
 ///

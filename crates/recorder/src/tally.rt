@@ -6,8 +6,9 @@ ghost use Rattle.recorder.specs.Recording.{first_behind};
 use dp_base::Slice;
 use guest_kernel::State;
 
-/// What was committed so far: the number of epochs, of those since the last mark, and the bytes of output that were sent; the thread
-/// that is tried first in the next epoch; and the state of the last mark, or the start, which is the base of the next mark.
+/// What was committed so far: the number of epochs, of those since the last mark, and the bytes of output that were
+/// sent; the thread that is tried first in the next epoch; and the state of the last mark, or the start, which is the
+/// base of the next mark.
 #[derive(Drop)]
 pub(crate) struct Tally {
     pub first: u16,

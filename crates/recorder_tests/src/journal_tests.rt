@@ -15,8 +15,8 @@ const ROOM: u64 = 1 << 30;
 // A journal of a guest of one byte: the header and the closed gate are 11 bytes, and each record's frame is 20.
 const GUEST: &[u8] = b"\xaa";
 
-// What a journal's beginning on a disk with these bytes comes to: the fault, how many calls there were, and whether the disk
-// has these bytes behind it.
+// What a journal's beginning on a disk with these bytes comes to: the fault, how many calls there were, and whether the
+// disk has these bytes after it.
 fn begun_on(
     alloc: Global,
     disk: &[u8],
@@ -34,7 +34,7 @@ fn begun_on(
 #[test]
 fn begun_or_not(rt: HostRuntime) -> Result<(), Fail> {
     let header: &[u8] = b"\x01DPJ1\x01\x00\x00\x00\xaa\x00";
-    // the disk's bytes, the room, the fault, how many calls there are, and the disk's bytes behind them
+    // the disk's bytes, the room, the fault, how many calls there are, and the disk's bytes after them
     let cases: [(&[u8], u64, Option<BeginFault>, u64, &[u8]); 5] = [
         (b"", ROOM, None, 7, header),
         (b"", 11, None, 7, header),
@@ -73,8 +73,8 @@ fn all_append(journal: &mut Journal, world: &mut MemWorld, frame: &Frame, count:
     all
 }
 
-// Of a journal on a disk whose call with this number fails: whether so many appends succeed, what the next three answer, and how
-// many calls there were behind the first of these and behind the last.
+// Of a journal on a disk whose call with this number fails: whether so many appends succeed, what the next three
+// answer, and how many calls there were after the first of these and after the last.
 fn failed_appends(
     alloc: Global,
     number: u64,
@@ -93,7 +93,7 @@ fn failed_appends(
     Ok((all, [failed, again, once_more], [calls, world.disk_calls()]))
 }
 
-// Behind a call that fails, each append says how many records were acknowledged, and makes no call.
+// After a call that fails, each append says how many records were acknowledged, and makes no call.
 #[test]
 fn append_after_a_failed_append(rt: HostRuntime) -> Result<(), Fail> {
     let frame = frame_of_three_steps(rt.alloc())?;
@@ -108,7 +108,7 @@ fn append_after_a_failed_append(rt: HostRuntime) -> Result<(), Fail> {
     Ok(())
 }
 
-// What two appends to a journal with this room answer, and the disk's length behind them.
+// What two appends to a journal with this room answer, and the disk's length after them.
 fn two_appends(
     alloc: Global,
     room: u64,

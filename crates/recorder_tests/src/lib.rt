@@ -1,7 +1,8 @@
-//! Guests recorded by the recorder alone, and what a recording stands on: journals on a disk, their records, and states.
+//! Guests recorded by the recorder alone, and what a recording stands on: journals on a disk, their records, and
+//! states.
 //!
-//! But for `mark_of_start`, which has a contract, this crate is its tests. They call what `dp_top` stands on, without it. The bytes of
-//! journals and the digests come from the format's tables.
+//! But for `mark_of_start`, which has a contract, this crate is its tests. They call what `dp_top` stands on, without
+//! it. The bytes of journals and the digests come from the format's tables.
 #![tactic(auto)]
 
 mod start_mark;

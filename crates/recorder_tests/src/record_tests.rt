@@ -5,7 +5,7 @@ use std::test::Fail;
 use test_files::{EXITS, WRITES, replaced};
 use test_journals::{Kind, records_of, seen};
 
-// Whether a body is of this kind and the journal ends behind its record. It is a bad record's else.
+// Whether a body is of this kind and the journal ends after its record. It is a bad record's else.
 fn is_record(alloc: Global, body: &[u8], wanted: Kind) -> Result<bool, Fail> {
     let file = records_of(alloc, &[body])?;
     let (kind, next, len) = seen(&file, 0);
@@ -68,7 +68,7 @@ const END_AND_THREADS: [(usize, usize, &[u8], bool); 12] = [
     (25, 1, b"\x02\x02\x00\x07\xff\xff\xff\xff", false),
     (25, 1, b"\x03", true),
     (25, 1, b"\x04", false),
-    // threads: none, and one that waits, that is gone, and of a fourth kind
+    // threads: none, and one that waits, that has exited, and of a fourth kind
     (26, 135, b"\x00\x00", false),
     (28, 1, b"\x01\xfc\xff\xff\xff", true),
     (28, 133, b"\x02\xff\xff\xff\xff", true),
@@ -137,8 +137,8 @@ fn page_counts_of_a_mark(rt: HostRuntime) -> Result<(), Fail> {
     Ok(())
 }
 
-// An epoch's body: kind, how many slices, each slice's thread and steps, how many answers, and each answer: a read's is a length
-// and its bytes, a clock's is nanoseconds.
+// An epoch's body: kind, how many slices, each slice's thread and steps, how many answers, and each answer: a read's is
+// a length and its bytes, a clock's is nanoseconds.
 const SLICES: [(&[u8], bool); 12] = [
     // thread 0, the least and the greatest
     (b"\x00\x01\0\0\0\x00\x00\x01\0\0\0\0\0\0\0", false),
@@ -171,7 +171,7 @@ fn slices_of_an_epoch(rt: HostRuntime) -> Result<(), Fail> {
     Ok(())
 }
 
-// What stands behind a slice of thread 1 with one step.
+// What follows a slice of thread 1 with one step.
 const ANSWERS: [(&[u8], bool); 11] = [
     // none, one more than there is, and as many as can be said
     (b"\0\0\0\0", true),

@@ -38,8 +38,8 @@ const LIMIT: u64 = 1_000_000_000;
 
 const ROOM: u64 = 1 << 30;
 
-// What a recording came to: the journal's length, how many bytes were sent on Out and on Note, whether these are what was wanted,
-// and how many calls there were.
+// What a recording came to: the journal's length, how many bytes were sent on Out and on Note, whether these are what
+// was wanted, and how many calls there were.
 #[derive(Clone, Copy)]
 struct Came {
     answer: Result<Report, RecordFault>,
@@ -127,7 +127,7 @@ fn nine_epochs(rt: HostRuntime) -> Result<(), Fail> {
     )?;
     assert_eq!(rt; came.answer, Ok(all));
     assert_eq!(rt; (came.journal, came.is_sent), (314, true));
-    // The length, the header's three writes, and four calls an epoch. The sixth sends its output behind them, and the
+    // The length, the header's three writes, and four calls an epoch. The sixth sends its output after them, and the
     // last call sends the note.
     let letters = b"LWSWSWSWSWSWSWSWSWSWSWSWSWSWSWSEWSWSWSWSWSWSE";
     assert!(rt; makes_calls(&rt, rt.alloc(), letters)?);
@@ -226,8 +226,8 @@ fn emits_fail<R: Threads + Wait + Sync>(
     Ok((came.answer, (came.is_sent, came.is_noted), came.journal))
 }
 
-// Nine epochs of one step, whose sixth sends three pieces of one byte; its record is in the journal by then. The report's
-// line goes out last.
+// Nine epochs of one step, whose sixth sends three pieces of one byte; its record is in the journal by then. The
+// report's line goes out last.
 #[test]
 fn each_emit_fails(rt: HostRuntime) -> Result<(), Fail> {
     let fault = Err(RecordFault::OutputFault);
@@ -257,8 +257,8 @@ fn is_open(journal: &[u8], gate: usize) -> bool {
     journal.get(gate).copied() == Some(1)
 }
 
-// What a recording in epochs of one step comes to, where some calls on the disk fail: how many bytes were sent on Out and on Note,
-// and whether the sixth epoch's gate is open.
+// What a recording in epochs of one step comes to, where some calls on the disk fail: how many bytes were sent on Out
+// and on Note, and whether the sixth epoch's gate is open.
 fn calls_fail<R: Threads + Wait + Sync>(
     rt: &R,
     alloc: Global,
@@ -271,13 +271,13 @@ fn calls_fail<R: Threads + Wait + Sync>(
     Ok((came.answer, (came.sent, came.noted), opened))
 }
 
-// Nine epochs make 43 calls on the disk: the length, six for the header, and four an epoch. The sixth epoch's output goes
-// out behind call 31.
+// Nine epochs make 43 calls on the disk: the length, six for the header, and four an epoch. The sixth epoch's output
+// goes out after call 31.
 #[test]
 fn each_disk_call_fails(rt: HostRuntime) -> Result<(), Fail> {
     let fault = Err(RecordFault::DiskFault);
     for number in 1..=43 {
-        // What fails is not done: a record's gate is open once the call that opens it is behind.
+        // What fails is not done: a record's gate is open once the call that opens it is done.
         let sent = (if number > 31 { 3 } else { 0 }, 0);
         let came = calls_fail(&rt, rt.alloc(), Failing::At(number))?;
         assert_eq!(rt; came, (fault, sent, number > 30), "call {number}");

@@ -12,7 +12,7 @@ use guest_kernel::start_from_file;
 use journal_text::MARK_KIND;
 use std::alloc::Global;
 
-/// The body of a mark of the state in which a guest starts.
+/// Returns the body of a mark of the state in which a guest starts.
 ///
 /// # Errors
 /// The first fault that applies to the file, or no memory.

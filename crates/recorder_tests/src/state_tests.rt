@@ -58,7 +58,8 @@ fn states_decoded_and_compared(rt: HostRuntime) -> Result<(), Fail> {
     let encoding = encode(alloc, &state)?;
     let same = decoded_equals(alloc, &encoding, &state)?;
     assert_eq!(rt; (encoding.len(), same), (69_879, [true; 2]));
-    // the steps, the input, the break, the thread's clear, x1 and x31, a page's flags, its last byte, and the last page's
+    // the steps, the input, the break, the thread's clear, x1 and x31, a page's flags, its last byte, and the last
+    // page's
     for place in [0, 8, 20, 32, 36, 156, 166, 4_262, 69_878] {
         let same = changed_equals(alloc, &encoding, place, &state)?;
         assert_eq!(rt; same, [false; 2], "byte {place}");

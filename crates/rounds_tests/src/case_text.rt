@@ -17,13 +17,14 @@ use test_worlds::{Failing, inlet_of, world_of};
 
 // A line of a table. A case is a line of numbers with blanks in between, and then what it comes to.
 //
-// The numbers are the racer's, the steps of an epoch and of a slice, the epochs of a round, the steps of the recording, and the bytes of
-// the journal, each at most (`all` for the greatest), and the take of the input that fails, 0 for none. A racer below 1000 is the
-// `ChaosRacer` of this number, and 1000 is `IdleRacer`. 2000 and more is `Reckless` over the `ChaosRacer` of the number less 2000. 3000 and
-// more is `Nonsense`: the last three digits are its kind of states, its kind of hints, and how often it offers a state.
+// The numbers are the racer's, the steps of an epoch and of a slice, the epochs of a round, the steps of the recording,
+// and the bytes of the journal, each at most (`all` for the greatest), and the take of the input that fails, 0 for
+// none. A racer below 1000 is the `ChaosRacer` of this number, and 1000 is `IdleRacer`. 2000 and more is `Reckless`
+// over the `ChaosRacer` of the number less 2000. 3000 and more is `Nonsense`: the last three digits are its kind of
+// states, its kind of hints, and how often it offers a state.
 //
-// Then come lines of what the recording came to: its answer, how many rounds it had, its journal and what it sent, each with its length and
-// its hash; the steps of each epoch in the journal; and the report's line, if there is one.
+// Then come lines of what the recording came to: its answer, how many rounds it had, its journal and what it sent, each
+// with its length and its hash; the steps of each epoch in the journal; and the report's line, if there is one.
 pub(crate) type Line = &'static str;
 
 // A guest's words, the pieces of its input, and the readings of the clock.

@@ -1,4 +1,5 @@
-// Each call on the disk and each emit fails in turn within a round of five jobs, and each image that a crash may leave then is replayed.
+// Each call on the disk and each emit fails in turn within a round of five jobs, and each image that a crash may leave
+// then is replayed.
 use crate::guests::FIVE_LETTERS;
 use crate::recorded::{Left, recorded, replayed};
 use disk_model::Stream;
@@ -77,7 +78,8 @@ fn held(image: &[u8], journal: &[u8]) -> u32 {
     OTHERS
 }
 
-// How many epochs each of the three images of a world holds, if each is replayed to the output of its epochs, and a prefix of that was sent.
+// How many epochs each of the three images of a world holds, if each is replayed to the output of its epochs, and a
+// prefix of that was sent.
 fn held_by_all<R: Threads + Wait + Sync>(
     rt: &R,
     alloc: Global,
@@ -104,9 +106,9 @@ fn held_by_all<R: Threads + Wait + Sync>(
     Ok(counts)
 }
 
-// What a recording whose call with this number fails has sent, in epochs, and how many the images hold: without what is pending, as it reads,
-// and with each pending byte 1. Call 1 is the length. The header has three writes and three syncs. An epoch has four calls: its frame is
-// written and synced, and then its gate.
+// What a recording whose call with this number fails has sent, in epochs, and how many the images hold: without what is
+// pending, as it reads, and with each pending byte 1. Call 1 is the length. The header has three writes and three
+// syncs. An epoch has four calls: its frame is written and synced, and then its gate.
 fn expected(number: u32) -> (u32, [u32; 3]) {
     let none = NO_JOURNAL;
     if number < 8 {
@@ -171,8 +173,8 @@ fn disk_calls_that_fail(rt: HostRuntime) -> Result<(), Fail> {
     Ok(())
 }
 
-// The epoch's record is in the journal by the time that its output is sent. The fourth epoch sends two bytes, the fifth none. The sixth emit
-// is the first of the report.
+// The epoch's record is in the journal by the time that its output is sent. The fourth epoch sends two bytes, the fifth
+// none. The sixth emit is the first of the report.
 #[test]
 fn emits_that_fail(rt: HostRuntime) -> Result<(), Fail> {
     let alloc = rt.alloc();

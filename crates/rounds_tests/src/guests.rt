@@ -1,7 +1,7 @@
 // Guests in machine words. The first is at the entry, 00010054 (hexadecimal).
 
-// Writes each letter of `abcde` by itself, and exits with 0. The first letter is written in the 7th of 41 steps, each other one 7 steps after
-// the one before. The last two words are the letters.
+// Writes each letter of `abcde` by itself, and exits with 0. The first letter is written in the 7th of 41 steps, each
+// other one 7 steps after the one before. The last two words are the letters.
 pub(crate) const FIVE_LETTERS: [u32; 15] = [
     0x0000_0597,
     0x0345_8593,
@@ -20,7 +20,8 @@ pub(crate) const FIVE_LETTERS: [u32; 15] = [
     0x0000_0065,
 ];
 
-// Reads four bytes at most and writes what it got, in 11 steps of which the fifth reads, until the end of the input. Then it exits with 0.
+// Reads four bytes at most and writes what it got, in 11 steps of which the fifth reads, until the end of the input.
+// Then it exits with 0.
 pub(crate) const ECHO: [u32; 13] = [
     0x0000_0513,
     0x0001_0593,
@@ -37,9 +38,10 @@ pub(crate) const ECHO: [u32; 13] = [
     0x0000_0073,
 ];
 
-// Thread 2 reads two bytes at most and writes them, until the end of the input. Thread 3 asks for the time twice, and yields after each.
-// Threads 1 and 3 add 1 to a word twice each, under a lock of LR, SC, wait and wake. Then thread 1 waits for the two others by their
-// clear-on-exit words, writes the word and the number of bytes that were read, and exits with 0.
+// Thread 2 reads two bytes at most and writes them, until the end of the input. Thread 3 asks for the time twice, and
+// yields after each. Threads 1 and 3 add 1 to a word twice each, under a lock of LR, SC, wait and wake. Then thread 1
+// waits for the two others by their clear-on-exit words, writes the word and the number of bytes that were read, and
+// exits with 0.
 pub(crate) const READS_AND_COUNTS: [u32; 89] = [
     0x7fff_0437,
     0x0010_0293,

@@ -89,7 +89,8 @@ fn rounds_of_threads(rt: HostRuntime) -> Result<(), Fail> {
 
 fn stop_lines() -> [Line; 24] {
     [
-        // The limit is within the 11th of 14 jobs, or in the first after a spoilt offer; the room is; and each take fails in turn.
+        // The limit is within the 11th of 14 jobs, or in the first after a spoilt offer; the room is; and each take
+        // fails in turn.
         "0 10 6 64 105 all 0",
         "limit 105, 1 rounds, 802 bytes f0458eb54be89fcd, 0 sent cbf29ce484222325",
         "steps 10 10 10 10 10 10 10 10 10 10 5",
@@ -135,7 +136,8 @@ const READER: Guest = Guest {
 
 fn reader_lines() -> [Line; 60] {
     [
-        // Epochs of 4 and of 11 steps may end where the thread waits for input. The job that starts there has no step to take. It is not squashed.
+        // Epochs of 4 and of 11 steps may end where the thread waits for input. The job that starts there has no step
+        // to take. It is not squashed.
         "0 4 1000 64 all all 0",
         "ok, 5 rounds, 517 bytes 6491f1b559bdd0c5, 13 sent 4213ea06398bc308",
         "steps 4 4 4 4 4 4 2 4 4 3 4 4 4 4 4 2 4",

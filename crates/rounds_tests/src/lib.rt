@@ -1,9 +1,9 @@
-//! Recordings in rounds of several epochs: by racers whose offers are good, spoilt or nonsense, by any number of workers, and stopped
-//! in the middle of a round.
+//! Recordings in rounds of several epochs: by racers whose offers are good, spoilt or nonsense, by any number of
+//! workers, and stopped in the middle of a round.
 //!
-//! This crate is its tests: they call `recorder` and `epoch_replay` as a crate above them does. Each line of a table is that of a model
-//! of the machine, its schedule, the racers, the rounds and the journal, which was written apart from this code. The values of recordings
-//! with marks are by the format's tables.
+//! This crate is its tests: they call `recorder` and `epoch_replay` as a crate above them does. Each line of a table is
+//! that of a model of the machine, its schedule, the racers, the rounds and the journal, which was written apart from
+//! this code. The values of recordings with marks are by the format's tables.
 #![tactic(auto)]
 
 #[cfg(test)]

@@ -11,7 +11,8 @@ const WRITER: Guest = Guest {
 
 fn limit_lines() -> [Line; 71] {
     [
-        // The limit is in the first, third, fourth and last of five jobs, and where they end. The racer knows it, or doesn't.
+        // The limit is in the first, third, fourth and last of five jobs, and where they end. The racer knows it, or
+        // doesn't.
         "0 9 1000 16 22 all 0",
         "limit 22, 1 rounds, 214 bytes f37c9c93d19d1bdb, 3 sent e71fa2190541574b",
         "steps 9 9 4",
@@ -87,7 +88,8 @@ fn limit_lines() -> [Line; 71] {
     ]
 }
 
-// Epochs of 9, 9, 9, 9 and 5 steps, with the outputs `a`, `b`, `c`, `de` and none. The header and the closed gate have 154 bytes, each record 20.
+// Epochs of 9, 9, 9, 9 and 5 steps, with the outputs `a`, `b`, `c`, `de` and none. The header and the closed gate have
+// 154 bytes, each record 20.
 #[test]
 fn limits_within_a_round(rt: HostRuntime) -> Result<(), Fail> {
     for workers in [1u32, 2, 5] {

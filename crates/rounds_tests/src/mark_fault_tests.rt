@@ -1,5 +1,5 @@
-// Recordings in five epochs of two steps with marks, in which a call on the disk or an emit fails, or a record doesn't fit. Each image that
-// a crash may leave then is replayed.
+// Recordings in five epochs of two steps with marks, in which a call on the disk or an emit fails, or a record doesn't
+// fit. Each image that a crash may leave then is replayed.
 use crate::marked::{FIRST_GATE, left_by, options, records_in};
 use crate::recorded::{Left, replayed};
 use disk_model::Stream;
@@ -18,7 +18,8 @@ const NO_JOURNAL: u32 = 100;
 // That of one whose records aren't the first of the journal.
 const OTHERS: u32 = 101;
 
-// The epochs of the first records of a journal with a mark after every so many epochs, and whether one of them is the third, which writes.
+// The epochs of the first records of a journal with a mark after every so many epochs, and whether one of them is the
+// third, which writes.
 fn epochs_in(every: u32, records: u32) -> (u32, bool) {
     let row = every.clamp(1, 1000) + 1;
     let epochs = (records / row)
@@ -54,7 +55,8 @@ fn held(image: &[u8], journal: &[u8]) -> u32 {
     OTHERS
 }
 
-// How many records each of the three images of a world holds, if each is replayed to the output of its epochs, and a prefix of that was sent.
+// How many records each of the three images of a world holds, if each is replayed to the output of its epochs, and a
+// prefix of that was sent.
 fn held_by_all<R: Threads + Wait + Sync>(
     rt: &R,
     alloc: Global,
@@ -83,9 +85,10 @@ fn held_by_all<R: Threads + Wait + Sync>(
     Ok(counts)
 }
 
-// How many records are acknowledged by a recording whose call with this number fails, and how many the images hold: without what is
-// pending, as it reads, and with each pending byte 1. Call 1 is the length, and the header has three writes and three syncs. A record has
-// four calls, that of a mark too: its frame is written and synced, and then its gate.
+// How many records are acknowledged by a recording whose call with this number fails, and how many the images hold:
+// without what is pending, as it reads, and with each pending byte 1. Call 1 is the length, and the header has three
+// writes and three syncs. A record has four calls, that of a mark too: its frame is written and synced, and then its
+// gate.
 fn expected(number: u32) -> (u32, [u32; 3]) {
     let none = NO_JOURNAL;
     if number < 8 {
@@ -118,7 +121,8 @@ fn marked_by<R: Threads + Wait + Sync>(
     left_by(rt, alloc, number, options, disk, sink)
 }
 
-// A mark after every so many epochs, the whole journal's records, and their count: 134 bytes, 20 for each epoch and 270 for each mark.
+// A mark after every so many epochs, the whole journal's records, and their count: 134 bytes, 20 for each epoch and 270
+// for each mark.
 #[derive(Clone, Copy)]
 struct Marked {
     every: u32,
@@ -189,7 +193,8 @@ fn faulted<R: Threads + Wait + Sync>(
     Ok((answers, same, held_by_all(rt, alloc, every, left, journal)?))
 }
 
-// Whether a recording whose calls fail answers so, has sent the output of its epochs, and leaves images with as many records as expected.
+// Whether a recording whose calls fail answers so, has sent the output of its epochs, and leaves images with as many
+// records as expected.
 fn fails_at<R: Threads + Wait + Sync>(
     rt: &R,
     alloc: Global,
@@ -214,7 +219,8 @@ fn fails_at<R: Threads + Wait + Sync>(
     Ok(came == (true, true, held))
 }
 
-// Whether a recording with these marks does as expected at each call that fails: there are seven, and four for each record.
+// Whether a recording with these marks does as expected at each call that fails: there are seven, and four for each
+// record.
 fn fails_at_each<R: Threads + Wait + Sync>(
     rt: &R,
     alloc: Global,
@@ -259,7 +265,8 @@ fn disk_calls_of_few_marks(rt: HostRuntime) -> Result<(), Fail> {
     Ok(())
 }
 
-// The output of the third epoch is sent in three emits, once its record is in the journal. The fourth emit is the first of the report.
+// The output of the third epoch is sent in three emits, once its record is in the journal. The fourth emit is the first
+// of the report.
 #[test]
 fn emits_that_fail(rt: HostRuntime) -> Result<(), Fail> {
     let alloc = rt.alloc();
@@ -318,7 +325,8 @@ fn rooms_of_marks(rt: HostRuntime) -> Result<(), Fail> {
     let journal = journal(&rt, alloc, SECOND)?;
     let full = |end, need| RecordFault::JournalFull { end, need };
     let cases = [
-        // The second epoch doesn't fit, the first mark, the third epoch, the fourth, the second mark, and the fifth epoch.
+        // The second epoch doesn't fit, the first mark, the third epoch, the fourth, the second mark, and the fifth
+        // epoch.
         (173u64, full(154, 20), 1u32),
         (174, full(174, 270), 2),
         (443, full(174, 270), 2),

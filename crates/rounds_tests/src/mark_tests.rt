@@ -10,7 +10,8 @@ use std::thread::Threads;
 use test_files::replaced;
 use test_worlds::Failing;
 
-// The journal of nine epochs of one step with a mark after every so many of them, if the recording sends the guest's output.
+// The journal of nine epochs of one step with a mark after every so many of them, if the recording sends the guest's
+// output.
 fn journal_with<R: Threads + Wait + Sync>(
     rt: &R,
     alloc: Global,
@@ -24,7 +25,7 @@ fn journal_with<R: Threads + Wait + Sync>(
     Ok(left.world.bytes().to_vec(alloc)?)
 }
 
-// No mark is behind the ninth epoch, in which the guest ends.
+// No mark is after the ninth epoch, in which the guest ends.
 #[test]
 fn marks_of_nine_epochs(rt: HostRuntime) -> Result<(), Fail> {
     let alloc = rt.alloc();
@@ -72,7 +73,8 @@ fn changed<R: Threads + Wait + Sync>(
     replayed(rt, alloc, &changed, workers, sent)
 }
 
-// A mark's sixth byte in its record is the first of its step count, and its last byte says whether the last page's bytes follow.
+// A mark's sixth byte in its record is the first of its step count, and its last byte says whether the last page's
+// bytes follow.
 #[test]
 fn marks_that_are_changed(rt: HostRuntime) -> Result<(), Fail> {
     let alloc = rt.alloc();

@@ -1,7 +1,8 @@
 // Recordings with marks, and the records that their journals have.
 //
-// The guest is `WRITES`: it has 9 steps, of which the sixth writes three bytes. By the format's tables the header has 133 bytes, the record
-// of an epoch of one slice 20, and that of a mark 270: the guest has one thread that runs, and 17 pages, to which it stores nothing.
+// The guest is `WRITES`: it has 9 steps, of which the sixth writes three bytes. By the format's tables the header has
+// 133 bytes, the record of an epoch of one slice 20, and that of a mark 270: the guest has one thread that runs, and 17
+// pages, to which it stores nothing.
 ghost use Rattle.std.specs.Prelude.{◌<◌, ◌≤◌};
 
 use crate::recorded::{Left, recorded};
@@ -68,8 +69,8 @@ fn steps_at(journal: &[u8], gate: u64) -> u64 {
     steps
 }
 
-// The records of a journal in their order, and then its end: `E` for an epoch, `M` and its step count for a partial mark that is as long as
-// one here, and a dot where the journal ends. Anything else is a question mark.
+// The records of a journal in their order, and then its end: `E` for an epoch, `M` and its step count for a partial
+// mark that is as long as one here, and a dot where the journal ends. Anything else is a question mark.
 pub(crate) fn records_in(alloc: Global, journal: &[u8]) -> Result<String, Fail> {
     let mut text = String::new(alloc);
     let mut at = FIRST_GATE;

@@ -11,8 +11,8 @@ use supply::Supply;
 use sync_hints::{Hints, Sc, SyncHint};
 use test_files::EXITS;
 
-// Offers states and hints of these kinds, the state this many times. Of the kind 0 are the states that `ChaosRacer` 0 offers, each once, and
-// its hints.
+// Offers states and hints of these kinds, the state this many times. Of the kind 0 are the states that `ChaosRacer` 0
+// offers, each once, and its hints.
 #[derive(Clone, Copy)]
 pub(crate) struct Nonsense {
     pub(crate) state: u32,

@@ -12,8 +12,8 @@ const WRITER: Guest = Guest {
 
 fn state_lines() -> [Line; 47] {
     [
-        // States of another guest, that have ended, past each limit, with no thread, of threads that exited, past the input, at no instruction,
-        // with no heap and with no page. Nobody can follow the hints.
+        // States of another guest, that have ended, past each limit, with no thread, of threads that exited, past the
+        // input, at no instruction, with no heap and with no page. Nobody can follow the hints.
         "3121 2 1000 16 all all 0",
         "ok, 5 rounds, 234 bytes 8961713939370bec, 3 sent 33734a193006ba70",
         "steps 2 2 2 2 1",
@@ -109,7 +109,8 @@ fn hint_lines() -> [Line; 28] {
     ]
 }
 
-// One thread has one schedule, so all epochs are committed. Hints that are followed in part cut an epoch into two slices.
+// One thread has one schedule, so all epochs are committed. Hints that are followed in part cut an epoch into two
+// slices.
 #[test]
 fn nonsense_hints(rt: HostRuntime) -> Result<(), Fail> {
     for workers in [1u32, 2, 5] {

@@ -32,8 +32,8 @@ const TWO_STEPS: &[u8] = &[0, 1, 0, 0, 0, 1, 0, 2, 0, 0, 0, 0, 0, 0, 0];
 
 const ONE_STEP: &[u8] = &[0, 1, 0, 0, 0, 1, 0, 1, 0, 0, 0, 0, 0, 0, 0];
 
-// How many rounds, jobs and squashes there are with a `ChaosRacer` of this number, if the journal is that of the five epochs, and the
-// output is that of the guest.
+// How many rounds, jobs and squashes there are with a `ChaosRacer` of this number, if the journal is that of the five
+// epochs, and the output is that of the guest.
 fn counted<R: Threads + Wait + Sync>(
     rt: &R,
     alloc: Global,
@@ -58,8 +58,9 @@ fn counted<R: Threads + Wait + Sync>(
     Ok((left.rounds, left.jobs, squashes))
 }
 
-// With good offers there is one round. If the first offer is spoilt, each of five rounds commits one epoch: it has at most 5, 4, 3, 2 and 1
-// jobs, and the second one is squashed, after which no job is begun. If nothing is offered there are five rounds of one job.
+// With good offers there is one round. If the first offer is spoilt, each of five rounds commits one epoch: it has at
+// most 5, 4, 3, 2 and 1 jobs, and the second one is squashed, after which no job is begun. If nothing is offered there
+// are five rounds of one job.
 #[test]
 fn five_epochs(rt: HostRuntime) -> Result<(), Fail> {
     let alloc = rt.alloc();

@@ -1,4 +1,5 @@
--- What a word is decoded to can be encoded: each row of the tables takes its operands from the word's fields, and these fit.
+-- What a word is decoded to can be encoded: each row of the tables takes its operands from the word's fields, and these
+-- fit.
 use Rattle.std.proofs.Common.{◌≡◌, ◌+◌, ◌-◌, ◌*◌, ◌%◌, ◌^◌, ◌<◌, ◌≤◌, ◌⊎◌, ℕ, Bool, true, false, cond, ltb, Option, Some, None, IfSome, refl, subst, arith, rules, inl, inr}
 use Rattle.std.proofs.lemmas.Bool.{ltb-true, ltb-false}
 use Rattle.rv_step.specs.declared.instr.Instr.{Instr}

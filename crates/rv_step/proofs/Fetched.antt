@@ -1,4 +1,4 @@
--- A step behind its fetch.
+-- A step after its fetch.
 use Rattle.std.proofs.Common.{◌≡◌, ◌%◌, ℕ, Bool, Option, Some, None, sym, subst, ap, ◌∙◌}
 use Rattle.std.specs.Prelude.{IfSome, if◌then◌else◌}
 use Rattle.std.proofs.lemmas.Bool.{eq-eqb}
@@ -18,7 +18,7 @@ unfolding effect
 effect_of_word hart m word aligned e =
     ap (λ (b : Bool). if b then of_word hart m (fetched hart.pc m) else traps instruction_misaligned hart.pc) (eq-eqb (hart.pc % 4) 0 aligned) ∙ word_of_answer hart m word (fetched hart.pc m) e
 
--- what holds of the word's effect behind the fetch holds of the step's, where the memory's pages are known
+-- what holds of the word's effect after the fetch holds of the step's, where the memory's pages are known
 pub behind_fetch : (P : Effect → Memory → Type 0) (before after : Option Memory) (hart : Hart) (word : ℕ) → hart.pc % 4 ≡ 0
     → IfSome before (λ m. Done word ≡ answer_of (fetched hart.pc m)) → IfSome before (λ m. after ≡ Some m)
     → IfSome after (λ m. P (of_instruction hart m word (decoded word)) m) → IfSome before (λ m. P (effect hart m) m)
@@ -26,7 +26,7 @@ behind_fetch P None after hart word aligned answer same holds = tt
 behind_fetch P (Some m) after hart word aligned answer same holds =
     subst (λ (e : Effect). P e m) (sym (effect_of_word hart m word aligned answer)) (subst (λ (o : Option Memory). IfSome o (λ m. P (of_instruction hart m word (decoded word)) m)) same holds)
 
--- what holds of the memory behind the fetch holds of the one before
+-- what holds of the memory after the fetch holds of the one before
 pub same_memory : (P : Memory → Type 0) (before after : Option Memory) → IfSome before (λ m. after ≡ Some m) → IfSome after (λ m. P m) → IfSome before (λ m. P m)
 same_memory P None after same holds = tt
 same_memory P (Some m) after same holds = subst (λ (o : Option Memory). IfSome o (λ m. P m)) same holds

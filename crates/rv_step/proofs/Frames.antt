@@ -17,7 +17,7 @@ use Rattle.rv_step.specs.Effect.{Effect, amo_value, branches, calls, goes, is_he
 use Rattle.rv_step.specs.Execution.{executed}
 use Rattle.rv_step.specs.Frame.{IsStoredAt, destination, reserves_or_ends, written_at}
 
--- a hart and a memory behind an instruction that writes this register, and may reserve, and may store there
+-- a hart and a memory after an instruction that writes this register, and may reserve, and may store there
 pub record IsWithin (written : ℕ) (reserves : Bool) (there : Option (Width × ℕ)) (h : Hart) (m : Memory) (after : Hart) (left : Memory) : Type 0 where
   pub registers : (number : ℕ) → (number ≡ written) ⊎ (register after number ≡ register h number)
   pub reservation : reserves ≡ false → after.held ≡ h.held

@@ -262,7 +262,7 @@ trap_has_cause h m cause value e = (subst (IsGood (Both h m)) e (effect_is h m))
 pub trap_has_word : (h : Hart) (m : Memory) (cause value : ℕ) → HasWords h → HasBytes m → effect h m ≡ traps cause value → IsWord value
 trap_has_word h m cause value words bytes e = (subst (IsGood (Both h m)) e (effect_is h m)).1 (record { hart = words; memory = bytes })
 
--- ---- the memory behind a step
+-- ---- the memory after a step
 
 -- the instruction of a step that goes on
 went_by_instruction : (h after : Hart) (m left : Memory) (word : ℕ) (o : Option Instr) → of_instruction h m word o ≡ goes after left → (i : Instr) × (executed i h m ≡ goes after left)

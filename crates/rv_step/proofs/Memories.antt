@@ -77,7 +77,7 @@ pub stored_shape : (width : Width) (address value : ℕ) (m : Memory) → HasSam
 stored_shape width address value m =
     cond_both (may_store width address m) _ _ (HasSameShape m) (λ _. put_bytes_shape (little_bytes (width_bytes width) value) address m) (λ _. refl)
 
--- what holds of a memory and of it behind each store holds behind the stores that are allowed there
+-- what holds of a memory and of it after each store holds after the stores that are allowed there
 pub behind_store : (P : Memory → Type 0) (there : Option (Width × ℕ)) (before after : Memory) → P before → ((width : Width) (address value : ℕ) → P (stored width address value before)) → IsStoredAt there before after → P after
 behind_store P None before after same each is = subst P (sym is) same
 behind_store P (Some there) before after same each (inl is) = subst P (sym is) same

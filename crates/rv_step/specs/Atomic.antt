@@ -1,5 +1,5 @@
--- How an instruction of the A extension ends, and the outcome of its step (RISC-V Unprivileged ISA 20191213, chapter 8). The causes are
--- this machine's.
+-- How an instruction of the A extension ends, and the outcome of its step (RISC-V Unprivileged ISA 20191213, chapter
+-- 8). The causes are this machine's.
 use Rattle.std.specs.Prelude.{ℕ, Result, Ok, Err}
 use Rattle.dp_base.specs.declared.out_of_memory.OutOfMemory.{OutOfMemory}
 use Rattle.rv_step.specs.declared.atomic.AtomicEnd.{AtomicEnd}

@@ -1,5 +1,6 @@
--- What a step leaves over any memory, also one that other harts share. An access may be busy, and an SC may fail though its address is
--- reserved (RISC-V Unprivileged ISA 20191213, 8.2). That a step stops at a busy access, and the counts, are this machine's own.
+-- What a step leaves over any memory, also one that other harts share. An access may be busy, and an SC may fail though
+-- its address is reserved (RISC-V Unprivileged ISA 20191213, 8.2). That a step stops at a busy access, and the counts,
+-- are this machine's own.
 use Rattle.std.specs.Prelude.{◌≡◌, ◌⊎◌, ◌<◌, ◌^◌, ℕ, Bool, true, false, Option, Some, None, Result, Ok, Err}
 use Rattle.dp_base.specs.Counts.{Contention, LostStore, SawBusy}
 use Rattle.dp_base.specs.declared.out_of_memory.OutOfMemory.{OutOfMemory}
@@ -12,7 +13,7 @@ use Rattle.rv_step.specs.declared.stepped.Stepped.TheVariants.{Went, Ecall, Trap
 use Rattle.rv_step.specs.Decoding.{decoded}
 use Rattle.rv_step.specs.Effect.{is_held, unreserved}
 
--- a step is busy where an access was, and loses no store
+-- a step is busy if an access was, and loses no store
 abbrev pub Accounts : Stepped → (before now : Contention) → Type 0
 Accounts Busy before now = SawBusy before now
 Accounts Went before now = now ≡ before
@@ -25,7 +26,7 @@ AccountsOk (Err error) before now = now ≡ before
 
 -- ---- SC
 
--- the hart behind an SC that went on: rd has 0 if it stored, else 1, and the reservation has ended
+-- the hart after an SC that went on: rd has 0 if it stored, else 1, and the reservation has ended
 abbrev pub settled : (rd answer : ℕ) → Hart → Hart
 settled rd answer hart = next (with_register (unreserved hart) rd answer)
 

@@ -1,5 +1,5 @@
--- Which word is which instruction (RISC-V Unprivileged ISA 20191213, chapter 24's listings of RV32I and RV32A): a table for each
--- opcode, and in it a row for each instruction. What no row has is illegal.
+-- Which word is which instruction (RISC-V Unprivileged ISA 20191213, chapter 24's listings of RV32I and RV32A): a table
+-- for each opcode, and in it a row for each instruction. What no row has is illegal.
 use Rattle.std.specs.Prelude.{ℕ, Option, Some, None, ◌==◌, if◌then◌else◌}
 use Rattle.rv_step.specs.declared.instr.Instr.{Instr}
 use Rattle.rv_step.specs.declared.instr.Instr.TheVariants as instrs

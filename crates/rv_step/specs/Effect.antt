@@ -1,6 +1,6 @@
--- What an instruction does to hart and memory (RISC-V Unprivileged ISA 20191213), in the parts that many have in common. That a
--- trap ends the guest, its cause and its value are this machine's own; the causes' numbers are those of the RISC-V privileged
--- architecture.
+-- What an instruction does to hart and memory (RISC-V Unprivileged ISA 20191213), in the parts that many have in
+-- common. That a trap ends the guest, its cause and its value are this machine's own; the causes' numbers are those of
+-- the RISC-V privileged architecture.
 use Rattle.std.specs.Prelude.{◌+◌, ◌*◌, ◌/◌, ◌%◌, ◌^◌, ℕ, Bool, true, false, Option, Some, None, ◌==◌, if◌then◌else◌}
 use Rattle.std.specs.Int.{w32, cast_signed, cast_unsigned, int_shr}
 use Rattle.dp_base.specs.Memory.{Memory, after_amo, amo_word, loaded, may_store, stored}
@@ -45,7 +45,7 @@ store_denied = 7
 
 -- ---- numbers
 
--- one where it holds, else zero
+-- one if it holds, else zero
 abbrev pub one_if : Bool → ℕ
 one_if true = 1
 one_if false = 0
@@ -66,17 +66,17 @@ shifted_right_arithmetic value count = cast_unsigned w32 (int_shr (cast_signed w
 
 -- ---- registers and pc
 
--- rd has the value, and the hart goes on behind the instruction
+-- rd has the value, and the hart goes on with the next instruction
 abbrev pub writes : (rd value : ℕ) → Hart → Memory → Effect
 writes rd value hart memory = goes (next (with_register hart rd value)) memory
 
--- a jump (2.5): rd has the address behind it; x0 keeps nothing
+-- a jump (2.5): rd has the next instruction's address; x0 keeps nothing
 abbrev pub jumps : (rd target : ℕ) → Hart → Memory → Effect
 jumps rd target hart memory =
     if target % 4 == 0 then goes (record (with_register hart rd (wrapped (hart.pc + 4))) { pc = target }) memory
     else traps instruction_misaligned target
 
--- a branch (2.5), to pc and its immediate where it is taken
+-- a branch (2.5), to pc and its immediate if it is taken
 abbrev pub branches : (taken : Bool) → (immediate : ℕ) → Hart → Memory → Effect
 branches taken immediate hart memory =
     if taken then jumps 0 (wrapped (hart.pc + immediate)) hart memory else goes (next hart) memory
@@ -138,7 +138,7 @@ abbrev pub fails_unheld : (rd at : ℕ) → Hart → Memory → Effect
 fails_unheld rd at hart memory =
     if may_store Four at memory then writes rd 1 (unreserved hart) memory else traps store_denied at
 
--- SC: it stores, and gives 0, where the address is reserved, else it gives 1; either way the reservation ends
+-- SC: it stores, and gives 0, if the address is reserved, else it gives 1; either way the reservation ends
 abbrev pub stores_conditional : (rd at value : ℕ) → Hart → Memory → Effect
 stores_conditional rd at value hart memory =
     if at % 4 == 0 then

@@ -1,5 +1,5 @@
--- The word that an instruction encodes to (RISC-V Unprivileged ISA 20191213, 2.2, 2.3, chapter 24), with the bits zero that decoding
--- ignores. The laws above the table of decoding go by it; no code does.
+-- The word that an instruction encodes to (RISC-V Unprivileged ISA 20191213, 2.2, 2.3, chapter 24), with the bits zero
+-- that decoding ignores. The laws above the table of decoding go by it; no code does.
 use Rattle.std.specs.Prelude.{◌≡◌, ◌⊎◌, ◌+◌, ◌-◌, ◌*◌, ◌%◌, ◌^◌, ◌<◌, ◌≤◌, ℕ}
 use Rattle.rv_step.specs.declared.instr.Instr.{Instr}
 use Rattle.rv_step.specs.declared.instr.Instr.TheVariants as instrs
@@ -28,7 +28,7 @@ form_j opcode rd imm = opcode + 2 ^ 7 * rd + 2 ^ 12 * bits 19 12 imm + 2 ^ 20 * 
 
 -- ---- operands that can be encoded
 
--- a word that is a signed number of so many bits
+-- a word that is a signed number of `bits` bits
 abbrev pub IsSigned : (width : ℕ) → ℕ → Type 0
 IsSigned width n = (n < 2 ^ (width - 1)) ⊎ ((2 ^ 32 - 2 ^ (width - 1) ≤ n) × (n < 2 ^ 32))
 

@@ -1,5 +1,6 @@
--- What each instruction does (RISC-V Unprivileged ISA 20191213): a row for each. Computation: 2.4. Jumps and branches: 2.5. Loads
--- and stores: 2.6. FENCE: 2.7. ECALL and EBREAK: 2.8. LR and SC: 8.2. AMOs: 8.4. A source register is read before rd is written.
+-- What each instruction does (RISC-V Unprivileged ISA 20191213): a row for each. Computation: 2.4. Jumps and branches:
+-- 2.5. Loads and stores: 2.6. FENCE: 2.7. ECALL and EBREAK: 2.8. LR and SC: 8.2. AMOs: 8.4. A source register is read
+-- before rd is written.
 use Rattle.std.specs.Prelude.{◌+◌, ◌-◌, ◌*◌, ◌/◌, ◌^◌, not, nat_lt, bit_and, bit_or, bit_xor, ◌==◌}
 use Rattle.dp_base.specs.Memory.{Memory, is_below_signed}
 use Rattle.dp_base.specs.declared.access.AmoOp.TheVariants as amos

@@ -27,7 +27,7 @@ funct7 word = bits 31 25 word
 abbrev pub funct5 : ℕ → ℕ
 funct5 word = bits 31 27 word
 
--- a number of so many bits, with its sign extended to 32
+-- a number of `bits` bits, with its sign extended to 32
 abbrev pub sign_extended : (width : ℕ) → ℕ → ℕ
 sign_extended width n = if nat_lt n (2 ^ (width - 1)) then n else n + (2 ^ 32 - 2 ^ width)
 

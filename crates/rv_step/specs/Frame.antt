@@ -1,5 +1,5 @@
--- What an instruction may change at most (RISC-V Unprivileged ISA 20191213, chapters 2 and 8). The laws above the table of
--- execution go by it; no code does.
+-- What an instruction may change at most (RISC-V Unprivileged ISA 20191213, chapters 2 and 8). The laws above the table
+-- of execution go by it; no code does.
 use Rattle.std.specs.Prelude.{◌≡◌, ◌⊎◌, ℕ, Bool, true, false, Option, Some, None}
 use Rattle.dp_base.specs.Memory.{Memory, stored}
 use Rattle.dp_base.specs.declared.access.Width.{Width}
@@ -118,7 +118,7 @@ reserves_or_ends (instrs.AmomaxW rd rs1 rs2) = false
 reserves_or_ends (instrs.AmominuW rd rs1 rs2) = false
 reserves_or_ends (instrs.AmomaxuW rd rs1 rs2) = false
 
--- the bytes that it may store to: so many, at this address
+-- the bytes that it may store to: how many, and the address of the first
 abbrev pub written_at : Instr → Hart → Option (Width × ℕ)
 written_at (instrs.Lui rd imm) h = None
 written_at (instrs.Auipc rd imm) h = None
@@ -172,7 +172,7 @@ written_at (instrs.AmomaxW rd rs1 rs2) h = Some (Four, register h rs1)
 written_at (instrs.AmominuW rd rs1 rs2) h = Some (Four, register h rs1)
 written_at (instrs.AmomaxuW rd rs1 rs2) h = Some (Four, register h rs1)
 
--- a memory as it was, or behind a store of some value there
+-- a memory as it was, or after a store of some value there
 abbrev pub IsStoredAt : Option (Width × ℕ) → (before after : Memory) → Type 0
 IsStoredAt None before after = after ≡ before
 IsStoredAt (Some there) before after = (after ≡ before) ⊎ ((value : ℕ) × (after ≡ stored there.0 there.1 value before))

@@ -1,5 +1,5 @@
--- What an instruction's operands always are: its register fields have 5 bits, and so has how far it shifts (RISC-V Unprivileged
--- ISA 20191213, 2.2 and 2.4).
+-- What an instruction's operands always are: its register fields have 5 bits, and so has how far it shifts (RISC-V
+-- Unprivileged ISA 20191213, 2.2 and 2.4).
 use Rattle.std.specs.Prelude.{◌<◌}
 use Rattle.rv_step.specs.declared.instr.Instr.{Instr}
 use Rattle.rv_step.specs.declared.instr.Instr.TheVariants as instrs

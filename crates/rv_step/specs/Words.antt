@@ -1,4 +1,5 @@
--- Registers of 32 bits and memory of bytes (RISC-V Unprivileged ISA 20191213, 1.4 and 2.1), and the pages as accesses leave them.
+-- Registers of 32 bits and memory of bytes (RISC-V Unprivileged ISA 20191213, 1.4 and 2.1), and the pages as accesses
+-- leave them.
 use Rattle.std.specs.Prelude.{◌≡◌, ℕ, All, length, map}
 use Rattle.std.specs.List.{AllByRecursion}
 use Rattle.dp_base.specs.declared.page.Page.{Page}
@@ -13,7 +14,7 @@ pub record HasWords (h : Hart) : Type 0 where
   pub count : length h.x ≡ 31
   pub registers : AllByRecursion IsWord h.x
 
--- what stands on the pages is bytes
+-- what the pages contain is bytes
 abbrev pub HasBytes : Memory → Type 0
 HasBytes memory = All (λ p. AreBytes p.bytes) memory
 

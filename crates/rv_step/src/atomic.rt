@@ -24,8 +24,8 @@ pub(crate) enum AtomicEnd {
 }
 
 impl AtomicEnd {
-    /// Returns the outcome of the step. It is made apart from the functions below, so that each step's outcome is kept in registers:
-    /// one that a function writes through a pointer isn't.
+    /// Returns the outcome of the step. It is made apart from the functions below, so that each step's outcome is kept
+    /// in registers: one that a function writes through a pointer isn't.
     #[inline(always)]
     pub fn outcome(self, at: u32) -> Result<Stepped, OutOfMemory>
         ensures { result ≡ outcome self at }
@@ -74,7 +74,7 @@ pub(crate) fn load_reserved<M: Mem>(hart: &mut Hart, memory: &mut M, rd: u8, at:
     }
 }
 
-/// SC: stores a word where its address is reserved, and says in a register whether it has. The reservation ends.
+/// SC: stores a word if its address is reserved, and says in a register whether it has. The reservation ends.
 pub(crate) fn store_conditional<M: Mem>(
     hart: &mut Hart,
     memory: &mut M,

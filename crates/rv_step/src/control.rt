@@ -11,7 +11,7 @@ use crate::stepped::Stepped;
 use crate::trap_cause::INSTRUCTION_MISALIGNED;
 use guest_state::Hart;
 
-/// Writes a register and goes on behind the instruction.
+/// Writes a register and goes on with the next instruction.
 #[inline(always)]
 pub(crate) fn write(hart: &mut Hart, rd: u8, value: u32) -> Stepped
     requires { rd < 32 }
@@ -34,7 +34,7 @@ pub(crate) fn add_to_pc(hart: &mut Hart, rd: u8, imm: u32) -> Stepped
     write(hart, rd, value)
 }
 
-/// The sum of a register and an immediate.
+/// Returns the sum of a register and an immediate.
 #[inline(always)]
 pub fn address(hart: &Hart, rs1: u8, imm: u32) -> u32
     requires { rs1 < 32 }
@@ -43,7 +43,8 @@ pub fn address(hart: &Hart, rs1: u8, imm: u32) -> u32
     hart.register(rs1).wrapping_add(imm)
 }
 
-/// JALR: jumps to the sum of a register and an immediate, with its lowest bit cleared. The register is read before `rd` is written.
+/// JALR: jumps to the sum of a register and an immediate, with its lowest bit cleared. The register is read before `rd`
+/// is written.
 #[inline(always)]
 pub(crate) fn jump_register(hart: &mut Hart, rd: u8, rs1: u8, imm: u32) -> Stepped
     requires destination { rd < 32 }
@@ -57,7 +58,7 @@ pub(crate) fn jump_register(hart: &mut Hart, rd: u8, rs1: u8, imm: u32) -> Stepp
     jump(hart, rd, target)
 }
 
-/// Jumps, and writes the address behind the instruction to a register.
+/// Jumps, and writes the next instruction's address to a register.
 #[inline(always)]
 pub(crate) fn jump(hart: &mut Hart, rd: u8, target: u32) -> Stepped
     requires { rd < 32 }
@@ -77,7 +78,7 @@ pub(crate) fn jump(hart: &mut Hart, rd: u8, target: u32) -> Stepped
     Stepped::Went
 }
 
-/// Goes on behind the instruction, or, where a branch is taken, at pc and its immediate.
+/// Goes on with the next instruction, or at pc plus the immediate if the branch is taken.
 #[inline(always)]
 pub(crate) fn branch(hart: &mut Hart, taken: bool, imm: u32) -> Stepped
     ensures answer { (m : Memory) → result ≡ answer_for (branches taken imm hart.old m) }

@@ -1,6 +1,6 @@
-/// An instruction (RISC-V Unprivileged ISA 20191213, chapter 24): its registers by number, and its immediate with the sign
-/// extended to 32 bits. The shifts' immediates are how far they shift.
-// It can't be compared or printed: nothing needs that, and a derived function of so many variants takes a minute to prove.
+/// An instruction (RISC-V Unprivileged ISA 20191213, chapter 24): its registers by number, and its immediate with the
+/// sign extended to 32 bits. The shifts' immediates are how far they shift.
+// It can't be compared or printed: nothing needs that, and a derived function of 51 variants takes a minute to prove.
 #[derive(Clone, Copy)]
 pub enum Instr {
     Lui { rd: u8, imm: u32 },

@@ -16,8 +16,8 @@ ghost use Rattle.rv_step.specs.Step.{effect};
 ghost use Rattle.guest_state.specs.Checkpoint.{IsWord};
 ghost use Rattle.rv_step.specs.Words.{HasBytes, HasSameShape, HasWords};
 
-/// The word that an instruction encodes to is one of 32 bits and is decoded to that instruction; so no two instructions share
-/// a word.
+/// The word that an instruction encodes to is one of 32 bits and is decoded to that instruction; so no two instructions
+/// share a word.
 pub fn an_encoding_is_decoded()
     ensures word { (i : Instr) → IsInstruction i → encoded i < 2 ^ 32 }
     ensures decoded { (i : Instr) → IsInstruction i → decoded (encoded i) ≡ Some i }
@@ -29,8 +29,8 @@ pub fn a_decoding_is_encodable()
     ensures { (word : ℕ) (i : Instr) → word < 2 ^ 32 → decoded word ≡ Some i → IsInstruction i }
 {}
 
-/// An instruction changes at most its destination, pc, the reservation where it makes or ends one, and the bytes that it
-/// stores. x0 reads 0 behind it, and pc is a multiple of 4 if it was.
+/// An instruction changes at most its destination, pc, the reservation if it makes or ends one, and the bytes that it
+/// stores. Afterwards x0 reads 0, and pc is a multiple of 4 if it was.
 pub fn an_instruction_changes_no_more()
     ensures registers { (i : Instr) (h after : Hart) (m left : Memory) → executed i h m ≡ goes after left →
         (number : ℕ) → (number ≡ destination i) ⊎ (register after number ≡ register h number) }
@@ -43,8 +43,8 @@ pub fn an_instruction_changes_no_more()
         h.pc % 4 ≡ 0 → after.pc % 4 ≡ 0 }
 {}
 
-/// Behind a step registers and pc are words and memory is bytes, if they were; no page is mapped or unmapped, and no flag is
-/// changed.
+/// After a step registers and pc are words and memory is bytes, if they were; no page is mapped or unmapped, and no
+/// flag is changed.
 pub fn a_step_leaves_words()
     ensures hart { (h after : Hart) (m left : Memory) → HasWords h → HasBytes m → effect h m ≡ goes after left → HasWords after }
     ensures bytes { (h after : Hart) (m left : Memory) → HasWords h → HasBytes m → effect h m ≡ goes after left → HasBytes left }

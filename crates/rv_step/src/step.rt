@@ -11,9 +11,10 @@ use crate::trap_cause::{ILLEGAL_INSTRUCTION, INSTRUCTION_DENIED, INSTRUCTION_MIS
 use dp_base::{Access, Mem, OutOfMemory};
 use guest_state::Hart;
 
-/// Takes one step of a hart. After all but `Went`, and after an `Err`, the hart is unchanged, and so is a memory whose pages are
-/// known; over such a memory `Busy` is never returned. Over any memory, by what it counts, `Busy` is returned if an access answered it,
-/// and in no other case. An SC whose reservation the memory has lost goes on, and writes 1 to its register.
+/// Takes one step of a hart. After all but `Went`, and after an `Err`, the hart is unchanged, and so is a memory whose
+/// pages are known; over such a memory `Busy` is never returned. Over any memory, by what it counts, `Busy` is returned
+/// if an access answered it, and in no other case. An SC whose reservation the memory has lost goes on, and writes 1 to
+/// its register.
 #[inline(always)]
 #[tactic(auto, unfolding(crate::specs::Step::effect, crate::specs::Contention::AccountsAt))]
 pub fn exec<M: Mem>(hart: &mut Hart, memory: &mut M) -> Result<Stepped, OutOfMemory>
@@ -41,8 +42,8 @@ pub fn exec<M: Mem>(hart: &mut Hart, memory: &mut M) -> Result<Stepped, OutOfMem
     }
 }
 
-/// Executes the instruction that a word encodes, as `exec` does once it has fetched the word. Returns a trap if the word is illegal.
-/// Whether the word is the one at pc isn't tested.
+/// Executes the instruction that a word encodes, as `exec` does once it has fetched the word. Returns a trap if the
+/// word is illegal. Whether the word is the one at pc isn't tested.
 #[inline(always)]
 #[tactic(auto, unfolding(crate::specs::Contention::AccountsAt))]
 pub fn exec_word<M: Mem>(word: u32, hart: &mut Hart, memory: &mut M) -> Result<Stepped, OutOfMemory>

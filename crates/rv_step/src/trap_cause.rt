@@ -1,4 +1,5 @@
-// The causes of traps, with the numbers of the RISC-V privileged architecture. There a denied access is an access fault.
+// The causes of traps, with the numbers of the RISC-V privileged architecture. There a denied access is an access
+// fault.
 
 /// The cause of the trap at a pc that isn't a multiple of 4.
 pub const INSTRUCTION_MISALIGNED: u8 = 0;

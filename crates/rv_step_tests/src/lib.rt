@@ -1,7 +1,7 @@
 //! Single instructions: what words decode to, and what a step at each leaves, stops at or traps with.
 //!
-//! This crate is its tests: they call `rv_step` as a crate above it does, over a small memory that may deny an access or be busy.
-//! Words and values come from the ISA's text.
+//! This crate is its tests: they call `rv_step` as a crate above it does, over a small memory that may deny an access
+//! or be busy. Words and values come from the ISA's text.
 #![tactic(auto)]
 
 #[cfg(test)]

@@ -23,7 +23,7 @@ pub(crate) struct SmallMemory {
 }
 
 impl SmallMemory {
-    /// Makes a memory of zeros where each access may be.
+    /// Makes a memory of zeros in which each access is allowed.
     pub(crate) fn new() -> Self {
         SmallMemory {
             bytes: [0; 64],

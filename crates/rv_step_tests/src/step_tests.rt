@@ -5,7 +5,7 @@ use guest_state::Hart;
 use rv_step::{Stepped, exec};
 use std::test::Fail;
 
-// Where the word lies that x5 points to, and behind it another.
+// Where the word lies that x5 points to, and after it another.
 const DATA: u32 = 0x0001_0020;
 
 const BEHIND: u32 = 0x4444_3333;
@@ -97,7 +97,7 @@ fn view_of(hart: &Hart, memory: &SmallMemory) -> View {
     }
 }
 
-// A step of a hart over a memory, and both behind it.
+// A step of a hart over a memory, and both after it.
 fn take_step(hart: Hart, memory: SmallMemory) -> Result<(Stepped, Hart, SmallMemory), OutOfMemory> {
     let (mut hart, mut memory) = (hart, memory);
     let stepped = exec(&mut hart, &mut memory)?;
@@ -110,7 +110,7 @@ fn step(word: u32, view: View) -> Result<(Stepped, View), OutOfMemory> {
     Ok((stepped, view_of(&hart, &memory)))
 }
 
-// Words, and what is seen before and behind a step at each.
+// Words, and what is seen before and after a step at each.
 fn step_cases() -> [(u32, View, View); 8] {
     [
         // LW of four bytes that lie across two words
@@ -200,8 +200,8 @@ fn steps(rt: HostRuntime) -> Result<(), Fail> {
     Ok(())
 }
 
-// LR.W, and then SC.W with what is held between them, in a memory where SCs store or never do: what SC answers in x6, what is
-// held behind LR and behind SC, and the word.
+// LR.W, and then SC.W with what is held between them, in a memory where SCs store or never do: what SC answers in x6,
+// what is held after LR and after SC, and the word.
 fn reserve_and_store(
     kept: bool,
     between: Option<Option<u32>>,

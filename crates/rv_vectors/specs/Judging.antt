@@ -10,7 +10,7 @@ abbrev pub is_rowless : List ℕ → Bool
 is_rowless [] = true
 is_rowless (first ∷ rest) = first == 0x23
 
--- it agrees exactly where its instruction does what it says, which no trap and no call does
+-- it agrees exactly if its instruction does what it says, which no trap and no call does
 abbrev pub IsVerdictOn : Row → Verdict → Type 0
 IsVerdictOn row verdict =
     ((verdict ≡ Agrees) × (row_outcome row.word row.before ≡ Some row.after)) ⊎ ((verdict ≡ Differs) × (row_outcome row.word row.before ≢ Some row.after))

@@ -12,7 +12,7 @@ use Rattle.rv_vectors.specs.declared.row.Row.{Row}
 
 -- ---- fields
 
--- a field up to the first space, and what stands behind that space
+-- a field up to the first space, and what follows that space
 unfoldable pub field_at : List ℕ → Option (List ℕ × List ℕ)
 field_at text =
     if position_or_len (λ b. b == 0x20) text == length text then None

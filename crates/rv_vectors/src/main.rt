@@ -1,8 +1,8 @@
 //! The program: reads rows of what single instructions do, runs each instruction once and compares.
 //!
-//! It prints how many rows agree, and before that a line for each that differs or can't be read. It ends with 0 if all agree,
-//! else with 1. How a row reads stands at the top of `stdin`. Stands on `rv_step` for the instructions and on `cow_pages` for
-//! their memory.
+//! It prints how many rows agree, and before that a line for each that differs or can't be read. It ends with 0 if all
+//! agree, else with 1. How a row reads is at the top of `stdin`. Builds on `rv_step` for the instructions and on
+//! `cow_pages` for their memory.
 #![tactic(auto)]
 
 mod machine;

@@ -4,7 +4,7 @@ ghost use Rattle.rv_vectors.specs.Reading.{after_from, before_at, distance, fiel
 
 use hex::FromHex;
 
-/// What stands in the registers and in the sixteen bytes before an instruction.
+/// What is in the registers and in the sixteen bytes before an instruction.
 #[derive(Clone, Copy, Debug, PartialEq, Eq)]
 pub(crate) struct Before {
     pub x5: u32,
@@ -12,7 +12,7 @@ pub(crate) struct Before {
     pub bytes: [u8; 16],
 }
 
-/// What stands there behind it, and how far pc went.
+/// What is there after it, and how far pc went.
 #[derive(Clone, Copy, Debug, PartialEq, Eq)]
 pub(crate) struct After {
     pub x5: u32,
@@ -30,7 +30,8 @@ pub(crate) struct Row {
     pub after: After,
 }
 
-/// Returns the row that a line has, or `None` if it has none: a name and nine fields, with one space between two of them.
+/// Returns the row that a line has, or `None` if it has none: a name and nine fields, with one space between two of
+/// them.
 #[tactic(auto, unfolding(crate::specs::Reading::row_of))]
 pub(crate) fn parse(line: &str) -> Option<Row>
     ensures { result ≡ row_of line.now }
@@ -93,7 +94,7 @@ fn sixteen_at(text: &str) -> Option<([u8; 16], &str)>
     Some((bytes, rest))
 }
 
-// A field up to the first space, and what stands behind that space.
+// A field up to the first space, and what follows that space.
 #[tactic(auto, unfolding(crate::specs::Reading::field_at))]
 fn field_at(text: &str) -> Option<(&str, &str)>
     ensures { option_map (λ x. (x.0.now, x.1.now)) result ≡ field_at text.now }

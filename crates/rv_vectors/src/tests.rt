@@ -48,7 +48,7 @@ const CASES: [(&str, Verdict); 29] = [
         "ADD 006283b3 00000800 522c6c89 - 00000800 522c6c89 522c7489 0 00000000000000000000000000000001",
         Verdict::Differs,
     ),
-    // SUB's word in the place of ADD's, under whatever name
+    // SUB's word instead of ADD's, under whatever name
     (
         "ADD 406283b3 00000800 522c6c89 - 00000800 522c6c89 522c7489 0 -",
         Verdict::Differs,
@@ -65,7 +65,7 @@ const CASES: [(&str, Verdict); 29] = [
         "A\tB 006283b3 00000800 522c6c89 - 00000800 522c6c89 522c7489 0 -",
         Verdict::Agrees,
     ),
-    // bytes before it that aren't behind it
+    // bytes before it that aren't after it
     (
         "ADD 006283b3 00000800 522c6c89 00000000000000000000000000000001 00000800 522c6c89 522c7489 0 -",
         Verdict::Differs,

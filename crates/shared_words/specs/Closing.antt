@@ -8,7 +8,8 @@ use Rattle.shared_words.specs.Rule.{AreRuled}
 use Rattle.shared_words.specs.declared.mapped_page.MappedPage.{MappedPage}
 use Rattle.shared_words.specs.declared.view.View.{View}
 
--- pages with these numbers and flags, whose words are those of a moment at which the rule holds and a seat has this view
+-- pages with these numbers and flags, whose words are those of a moment at which the rule holds and a seat has this
+-- view
 pub record ClosesTo (mapped : List MappedPage) (start : List ℕ) (count : ℕ) (v : View) (pages : List Page) : Type 0 where
   pub words : List ℕ
   pub views : List View

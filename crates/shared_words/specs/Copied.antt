@@ -107,7 +107,8 @@ HasEachWord first count stored = (i : ℕ) → i < count → HasWord (first + i)
 abbrev pub HasAllChanges : (before pages : List Page) → List Stored → Type 0
 HasAllChanges before pages stored = (index : ℕ) → index < length pages → HasChanges index (page_bytes_at before index) (page_bytes_at pages index) stored
 
--- a seat that has stored words: this holds of each, and that of all of them. It has the same tickets and the same budget
+-- a seat that has stored words: this holds of each, and that of all of them. It has the same tickets and the same
+-- budget
 pub record OnlyStores (P : Stored → Type 0) (Q : List Stored → Type 0) (before after : View) : Type 0 where
   pub tickets : after.tickets ≡ before.tickets
   pub budget : after.budget ≡ before.budget

@@ -1,4 +1,5 @@
--- Where the words of a guest's pages are in the table, and the bytes of words. This project's own; a word's bytes are little-endian.
+-- The indexes in the table of the words of a guest's pages, and the bytes of words. This project's own; a word's bytes
+-- are little-endian.
 use Rattle.std.specs.Prelude.{◌≡◌, ◌+◌, ◌*◌, ◌/◌, ◌%◌, ◌^◌, ◌<◌, ◌≤◌, ◌==◌, ℕ, Bool, false, List, All, length, map, slice_index, slice_index_or, slice_get, Option, Some, None, is_some, if◌then◌else◌}
 use Rattle.std.specs.List.{position}
 use Rattle.std.specs.List.Sorted.{IsStrictlyIncreasing}

@@ -30,8 +30,9 @@ once_below x n = if nat_lt x n then 1 else 0
 abbrev pub HasSource : (start : List ℕ) (views : List View) (word value : ℕ) → Type 0
 HasSource start views word value = (value ≡ slice_index start word) ⊎ (0 < total (λ v. stores_of word value v.stored) views)
 
--- Every guest word is below 2^32. The tickets that seats have are the numbers below the ticket word, each once. The ticket word and
--- the budgets of all seats are 2^62 in all. No guest word comes from nowhere.
+-- Every guest word is below 2^32. The tickets that seats have are the numbers below the ticket word, each once. The
+-- ticket word and the budgets of all seats are 2^62 in all. Each guest word is that of the start, or one that a seat
+-- stored.
 pub record AreRuled (start words : List ℕ) (views : List View) : Type 0 where
   pub ticket_word : 0 < length words
   pub guest_words : (i : ℕ) → 0 < i → slice_index words i < 2 ^ 32

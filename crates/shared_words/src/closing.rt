@@ -16,8 +16,8 @@ use dp_base::OutOfMemory;
 use std::alloc::Global;
 
 impl SharedWords {
-    /// Returns the pages, with their numbers and flags as `of_pages` found them. Their words are those of one moment: they keep the rule,
-    /// with what is known of this seat.
+    /// Returns the pages, with their numbers and flags as `of_pages` found them. Their words are those of one moment:
+    /// they keep the rule, with what is known of this seat.
     ///
     /// # Errors
     ///

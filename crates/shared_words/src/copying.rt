@@ -45,7 +45,7 @@ impl SharedWords {
         Marks::new(alloc, PAGE_BLOCKS * self.pages.len())
     }
 
-    /// Copies the words of the marked blocks to pages, where these may be written. Each word is loaded in one step.
+    /// Copies the words of the marked blocks to pages, if these may be written. Each word is loaded in one step.
     ///
     /// # Errors
     ///
@@ -116,8 +116,8 @@ impl SharedWords {
         bytes
     }
 
-    /// Stores the words of pages, block by block, but for blocks that are as they were before in the page at the same index. Each word is
-    /// stored in one step.
+    /// Stores the words of pages, block by block, but for blocks that are as they were before in the page at the same
+    /// index. Each word is stored in one step.
     pub fn copy_changes(&self, seat: &mut Seat, before: &Pages, pages: &Pages)
         requires seat { IsSeatOf self.now seat.old }
         requires fits { map mapped_page pages.now ≡ pages_of self.now }

@@ -2,7 +2,7 @@
 ghost use Rattle.dp_base.specs.Counts.{LostStore, SawBusy};
 ghost use Rattle.shared_words.specs.Contended.{contention_of};
 
-// How often an access was busy, and how often an SC was lost: each at most 2^64 - 1, where it stays.
+// How often an access was busy, and how often an SC was lost. Each count stops at 2^64 - 1.
 #[derive(Clone, Copy)]
 pub(crate) struct Counts {
     pub(crate) busy: u64,

@@ -1,4 +1,4 @@
-// Where the word at an address is in the table.
+// The index in the table of the word at an address.
 ghost use Rattle.std.specs.Prelude.{◌≡◌, ◌/◌, ◌<◌, IfSome, Some, true, vec_len};
 ghost use Rattle.shared_words.specs.Layout.{first_with, index_with, is_mapped, page_index, word_index};
 ghost use Rattle.shared_words.specs.Words.{IsGuestWord, IsPageStart, pages_of, table_of};

@@ -52,8 +52,9 @@ pub(crate) fn load_part<J: Naming>(
     Some(low_word((high << 32 | low) >> shift & mask))
 }
 
-// Stores bytes whose pages have the flag, a word after the other. Returns `None` if one hasn't, and otherwise whether all are stored.
-// If the second word is contended, the first one has been stored to. The hart does the same store again.
+// Stores bytes whose pages have the flag, a word after the other. Returns `None` if one hasn't, and otherwise whether
+// all are stored. If the second word is contended, the first one has been stored to. The hart does the same store
+// again.
 pub(crate) fn store_part<J: Naming>(
     seat: &mut RacingSeat<'_, J>,
     flag: u8,

@@ -34,12 +34,12 @@ struct Reservation {
 
 /// The memory that a racing hart sees. Stores of other harts show at once, so no proof knows its bytes.
 ///
-/// An aligned word is loaded and stored in one step. A store to part of a word or across two words, and an AMO, change each word by a
-/// step that fails if another hart changed it first. They try that 64 times and then answer `Busy`. An SC tries once, and is lost if
-/// that fails. An access is denied if a page hasn't the flag, as in `Pages`.
+/// An aligned word is loaded and stored in one step. A store to part of a word or across two words, and an AMO, change
+/// each word by a step that fails if another hart changed it first. They try that 64 times and then answer `Busy`. An
+/// SC tries once, and is lost if that fails. An access is denied if a page hasn't the flag, as in `Pages`.
 ///
-/// Each LR, SC and AMO takes a ticket. Two more cases answer `Busy`: all of 2^32 - 1 tickets are taken, or an LR, or an SC without a
-/// reservation, can't get memory for its entry in the log (`is_out_of_memory`).
+/// Each LR, SC and AMO takes a ticket. Two more cases answer `Busy`: all of 2^32 - 1 tickets are taken, or an LR, or an
+/// SC without a reservation, can't get memory for its entry in the log (`is_out_of_memory`).
 ///
 /// The address of an LR, SC or AMO has to be a multiple of 4: a hart traps before it reaches memory otherwise.
 #[derive(Drop)]
@@ -90,8 +90,9 @@ impl<'a, J: Naming> RacingMem<'a, J> {
         self.out_of_memory
     }
 
-    /// Returns the seat, the log of the steps that synchronise, and marks of the blocks in which it stored. The log has the ticket of each
-    /// step, and what the step is. The tickets don't fall. An LR whose SC stored has the ticket of the SC if no other entry is between them.
+    /// Returns the seat, the log of the steps that synchronise, and marks of the blocks in which it stored. The log has
+    /// the ticket of each step, and what the step is. The tickets don't fall. An LR whose SC stored has the ticket of
+    /// the SC if no other entry is between them.
     pub fn into_parts(self) -> (Seat, Log<(u64, Sc)>, Marks)
         ensures seat { IsSeatAt J.table result.0 }
         ensures log { AreInOrder result.1 }

@@ -167,8 +167,8 @@ impl<'a, J: Naming> RacingSeat<'a, J> {
         self.entries.push_reserved((ticket, sc));
     }
 
-    // Adds the entry of an SC that stored. Its LR gets the same ticket, if the LR's entry is the last one. A schedule could otherwise put a
-    // step of another thread between the two, which would end the reservation.
+    // Adds the entry of an SC that stored. Its LR gets the same ticket, if the LR's entry is the last one. A schedule
+    // could otherwise put a step of another thread between the two, which would end the reservation.
     #[tactic(auto, using(crate::proofs::Logs::log_won))]
     pub(crate) fn note_won(&mut self, ticket: u64, reserved: usize)
         requires room { vec_len self.old.entries < vec_capacity self.old.entries }
@@ -191,8 +191,9 @@ impl<'a, J: Naming> RacingSeat<'a, J> {
         false
     }
 
-    // Does an AMO and adds its entry. Returns the word that it found, if a try succeeded. Each try takes a ticket between its load and its
-    // exchange. So if one AMO finds the word that another has stored, its ticket is the greater one.
+    // Does an AMO and adds its entry. Returns the word that it found, if a try succeeded. Each try takes a ticket
+    // between its load and its exchange. So if one AMO finds the word that another has stored, its ticket is the
+    // greater one.
     pub(crate) fn change_word(&mut self, index: usize, op: AmoOp, value: u32) -> Option<u32>
         requires guest { IsGuestWord J.table index }
         requires room { vec_len self.old.entries < vec_capacity self.old.entries }

@@ -22,7 +22,7 @@ pub struct SharedWords {
     pub(crate) table: Table<(), View, Vec<u64>, WordRule, Global>,
     // In rising order of number.
     pub(crate) pages: Vec<MappedPage>,
-    // Where a page is in that list, by its number. A hint is checked when it is used.
+    // The index of a page in that list, by its number. A hint is checked when it is used.
     pub(crate) hints: Vec<u16>,
     ghost sized: { table.shared.table_id.words ≡ FIRST_WORD + PAGE_WORDS * vec_len pages },
     ghost hinted: { vec_len hints ≡ HINTS },

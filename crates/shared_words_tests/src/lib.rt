@@ -1,6 +1,7 @@
 //! Shared words and the memory of a racing hart, as a crate above them uses both.
 //!
-//! This crate is its tests. Values come from the definition of memory and from the RISC-V Unprivileged ISA 20191213, by hand.
+//! This crate is its tests. Values come from the definition of memory and from the RISC-V Unprivileged ISA 20191213, by
+//! hand.
 #![tactic(auto)]
 
 #[cfg(test)]

@@ -1,6 +1,6 @@
 //! The slices of an epoch as a list: appended one by one while the epoch runs, and read back as a slice or one by one.
 //!
-//! Promises: a `SliceLog` is the list of what was put into it, in order. Stands on `dp_base`, whose `Log` it is.
+//! Promises: a `SliceLog` is the list of what was put into it, in order. Builds on `dp_base`, whose `Log` it is.
 //!
 //! ```text
 //! let mut log = SliceLog::new(alloc);

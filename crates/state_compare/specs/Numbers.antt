@@ -1,5 +1,5 @@
--- What two states have in common beside their threads and pages. This serves the contract of the crate's own steps. This
--- project's own.
+-- What two states have in common beside their threads and pages. This serves the contract of the crate's own steps.
+-- This project's own.
 use Rattle.std.specs.Prelude.{◌≡◌}
 use Rattle.guest_kernel.specs.declared.state.State.{State}
 

@@ -1,7 +1,8 @@
 //! Whether two states of a guest are the same.
 //!
-//! Promises: `equal` is true exactly on equal states: step counts, input places, heaps, ends, threads with their harts, and
-//! pages with their flags and bytes. No digest stands for what it stands for. Stands on `guest_kernel`, `guest_state` and `byte_lanes`.
+//! Promises: `equal` is true exactly on equal states: step counts, input places, heaps, ends, threads with their harts,
+//! and pages with their flags and bytes. It compares the states themselves, and no digests. Builds on `guest_kernel`,
+//! `guest_state` and `byte_lanes`.
 //!
 //! ```text
 //! if !equal(&reached, &marked) {

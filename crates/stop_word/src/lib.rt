@@ -1,7 +1,8 @@
 //! A word by which one thread stops others.
 //!
-//! Promises: the word is 1 exactly from the moment at which the stopper stops (`specs/Stops.antt`). A watcher that finds it stopped has seen
-//! so, and what a watcher has seen the stopper has done (`settle`). Stands on `atomic_table` for the word.
+//! Promises: the word is 1 exactly from the moment at which the stopper stops (`specs/Stops.antt`). A watcher that
+//! finds it stopped has seen so, and what a watcher has seen the stopper has done (`settle`). Builds on `atomic_table`
+//! for the word.
 //!
 //! Not said: that a watcher sees the stop by a given time.
 //!

@@ -13,11 +13,12 @@ pub record Supplied : Type 0 where
   -- how many bytes a window has at most
   pub room : ℕ
 
--- the place behind the window
+-- the offset after the window
 abbrev pub end_of : Supplied → ℕ
 end_of s = s.place + length s.window
 
--- what holds of each window: it has so many bytes of this room, begins at this place, and may be at the end
+-- what holds of each window: how many bytes of this capacity it has, the offset at which it begins, and whether it is
+-- at the end
 pub record IsWindow (count room place : ℕ) (ended : Bool) : Type 0 where
   pub within : count ≤ room
   pub some_room : 0 < room
@@ -33,15 +34,16 @@ IsSupply s = IsWindow (length s.window) s.room s.place s.ended
 abbrev pub empty : ℕ → Supplied
 empty room = record { window = []; place = 0; ended = false; stamp = 0; room = room }
 
--- behind a refill that gave these bytes: the new window begins where the old one ended, and no byte is the end of the input
+-- after a refill that gave these bytes: the new window begins where the old one ended, and no byte is the end of the
+-- input
 abbrev pub refilled : List ℕ → Supplied → Supplied
 refilled bytes s = record s { window = bytes; place = end_of s; ended = length bytes == 0 }
 
--- behind one that failed
+-- after one that failed
 abbrev pub unfilled : Supplied → Supplied
 unfilled s = record s { window = []; place = end_of s }
 
--- All that they answer is the same: only their rooms may differ.
+-- All that they answer is the same: only their capacities may differ.
 abbrev pub IsSame : Supplied → Supplied → Type 0
 IsSame s t = record s { room = t.room } ≡ t
 
@@ -55,7 +57,7 @@ HasByte s place = (s.place ≤ place) × (place < end_of s)
 abbrev pub IsInputEnd : Supplied → ℕ → Type 0
 IsInputEnd s place = (s.ended ≡ true) × (place ≡ end_of s)
 
--- what a read of at most so many bytes at this place gets, if it is known
+-- what a read of at most `max` bytes at this offset gets, if it is known
 abbrev pub window_answer : (place max : ℕ) → Supplied → Option (List ℕ)
 window_answer place max s =
     if nat_le s.place place && nat_lt place (end_of s) then Some (take max (drop (place - s.place) s.window))

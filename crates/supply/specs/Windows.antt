@@ -2,7 +2,7 @@
 use Rattle.std.specs.Prelude.{ℕ, zero, suc, List, [], ◌∷◌, ◌++◌}
 use Rattle.disk_model.specs.Input.{Input, taken, took}
 
--- the input behind so many takes into a buffer of this size
+-- the input after `count` takes into a buffer of this size
 unfoldable pub behind_takes : (room count : ℕ) → Input → Input
 behind_takes room zero i = i
 behind_takes room (suc n) i = behind_takes room n (took room i)

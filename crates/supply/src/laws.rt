@@ -7,9 +7,9 @@ ghost use Rattle.disk_model.specs.Input.{Input, is_at_end, taken, took};
 ghost use Rattle.supply.specs.Supplied.{Supplied, HasByte, IsInputEnd, IsLastOf, window_answer, empty, refilled, unfilled};
 ghost use Rattle.supply.specs.Windows.{behind_takes, bytes_left, windows};
 
-/// The windows that takes give, one after another and joined, are what the input gave. With what is left behind them they
-/// are what was left before, however it is cut into pieces; so windows up to the end are all of it. A take into a buffer
-/// with room gives no byte exactly where the end is.
+/// The windows that takes give, one after another and joined, are what the input gave. With what is left after them
+/// they are what was left before, however it is cut into pieces. So windows up to the end are all of it. A take into a
+/// buffer that isn't empty gives no byte exactly at the end.
 pub fn the_windows_are_the_input()
     ensures given { (room count : ℕ) (i : Input) →
         (behind_takes room count i).given ≡ i.given ++ concat (windows room count i) }
@@ -22,7 +22,7 @@ pub fn the_windows_are_the_input()
         ((took room i).ended ≡ true) ↔ (length (taken room i.left) ≡ 0) }
 {}
 
-/// An answer is known exactly at a byte of the window, or at the end. It is empty exactly at the end, or where no byte was
+/// An answer is known exactly at a byte of the window, or at the end. It is empty exactly at the end, or if no byte was
 /// asked for. It has at most as many bytes as were asked for.
 pub fn an_answer_is_of_the_window()
     ensures bytes { (place max : ℕ) (s : Supplied) → HasByte s place →
@@ -35,8 +35,8 @@ pub fn an_answer_is_of_the_window()
         window_answer place max s ≡ Some bytes → length bytes ≤ max }
 {}
 
-/// The window is always the last of the bytes that the input gave, so an answer is what the input has at that place: as many
-/// of its bytes as are known, and none at its end.
+/// The window is always the last of the bytes that the input gave, so an answer is what the input has at that place: as
+/// many of its bytes as are known, and none at its end.
 pub fn an_answer_is_of_the_input()
     ensures start { (room : ℕ) → IsLastOf (empty room) [] }
     ensures refill { (s : Supplied) (given bytes : List ℕ) →

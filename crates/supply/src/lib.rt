@@ -1,9 +1,10 @@
 //! What a round has of the input: a window of it, and one reading of the clock.
 //!
-//! Promises: a `Supply` holds one window of at most its room of bytes, in a buffer that is made once. Each refill takes the
-//! bytes right behind those of the window before, so that the windows, joined, are what the input gave, however it comes in
-//! pieces (`the_windows_are_the_input`). An answer is a part of the window, exactly as `answer_at` of `specs/Supplied.antt`
-//! says, and what the input has at that place (`an_answer_is_of_the_input`). Stands on `disk_model` for the input.
+//! Promises: a `Supply` holds one window of at most its capacity, in a buffer that is made once. Each refill takes the
+//! bytes right after those of the window before, so that the windows, joined, are what the input gave, in whatever
+//! pieces it is read (`the_windows_are_the_input`). An answer is a part of the window, exactly as `answer_at` of
+//! `specs/Supplied.antt` says, and what the input has at that offset (`an_answer_is_of_the_input`). Builds on
+//! `disk_model` for the input.
 //!
 //! ```text
 //! let mut supply = Supply::new(alloc, 65_536)?;

@@ -39,7 +39,7 @@ impl Model for Supply {
 }
 
 impl Supply {
-    /// An empty window at the start of the input, in a buffer with this room.
+    /// Makes an empty window at the start of the input, in a buffer with this capacity.
     pub fn new(alloc: Global, room: u32) -> Result<Supply, OutOfMemory>
         requires some { 0 < room }
         requires small { room ≤ MAX_ROOM }
@@ -56,8 +56,8 @@ impl Supply {
         })
     }
 
-    /// Takes the next bytes of the input, once. The new window begins where the old one ended, and no byte is the end of the
-    /// input. The stamp stays.
+    /// Takes the next bytes of the input, once. The new window begins where the old one ended, and no byte is the end
+    /// of the input. The stamp stays.
     ///
     /// # Errors
     ///
@@ -87,8 +87,9 @@ impl Supply {
         }
     }
 
-    /// Returns what a read of at most `max` bytes at a place of the input gets: as many bytes of the window as there are, none
-    /// of them at the end of the input. Returns `None` if the window has no byte at this place and the end wasn't seen there.
+    /// Returns what a read of at most `max` bytes at a place of the input gets: as many bytes of the window as there
+    /// are, none of them at the end of the input. Returns `None` if the window has no byte at this place and the end
+    /// wasn't seen there.
     pub fn answer(&self, place: u64, max: u32) -> Option<&[u8]>
         ensures answer { option_copied result ≡ window_answer place max self.now }
         ensures is_supply { IsSupply self.now }
@@ -105,7 +106,8 @@ impl Supply {
         None
     }
 
-    /// Returns `true` if both have the same window at the same place, with the same end and stamp. Their rooms may differ.
+    /// Returns `true` if both have the same window at the same offset, with the same end and stamp. Their capacities
+    /// may differ.
     pub fn same(&self, other: &Supply) -> bool
         ensures { IsTrue result ↔ IsSame self.now other.now }
     {
@@ -122,7 +124,7 @@ impl Supply {
         self.ended
     }
 
-    /// Returns the place behind the window.
+    /// Returns the offset after the window.
     pub fn window_end(&self) -> u64
         ensures { result ≡ end_of self.now }
     {

@@ -8,7 +8,8 @@ ghost use Rattle.sync_hints.specs.Merging.{IsMerged, entries_of, is_of};
 ghost use Rattle.sync_hints.specs.declared.hints.SyncHint.{SyncHint};
 ghost use Rattle.sync_hints.specs.declared.thread_log.ThreadLog.{ThreadLog};
 
-/// A thread's hints are in the order as in its log, if the tickets of the log don't fall and no other log is of this thread.
+/// A thread's hints are in the order as in its log, if the tickets of the log don't fall and no other log is of this
+/// thread.
 pub fn a_log_keeps_its_order()
     ensures { (before after : List ThreadLog) (log : ThreadLog) (counts : List (Tid × ℕ)) (order : List SyncHint) →
         IsMerged (before ++ log ∷ after) counts order →

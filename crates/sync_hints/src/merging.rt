@@ -16,8 +16,8 @@ pub(crate) struct Entry {
     pub hint: SyncHint,
 }
 
-/// Merges the logs of threads: the steps of each, and the order of all steps that synchronise, by ticket. Steps with equal tickets are
-/// in the order of the logs.
+/// Merges the logs of threads: the steps of each, and the order of all steps that synchronise, by ticket. Steps with
+/// equal tickets are in the order of the logs.
 pub fn merge(alloc: Global, logs: &[ThreadLog]) -> Result<Hints, OutOfMemory>
     ensures { IfOk result (λ hints. IsMerged logs.now hints.counts hints.order) }
 {

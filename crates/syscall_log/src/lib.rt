@@ -1,7 +1,7 @@
-//! The answers to an epoch's calls as a list: appended one by one while the epoch runs, and read back as a slice or one by
-//! one.
+//! The answers to an epoch's calls as a list: appended one by one while the epoch runs, and read back as a slice or one
+//! by one.
 //!
-//! Promises: an `AnswerLog` is the list of what was put into it, in order. Stands on `dp_base`, whose `Log` it
+//! Promises: an `AnswerLog` is the list of what was put into it, in order. Builds on `dp_base`, whose `Log` it
 //! is.
 //!
 //! ```text

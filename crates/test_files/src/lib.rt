@@ -1,4 +1,5 @@
-//! Files and bytes by hand, for tests of the crates above: guests, bytes of which some are replaced, and bytes that repeat.
+//! Files and bytes by hand, for tests of the crates above: guests, bytes of which some are replaced, and bytes that
+//! repeat.
 #![tactic(auto)]
 
 mod guest;

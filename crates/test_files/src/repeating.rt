@@ -4,10 +4,11 @@ ghost use Rattle.test_files.specs.Bytes.{repeated};
 
 use std::alloc::{AllocError, Allocator};
 
-/// After how many bytes they repeat: a prime, so that no page and no piece of a power of two bytes begins like the one before.
+/// After how many bytes they repeat: a prime, so that no page and no piece of a power of two bytes begins like the one
+/// before.
 pub const PERIOD: u32 = 251;
 
-/// So many bytes from 0 on, which rise to 250 and begin again.
+/// Returns `count` bytes from 0 on, which rise to 250 and begin again.
 #[tactic(auto, unfolding(crate::specs::Bytes::repeated))]
 pub fn repeated<A: Allocator>(alloc: A, count: u32) -> Result<Vec<u8, A>, AllocError>
     ensures { IfOk result (λ bytes. bytes.items ≡ repeated count) }

@@ -4,7 +4,8 @@ ghost use Rattle.test_files.specs.Bytes.{replaced};
 
 use std::alloc::{AllocError, Allocator};
 
-/// The bytes with `count` of them, from the place `at` on, replaced by others. What lies past the end counts as no byte.
+/// Returns the bytes with `count` of them, from the offset `at` on, replaced by others. Nothing past the end is
+/// replaced.
 pub fn replaced<A: Allocator>(
     alloc: A,
     bytes: &[u8],

@@ -7,7 +7,7 @@ ghost use Rattle.test_journals.specs.Gate.{seen_as};
 
 use journal_text::{Rec, next_record};
 
-/// What stands at a gate.
+/// What is at a gate.
 #[derive(Clone, Copy, Debug, PartialEq, Eq)]
 pub enum Kind {
     /// An epoch's record.
@@ -22,8 +22,8 @@ pub enum Kind {
     Bad,
 }
 
-/// What stands at the place `at`, where a record's gate is; the place of the next gate or of the end, 0 where the body is bad; and how
-/// many bytes the body has, 0 where there is none.
+/// Returns what is at the offset `at`, where a record's gate is; the offset of the next gate or of the end, 0 if the
+/// body is bad; and how many bytes the body has, 0 if there is none.
 pub fn seen(file: &[u8], at: u64) -> (Kind, u64, usize)
     ensures { (found : Rec) × IsNextRecord (first_bytes file.now) at found × (result ≡ seen_as found) }
 {

@@ -9,7 +9,7 @@ use dp_base::field::{write_bytes, write_u8, write_u32};
 use dp_base::journal::{CLOSED_GATE, OPEN_GATE};
 use std::alloc::Global;
 
-/// A journal at rest of this guest, whose records have these bodies, whatever they are.
+/// Returns a journal at rest of this guest, whose records have these bodies, whatever they are.
 ///
 /// # Errors
 /// No memory, or a guest or a body of 2^32 bytes or more, whose number has no field.
@@ -23,7 +23,7 @@ pub fn journal_of(alloc: Global, guest: &[u8], bodies: &[&[u8]]) -> Result<Vec<u
     Ok(journal)
 }
 
-/// What stands behind the header of such a journal: the records and the closed gate.
+/// Returns what follows the header of such a journal: the records and the closed gate.
 ///
 /// # Errors
 /// The same.
@@ -51,7 +51,7 @@ fn write_record(out: &mut Vec<u8>, body: &[u8]) -> Result<(), OutOfMemory>
     write_counted(out, body)
 }
 
-// The bytes behind their number.
+// The bytes after their number.
 fn write_counted(out: &mut Vec<u8>, bytes: &[u8]) -> Result<(), OutOfMemory>
     ensures { OnOk result (out.new.items ≡ out.old.items ++ length_prefixed bytes.now) }
 {

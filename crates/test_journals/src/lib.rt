@@ -1,4 +1,4 @@
-//! Journals by hand, for tests of the crates above: of bodies that no recording need write, and what stands at a gate.
+//! Journals by hand, for tests of the crates above: of bodies that no recording need write, and what is at a gate.
 #![tactic(auto)]
 
 mod epoch;

@@ -3,7 +3,7 @@ use Rattle.std.specs.Prelude.{ℕ, ◌+◌, Bool, if◌then◌else◌}
 use Rattle.disk_mem.specs.declared.call.Call.{Call}
 use Rattle.disk_mem.specs.declared.call.Call.TheVariants.{Attach, Len, Read, Write, Cut, Sync, Emit}
 
--- small letters stand 32 behind the great ones (ASCII)
+-- a lower-case letter is 32 more than its upper-case one (ASCII)
 abbrev pub sized : ℕ → Bool → ℕ
 sized letter ok = if ok then letter else letter + 32
 

@@ -8,8 +8,8 @@ use disk_mem::{CallNumbers, Fails, MemWorld};
 use dp_base::OutOfMemory;
 use std::alloc::Global;
 
-/// Which calls of one kind fail, by their number. The first call has the number 1. Unlike a `Fails` it can be copied, so that a table may
-/// have it.
+/// Which calls of one kind fail, by their number. The first call has the number 1. Unlike a `Fails` it can be copied,
+/// so that a table may have it.
 #[derive(Clone, Copy)]
 pub enum Failing {
     /// None.
@@ -22,7 +22,7 @@ pub enum Failing {
     From(u64),
 }
 
-/// The same calls, as a world in memory takes them.
+/// Returns these calls as a world in memory takes them.
 ///
 /// # Errors
 /// No memory.
@@ -43,7 +43,8 @@ fn fails_at(alloc: Global, numbers: &[u64]) -> Result<Fails, OutOfMemory>
     Ok(Fails::At(CallNumbers::from_vec(numbers.to_vec(alloc)?)))
 }
 
-/// An empty disk some of whose calls fail, with streams some of whose emits fail, and which take so many bytes at most at each.
+/// Makes an empty disk some of whose calls fail, with streams some of whose emits fail, and which take at most `piece`
+/// bytes at each.
 ///
 /// # Errors
 /// No memory.
@@ -61,7 +62,7 @@ pub fn world_of(
     MemWorld::new(alloc, disk, sink, piece)
 }
 
-/// A disk with these bytes, some of whose calls fail. An emit takes 4,096 bytes at most, and none fails.
+/// Makes a disk with these bytes, some of whose calls fail. An emit takes 4,096 bytes at most, and none fails.
 ///
 /// # Errors
 /// No memory.

@@ -5,7 +5,8 @@ ghost use Rattle.test_worlds.specs.Letters.{letter_of, sized};
 use disk_mem::Call;
 use std::alloc::{AllocError, Global};
 
-/// A letter for each call, in order: A (attach), L (length), R (read), W (write), C (cut), S (sync) and E (emit), small if it failed.
+/// Returns a letter for each call, in order: A (attach), L (length), R (read), W (write), C (cut), S (sync) and E
+/// (emit), in lower case if it failed.
 pub fn letters_of(alloc: Global, calls: &[Call]) -> Result<Vec<u8>, AllocError>
     ensures { IfOk result (λ letters. letters.items ≡ map letter_of calls.now) }
 {

@@ -1,4 +1,5 @@
-//! What a test gives a run in memory: calls that fail, a disk and two streams, a file, an input and words. For tests of the crates above.
+//! What a test gives a run in memory: calls that fail, a disk and two streams, a file, an input and words. For tests of
+//! the crates above.
 #![tactic(auto)]
 
 mod failing;

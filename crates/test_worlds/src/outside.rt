@@ -8,7 +8,7 @@ use disk_mem::{MemFiles, MemInlet, NamedFile};
 use dp_base::OutOfMemory;
 use std::alloc::{AllocError, Global};
 
-/// Words as a command line has them.
+/// Returns arguments as a command line has them.
 pub fn texts_of(alloc: Global, words: &[&str]) -> Result<Vec<String>, AllocError>
     ensures { IfOk result (λ texts. map string_bytes texts.items ≡ map (λ word. word.now) words.now) }
 {
@@ -19,7 +19,7 @@ pub fn texts_of(alloc: Global, words: &[&str]) -> Result<Vec<String>, AllocError
     Ok(texts)
 }
 
-/// A directory of one file of this name, some of whose fetches fail.
+/// Makes a directory of one file of this name, some of whose fetches fail.
 ///
 /// # Errors
 /// No memory.
@@ -39,7 +39,7 @@ pub fn file_named(
     Ok(MemFiles::new(files, fails_of(alloc, failing)?))
 }
 
-/// An input of these pieces, some of whose takes fail, and a clock with these readings.
+/// Makes an input of these pieces, some of whose takes fail, and a clock with these readings.
 ///
 /// # Errors
 /// No memory.

@@ -5,8 +5,8 @@ const LEAST_REST: u32 = 2;
 
 const MOST_REST: u32 = 32;
 
-// How many steps a pass has to take so that it pays: for its threads, for each page of the guest, and for each block of words that is copied
-// back to its page.
+// How many steps a pass has to take so that it pays: for its threads, for each page of the guest, and for each block of
+// words that is copied back to its page.
 const PASS_STEPS: u64 = 30_000;
 
 const PAGE_STEPS: u64 = 50;
@@ -18,8 +18,8 @@ pub(crate) fn cost_of_pass(pages: u32, blocks: u32) -> u64 {
     PASS_STEPS + PAGE_STEPS * u64::from(pages) + BLOCK_STEPS * u64::from(blocks)
 }
 
-// Which stretches race. The first one does. After a stretch that didn't pay the next ones don't race: 2, then 4, and so on up to 32. So it
-// is after a round of which a job was squashed: what racing gained there was lost.
+// Which stretches race. The first one does. After a stretch that didn't pay the next ones don't race: 2, then 4, and so
+// on up to 32. So it is after a round of which a job was squashed: what racing gained there was lost.
 #[derive(Clone, Copy)]
 pub(crate) struct Pace {
     is_new: bool,
@@ -27,7 +27,8 @@ pub(crate) struct Pace {
     next_rest: u32,
     // Whether a stretch of this round has raced.
     has_raced: bool,
-    // Whether a job was squashed, and no round that raced has been kept since. A stretch that pays doesn't shorten the rests then.
+    // Whether a job was squashed, and no round that raced has been kept since. A stretch that pays doesn't shorten the
+    // rests then.
     is_doubtful: bool,
 }
 
@@ -53,7 +54,7 @@ impl Pace {
         self.has_raced = false;
     }
 
-    // Whether a stretch races that may have so many steps, if a pass costs this many.
+    // Whether a stretch races that may have `steps` steps, if a pass costs `cost`.
     pub(crate) fn races(&mut self, steps: u64, cost: u64) -> bool {
         if self.is_new {
             self.is_new = false;

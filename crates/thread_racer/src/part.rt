@@ -12,7 +12,7 @@ use std::thread::{self, Threads};
 // What a thread does in a pass: steps up to its quota, until it stops at a call or a trap, or others are in its way.
 #[derive(Drop)]
 pub(crate) struct Part<'a, J: Naming> {
-    // Where its thread is in the list of threads.
+    // The index of its thread in the list of threads.
     pub(crate) index: usize,
     pub(crate) tid: Tid,
     pub(crate) worker: u32,

@@ -30,7 +30,8 @@ pub(crate) fn use_quotas(
     Ok(())
 }
 
-// Lets the threads go on, one after another, until the stretch is over or none can go on. Threads that wait leave their steps to others.
+// Lets the threads go on, one after another, until the stretch is over or none can go on. Threads that wait leave their
+// steps to others.
 pub(crate) fn run_to_end(
     alloc: Global,
     state: &mut State,

@@ -29,8 +29,8 @@ struct Raced {
     cost: u64,
 }
 
-// Runs a guest's threads for this many steps. Returns hints of what they did, or `None` if no epoch ends there: the guest has ended, or
-// none of its threads can go on.
+// Runs a guest's threads for this many steps. Returns hints of what they did, or `None` if no epoch ends there: the
+// guest has ended, or none of its threads can go on.
 pub(crate) fn race_stretch<R: Threads + Sync, G: Gate + Sync>(
     rt: &R,
     alloc: Global,
@@ -121,7 +121,8 @@ fn race<R: Threads + Sync, G: Gate + Sync>(
     Ok(raced)
 }
 
-// Sees to it that at least two threads can go on, if they can. Threads whose quotas are used get new ones once all others are used too.
+// Sees to it that at least two threads can go on, if they can. Threads whose quotas are used get new ones once all
+// others are used too.
 fn can_race(
     alloc: Global,
     state: &mut State,

@@ -46,8 +46,8 @@ impl ThreadRacer<OpenGate> {
 }
 
 impl<'a, G: Gate> ThreadRacer<Gated<'a, G>> {
-    /// Makes a racer whose workers pass a gate. In a pass, a worker passes it before it runs a thread of the guest. The job is the
-    /// thread's number.
+    /// Makes a racer whose workers pass a gate. In a pass, a worker passes it before it runs a thread of the guest. The
+    /// job is the thread's number.
     pub fn gated(workers: u32, gate: &'a G) -> ThreadRacer<Gated<'a, G>>
         requires some { 0 < workers }
         requires few { workers ≤ MAX_WORKERS }
@@ -102,7 +102,7 @@ impl<G: Gate + Sync> ThreadRacer<G> {
         Ok(())
     }
 
-    // Runs a stretch of an epoch, if so many steps are left. Returns `None` if no epoch ends with it.
+    // Runs a stretch of an epoch, if an epoch's steps are left. Returns `None` if no epoch ends with it.
     fn next_offer<R: Threads + Sync>(
         &mut self,
         rt: &R,
@@ -135,10 +135,10 @@ impl<G: Gate + Sync> ThreadRacer<G> {
     }
 }
 
-// The least number of steps with which a round starts, if this state is the last one that was offered in the round before and no job of that
-// round was squashed. The round's last job starts in this state, and takes a step if a thread can. If none can, the next round starts here,
-// with more input. Where a job was squashed the round ends at an offered state's number of steps, this one's at most. All else that
-// ends a round early ends the recording too.
+// The least number of steps with which a round starts, if this state is the last one that was offered in the round
+// before and no job of that round was squashed. The round's last job starts in this state, and takes a step if a thread
+// can. If none can, the next round starts here, with more input. If a job was squashed, the round ends at an offered
+// state's number of steps, this one's at most. All else that ends a round early ends the recording too.
 fn least_start_after(state: &State, supply: &Supply) -> u64 {
     if is_step_possible(state, supply) {
         state.steps.saturating_add(1)

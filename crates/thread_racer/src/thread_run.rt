@@ -27,7 +27,7 @@ impl ThreadRun {
         }
     }
 
-    // Notes steps, and those that synchronise. A ticket is so many tickets of the stretch, counted from a base.
+    // Notes steps, and those that synchronise. A ticket of the stretch is counted from a base.
     pub(crate) fn note(
         &mut self,
         steps: u32,
@@ -49,7 +49,7 @@ impl ThreadRun {
         self.entries.len()
     }
 
-    // The ticket of an entry. There is none behind the last one.
+    // The ticket of an entry. There is none after the last one.
     pub(crate) fn ticket(&self, entry: usize) -> Option<u64> {
         self.entries.get(entry).map(|entry| entry.0)
     }

@@ -11,10 +11,10 @@ use supply::Supply;
 use sync_hints::Sc;
 use turn_peek::calls::{A7, EXIT_THREAD};
 
-// No turn is taken once the steps or the bytes of input are so many.
+// No turn is taken once there are this many steps, or bytes of input.
 const MOST: u64 = u64::MAX - 8192;
 
-// No thread goes on before an exit once the steps are so many.
+// No thread goes on before an exit once there are this many steps.
 const MOST_BEFORE_EXIT: u64 = u64::MAX / 2;
 
 // The answer that a turn takes.
@@ -93,8 +93,9 @@ fn exits(state: &State, tid: Tid) -> bool {
     }
 }
 
-// Lets the other threads take their plain steps before a thread exits. The exit clears a word, for which others may look by plain loads. An
-// epoch by hints takes the plain steps of all threads before a call too. Others may take the steps that the thread has left, but for one.
+// Lets the other threads take their plain steps before a thread exits. The exit clears a word, for which others may
+// look by plain loads. An epoch by hints takes the plain steps of all threads before a call too. Others may take the
+// steps that the thread has left, but for one.
 fn go_before_exit(
     state: &mut State,
     threads: &mut [ThreadRun],
@@ -125,8 +126,8 @@ fn go_before_exit(
     Ok(())
 }
 
-// Takes a thread's turn at a call or a trap, if the thread may take a step and the answer is known. The turn gets the next ticket.
-// Returns whether it was taken.
+// Takes a thread's turn at a call or a trap, if the thread may take a step and the answer is known. The turn gets the
+// next ticket. Returns whether it was taken.
 pub(crate) fn take_turn(
     alloc: Global,
     state: &mut State,

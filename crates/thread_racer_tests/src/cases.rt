@@ -147,8 +147,8 @@ pub(crate) fn end_of(
     }
 }
 
-// What is offered in a case: how many states, how many of them have just an epoch's steps more than the one before, and how many are
-// reached from the one before by the hints.
+// What is offered in a case: how many states, how many of them have just an epoch's steps more than the one before, and
+// how many are reached from the one before by the hints.
 pub(crate) fn followed<R: Threads + Sync>(
     rt: &R,
     alloc: Global,

@@ -28,8 +28,8 @@ pub(crate) const COUNTS: [u32; 10] = [
     0xff9f_f06f,
 ];
 
-// Thread 1 takes five steps, which spawn thread 2. With its 44th step after that it stores a flag, and then it jumps to itself. Thread 2
-// loads the flag until it is set, and ends the guest.
+// Thread 1 takes five steps, which spawn thread 2. With its 44th step after that it stores a flag, and then it jumps to
+// itself. Thread 2 loads the flag until it is set, and ends the guest.
 pub(crate) const SPINS: [u32; 18] = [
     0x0000_0517,
     0x0305_0513,
@@ -80,7 +80,8 @@ pub(crate) const BOTH_EXIT: [u32; 8] = [
     0x0000_0073,
 ];
 
-// Thread 1 takes four steps, which spawn thread 2. Then it counts to 3 and exits. Thread 2 yields, over and over, and counts in x5.
+// Thread 1 takes four steps, which spawn thread 2. Then it counts to 3 and exits. Thread 2 yields, over and over, and
+// counts in x5.
 pub(crate) const EXITS_FIRST: [u32; 15] = [
     0x0000_0517,
     0x0285_0513,
@@ -99,8 +100,8 @@ pub(crate) const EXITS_FIRST: [u32; 15] = [
     0xff5f_f06f,
 ];
 
-// Thread 1 takes six steps, which spawn thread 2, and waits on a word, with 8 in x5. Thread 2 counts in x6, wakes thread 1 after a
-// while, and counts on.
+// Thread 1 takes six steps, which spawn thread 2, and waits on a word, with 8 in x5. Thread 2 counts in x6, wakes
+// thread 1 after a while, and counts on.
 pub(crate) const WAITS_FIRST: [u32; 22] = [
     0x7fff_0437,
     0x0080_0293,
@@ -149,8 +150,8 @@ pub(crate) const READS_A_PIECE: [u32; 8] = [
     0x0000_0073,
 ];
 
-// Thread 1 takes five steps, which spawn thread 2. Then both count down from 20,480 in 40,961 steps, and read with their fifth step
-// after that, over and over.
+// Thread 1 takes five steps, which spawn thread 2. Then both count down from 20,480 in 40,961 steps, and read with
+// their fifth step after that, over and over.
 pub(crate) const BOTH_READ: [u32; 14] = [
     0x0000_0517,
     0x0145_0513,
@@ -168,8 +169,8 @@ pub(crate) const BOTH_READ: [u32; 14] = [
     0xfe1f_f06f,
 ];
 
-// Thread 1 takes 15 steps, which spawn threads 2 and 3. Each of the two exits with its 14th step. Thread 1 waits for them by their clear
-// addresses, one after the other, and loads each word before it waits. Then it counts.
+// Thread 1 takes 15 steps, which spawn threads 2 and 3. Each of the two exits with its 14th step. Thread 1 waits for
+// them by their clear addresses, one after the other, and loads each word before it waits. Then it counts.
 pub(crate) const TWO_EXIT: [u32; 37] = [
     0x7fff_0437,
     0x0010_0293,
@@ -210,8 +211,8 @@ pub(crate) const TWO_EXIT: [u32; 37] = [
     0x0000_0073,
 ];
 
-// Thread 1 spawns three, and the four add one to a word three times each, under a lock of LR, SC, wait and wake. Then it waits
-// for the three by their clear addresses, and ends the guest with the word as its code.
+// Thread 1 spawns three, and the four add one to a word three times each, under a lock of LR, SC, wait and wake. Then
+// it waits for the three by their clear addresses, and ends the guest with the word as its code.
 pub(crate) const LOCKED: [u32; 58] = [
     0x7fff_0437,
     0x0030_0913,

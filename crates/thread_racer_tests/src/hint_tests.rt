@@ -1,4 +1,5 @@
-// Epochs by the hints of offers. Of threads that share no word but by steps that synchronise, each ends in the state that is offered.
+// Epochs by the hints of offers. Of threads that share no word but by steps that synchronise, each ends in the state
+// that is offered.
 use crate::cases::{Case, followed};
 use crate::guests::*;
 use std::test::Fail;
@@ -45,7 +46,8 @@ fn calls(rt: HostRuntime) -> Result<(), Fail> {
     Ok(())
 }
 
-// Two threads exit at once, for both of which a third one waits. It looks for the second by a load, before or after that has exited.
+// Two threads exit at once, for both of which a third one waits. It looks for the second by a load, before or after
+// that has exited.
 #[test]
 fn exits(rt: HostRuntime) -> Result<(), Fail> {
     let alloc = rt.alloc();
@@ -72,8 +74,8 @@ fn exits(rt: HostRuntime) -> Result<(), Fail> {
     Ok(())
 }
 
-// Four threads that share a word under a lock of LR, SC, wait and wake. A schedule may lose an SC that the race didn't, so only the
-// hints of one worker are sure to be followed to the end.
+// Four threads that share a word under a lock of LR, SC, wait and wake. A schedule may lose an SC that the race didn't,
+// so only the hints of one worker are sure to be followed to the end.
 #[test]
 fn locks(rt: HostRuntime) -> Result<(), Fail> {
     let alloc = rt.alloc();

@@ -1,7 +1,7 @@
 //! The racing run on several processors, as a crate above it uses it.
 //!
-//! This crate is its tests. States come from runs of slices, from the definition of the schedule by hints, and from the machine's
-//! definition by hand.
+//! This crate is its tests. States come from runs of slices, from the definition of the schedule by hints, and from the
+//! machine's definition by hand.
 #![tactic(auto)]
 
 #[cfg(test)]

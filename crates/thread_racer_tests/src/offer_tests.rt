@@ -17,7 +17,8 @@ use sync_hints::Hints;
 use test_files::WRITES_WORDS;
 use thread_racer::ThreadRacer;
 
-// How many states are offered, and how many of them are those after slices of these steps of thread 1, and then of thread 2.
+// How many states are offered, and how many of them are those after slices of these steps of thread 1, and then of
+// thread 2.
 fn same_as_slices<R: Threads + Sync>(
     rt: &R,
     alloc: Global,
@@ -109,7 +110,8 @@ fn quotas(rt: HostRuntime) -> Result<(), Fail> {
     Ok(())
 }
 
-// A gate that holds thread 1 until thread 2 has passed, and notes that worker 1 brought thread 1, and worker 2 thread 2.
+// A gate that holds thread 1 until thread 2 has passed, and notes that worker 1 brought thread 1, and worker 2 thread
+// 2.
 #[derive(Drop)]
 struct WatchedGate {
     hold: HoldGate,

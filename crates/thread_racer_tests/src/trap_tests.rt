@@ -4,8 +4,8 @@ use std::alloc::Global;
 use std::test::Fail;
 use std::thread::Threads;
 
-// An instruction, and how many stretches of a step for each thread come before the one with the trap. The trap is the second step, and
-// the third if the instruction goes to a page that isn't there.
+// An instruction, and how many stretches of a step for each thread come before the one with the trap. The trap is the
+// second step, and the third if the instruction goes to a page that isn't there.
 type Row = (u32, usize);
 
 fn rows() -> [Row; 12] {
@@ -30,8 +30,8 @@ fn rows() -> [Row; 12] {
     ]
 }
 
-// Thread 1 takes five steps, which spawn thread 2. Then both put 1 in x5 and come to the instruction. Returns the offers in stretches of
-// a step for each thread, and of three steps for each.
+// Thread 1 takes five steps, which spawn thread 2. Then both put 1 in x5 and come to the instruction. Returns the
+// offers in stretches of a step for each thread, and of three steps for each.
 fn offers<R: Threads + Sync>(rt: &R, alloc: Global, word: u32) -> Result<(usize, usize), Fail> {
     let words = [
         0x0000_0517,

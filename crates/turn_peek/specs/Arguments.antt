@@ -1,6 +1,6 @@
--- A kernel's call: its number, its arguments, and the answers of those that fail (environment calls: RISC-V Unprivileged ISA
--- 20191213, 2.8; their numbers and meanings are this machine's own). Register a7 (x17) has the call's number, a0 to a3 (x10 to x13)
--- its arguments, and a0 its answer.
+-- A kernel's call: its number, its arguments, and the answers of those that fail (environment calls: RISC-V
+-- Unprivileged ISA 20191213, 2.8; their numbers and meanings are this machine's own). Register a7 (x17) has the call's
+-- number, a0 to a3 (x10 to x13) its arguments, and a0 its answer.
 use Rattle.std.specs.Prelude.{◌-◌, ◌^◌, ℕ, min}
 use Rattle.dp_base.specs.declared.limits.TheConstants.{MAX_CALL_BYTES}
 use Rattle.guest_state.specs.declared.hart.Hart.{Hart}

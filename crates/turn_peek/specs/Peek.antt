@@ -17,7 +17,8 @@ use Rattle.turn_peek.specs.ReadCall.{read_at_once}
 
 -- ---- calls
 
--- a read that answers at once takes no input; else it takes so many bytes at most, from the place on where the guest's input is
+-- a read that answers at once takes no input; else it takes at most `max` bytes, from the offset of the guest's input
+-- on
 abbrev pub read_peeked : (place max : ℕ) → Option ℕ → Peek
 read_peeked place max (Some answer) = peeks.Sync
 read_peeked place max None = peeks.Read place max
@@ -46,22 +47,22 @@ instruction_peeked (instrs.AmominuW rd rs1 rs2) = peeks.Sync
 instruction_peeked (instrs.AmomaxuW rd rs1 rs2) = peeks.Sync
 instruction_peeked instruction = peeks.Plain
 
--- where there is no instruction, the step traps
+-- if there is no instruction, the step traps
 abbrev pub word_peeked : Option Instr → Peek
 word_peeked None = peeks.Sync
 word_peeked (Some instruction) = instruction_peeked instruction
 
--- by what the step comes to: where the hart goes on, by its instruction; a trap ends the guest
+-- by the outcome of the step: if the hart goes on, by its instruction; a trap ends the guest
 abbrev pub effect_peeked : Hart → Memory → (input : ℕ) → Peek → Effect → Peek
 effect_peeked hart memory input instruction (goes after left) = instruction
 effect_peeked hart memory input instruction calls = call_peeked hart memory input
 effect_peeked hart memory input instruction (traps cause value) = peeks.Sync
 
--- the next turn of a hart that runs, by the word at pc and what it does, where so much of the input was read
+-- the next turn of a hart that runs, by the word at pc and what it does, and by how much of the input was read
 unfoldable pub hart_peeked : Hart → Memory → (input : ℕ) → Peek
 hart_peeked hart memory input = effect_peeked hart memory input (word_peeked (fetched hart.pc memory >>= decoded)) (effect hart memory)
 
--- the next turn of a thread; there is none where it was never made or doesn't run
+-- the next turn of a thread; there is none if it was never made or doesn't run
 abbrev pub thread_peeked : Memory → (input : ℕ) → Option Thread → Peek
 thread_peeked memory input None = peeks.NotRunnable
 thread_peeked memory input (Some (Runs hart clear)) = hart_peeked hart memory input

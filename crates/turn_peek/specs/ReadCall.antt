@@ -4,8 +4,8 @@ use Rattle.dp_base.specs.Memory.{Memory, bytes_with}
 use Rattle.guest_state.specs.declared.hart.Hart.{Hart}
 use Rattle.turn_peek.specs.Arguments.{a0, a1, a2, minus, moved, EBADF, EFAULT}
 
--- What it answers at once, by memory and its arguments; none where it takes input: where it reads standard input, asks for some
--- bytes, and each of those that one call moves may be written.
+-- What it answers at once, by memory and its arguments; none if it takes input: if it reads standard input, asks for
+-- some bytes, and each of those that one call moves may be written.
 abbrev pub answered_at_once : Memory → (fd addr len : ℕ) → Option ℕ
 answered_at_once memory fd addr len =
     if not (fd == 0) then Some (minus EBADF)

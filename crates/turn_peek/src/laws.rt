@@ -1,5 +1,5 @@
-//! What follows from the definitions alone. Each function's contract is a law over all instructions, harts and memories; a call
-//! of it costs nothing and hands the law to the caller's proof.
+//! What follows from the definitions alone. Each function's contract is a law over all instructions, harts and
+//! memories; a call of it costs nothing and hands the law to the caller's proof.
 
 ghost use Rattle.std.specs.Prelude.{◌≡◌, ◌⊎◌, ◌<◌, ◌≤◌, ℕ, Bool, Option};
 ghost use Rattle.dp_base.specs.declared.limits.TheConstants.{MAX_CALL_BYTES};
@@ -14,8 +14,8 @@ pub fn an_instruction_asks_for_nothing()
     ensures { (i : Instr) → (instruction_peeked i ≡ Peek.Plain) ⊎ ((instruction_peeked i ≡ Peek.Sync) ⊎ (instruction_peeked i ≡ Peek.Sc)) }
 {}
 
-/// What a hart's next turn asks for doesn't hang on its reservation: no test tells the turns with and without it apart, but one
-/// that tells Plain, Sync and Sc apart.
+/// What a hart's next turn asks for doesn't depend on its reservation: no test differs with and without it, but one
+/// that distinguishes Plain, Sync and Sc.
 pub fn a_reservation_asks_for_nothing()
     ensures { (f : Peek → Bool) (hart : Hart) (memory : Memory) (input : ℕ) → f Peek.Plain ≡ f Peek.Sync → f Peek.Sc ≡ f Peek.Sync
         → f (hart_peeked (record hart { held = None }) memory input) ≡ f (hart_peeked hart memory input) }

@@ -31,13 +31,13 @@ pub enum Peek {
     Sync,
     /// An SC.
     Sc,
-    /// A call that reads so many bytes of input at most, from this place on.
+    /// A call that reads at most `max` bytes of input, from this offset on.
     Read { place: u64, max: u32 },
     /// A call that reads the clock.
     Clock,
 }
 
-/// Returns what a thread's next turn is, where its guest has read so much of its input.
+/// Returns what a thread's next turn is. `input` is how many bytes of its input the guest has read.
 pub fn peek_thread(thread: &Thread, pages: &Pages, input: u64) -> Peek
     ensures { result ≡ thread_peeked pages.now input (Some thread.now) }
 {
@@ -141,14 +141,14 @@ fn bytes_of(width: Width) -> u32
     }
 }
 
-// The same whether it traps or not, as an AMO.
+// It synchronises whether it traps or not, as an AMO does.
 fn at_load_reserved() -> Peek
     ensures { (rd at input : ℕ) (h : Hart) (m : Memory) → result ≡ effect_peeked h m input Peek.Sync (loads_reserved rd at h m) }
 {
     Peek::Sync
 }
 
-// An SC traps where the word may not be stored, also where its address isn't reserved.
+// An SC traps if the word may not be stored, also if its address isn't reserved.
 fn at_store_conditional(pages: &Pages, at: u32) -> Peek
     ensures { (rd value input : ℕ) (h : Hart) → result ≡ effect_peeked h pages.now input Peek.Sc (stores_conditional rd at value h pages.now) }
 {

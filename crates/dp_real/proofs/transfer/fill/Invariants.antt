@@ -1,4 +1,4 @@
--- What stands at the start of the buffer is what was consumed.
+-- What is at the start of the buffer is what was consumed.
 use Rattle.std.proofs.Common.{◌≡◌, length, take, ◌-◌, ◌≤◌}
 use Rattle.std.specs.Io.KnownBytes.{Consumes}
 use Rattle.dp_real.proofs.transfer.fill.Given as goal
