@@ -8,11 +8,11 @@ ghost use Rattle.epoch_stream.specs.Streams.{AreRoundParts};
 
 use crate::bell::Bells;
 use crate::deposit::{Deposit, EpochBoard};
-use crate::tray::{Taken, take_all};
+use crate::promises::{join_all, join_racer, start_all, start_racer};
 use crate::race::{RaceEndOf, Raced, RacingOf};
 use crate::round_parts::RoundParts;
-use crate::promises::{join_all, join_racer, start_all, start_racer};
 use crate::taker::Taker;
+use crate::tray::{Taken, take_all};
 use disk_model::Gate;
 use dp_base::OutOfMemory;
 use epoch_pool::Job;

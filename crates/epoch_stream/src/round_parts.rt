@@ -7,8 +7,8 @@ ghost use Rattle.epoch_stream.specs.Rounds.{ArePasses};
 ghost use Rattle.epoch_stream.specs.Streams.{IsBlank, IsSetUp};
 
 use crate::deposit::{Deposit, EpochBoard};
-use crate::tray::Tray;
 use crate::promises::Started;
+use crate::tray::Tray;
 use crate::worker_pass::Pass;
 use dp_base::OutOfMemory;
 use epoch_pool::Job;

@@ -28,11 +28,11 @@ mod plain_tests;
 #[cfg(test)]
 mod slice_tests;
 #[cfg(test)]
-mod thread_states;
-#[cfg(test)]
 mod start_tests;
 #[cfg(test)]
 mod state_tests;
+#[cfg(test)]
+mod thread_states;
 #[cfg(test)]
 mod thread_tests;
 #[cfg(test)]
