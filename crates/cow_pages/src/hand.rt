@@ -1,6 +1,6 @@
-// The pages in hand: those that a table last stored to. They are taken out of its tree, so that an access finds them at once, and
-// a store to them walks no tree. Each is at an entry by its number, and goes back into the tree if a store to another page needs
-// the entry.
+// The pages in hand: those that a table last stored to. They are taken out of its tree, so that an access finds them at
+// once, and a store to them walks no tree. Each is at an entry by its number, and goes back into the tree if a store to
+// another page needs the entry.
 ghost use Rattle.std.specs.Prelude.{◌≡◌, ◌+◌, ◌<◌, ◌≤◌, ℕ, IfOk, IfSome, None, OnErr, OnOk, is_some, length, replicate, slice_set};
 ghost use Rattle.std.specs.Option.{option_copied, option_map};
 ghost use Rattle.byteorder.specs.Endian.{little_bytes};
@@ -48,8 +48,8 @@ fn entry_of(number: u32) -> usize
     (number + number / 1024) % ENTRIES
 }
 
-// Writes to the page of an entry, if it has the number and may be written. Returns whether it does and may. An `Err` changes
-// nothing.
+// Writes to the page of an entry, if it has the number and may be written. Returns whether it does and may. An `Err`
+// changes nothing.
 #[inline(always)]
 fn write_entry(
     entry: &mut Option<Frame>,
@@ -150,8 +150,8 @@ impl Hand {
         self.entries[entry_of(number)] = page;
     }
 
-    // Writes the low bytes of a value to the page with a number, if it is in hand and may be written. Returns whether it is and may. An
-    // `Err` changes nothing.
+    // Writes the low bytes of a value to the page with a number, if it is in hand and may be written. Returns whether
+    // it is and may. An `Err` changes nothing.
     #[inline(always)]
     pub fn write(
         &mut self,
@@ -210,8 +210,8 @@ impl Hand {
         }
     }
 
-    // Takes the page with this number out of the tree. The page that had its entry goes back into the tree. No page changes, also on
-    // an `Err`.
+    // Takes the page with this number out of the tree. The page that had its entry goes back into the tree. No page
+    // changes, also on an `Err`.
     #[cold]
     #[inline(never)]
     fn take(&mut self, root: &mut Root, alloc: Global, number: u32) -> Result<(), OutOfMemory>
@@ -239,8 +239,8 @@ impl Hand {
         self.take(root, alloc, number)
     }
 
-    // Writes the low bytes of a value to the page with a number, if it may be written, and takes the page in hand before. Returns
-    // whether it may be written. An `Err` changes no page.
+    // Writes the low bytes of a value to the page with a number, if it may be written, and takes the page in hand
+    // before. Returns whether it may be written. An `Err` changes no page.
     pub fn take_and_write(
         &mut self,
         root: &mut Root,

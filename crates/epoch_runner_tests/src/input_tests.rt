@@ -61,7 +61,7 @@ pub(crate) fn told_answers(answers: &[Answer]) -> [Took; 3] {
 }
 
 // What the epoch of a state has done, with a supply, so many steps and so many in a slice, from thread 1 on; or `None`
-// where there is nothing to run.
+// if there is nothing to run.
 pub(crate) fn run_from(
     alloc: Global,
     start: State,
