@@ -114,6 +114,15 @@ HasApplied c events.Judge verdict there = HasJudged c verdict there
 
 -- ---- on the way. This serves the contract of the crate's own step.
 
+-- the epoch that was taken, if one was
+abbrev pub epoch_in : Stage → Option EpochRun
+epoch_in Offered = None
+epoch_in Claimed = None
+epoch_in Done = None
+epoch_in (Taken (Epoch r)) = Some r
+epoch_in (Taken (Idle s)) = None
+epoch_in Judged = None
+
 abbrev pub IsJudgement : State → Option Stage → Judgement → Type 0
 IsJudgement s None j = j ≡ judgements.NotYet
 IsJudgement s (Some Offered) j = j ≡ judgements.NotYet

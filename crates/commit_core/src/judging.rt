@@ -5,13 +5,13 @@ ghost use Rattle.epoch_runner.specs.declared.epoch_run.EpochRun.{EpochRun};
 ghost use Rattle.epoch_runner.specs.declared.epoch_run.Ran.TheVariants.{Epoch};
 ghost use Rattle.std.specs.Option.{option_copied};
 ghost use Rattle.dp_base.specs.declared.limits.TheConstants.{MAX_JOBS};
-ghost use Rattle.commit_core.specs.Judging.{HasApplied, HasJudged, IsJudgement, claimed, new_core, finished, offered, stage_at, taken};
+ghost use Rattle.commit_core.specs.Judging.{HasApplied, HasJudged, IsJudgement, claimed, epoch_in, new_core, finished, offered, stage_at, taken};
 
 use crate::event::Event;
 use crate::stage::Stage;
 use crate::verdict::Verdict;
 use dp_base::OutOfMemory;
-use epoch_runner::Ran;
+use epoch_runner::{EpochRun, Ran};
 use guest_kernel::State;
 use state_compare::equal;
 use std::alloc::Global;
@@ -190,10 +190,8 @@ impl Core {
                 Verdict::Over { i }
             }
             Judgement::Commit => {
-                let Stage::Taken(Ran::Epoch(run)) = replace(
-                    &mut self.jobs[self.judged as usize],
-                    Stage::Judged,
-                ) else {
+                let taken = replace(&mut self.jobs[self.judged as usize], Stage::Judged);
+                let Some(run) = epoch_in(taken) else {
                     unreachable!();
                 };
                 self.committed = run.end;
@@ -215,6 +213,20 @@ fn stage_of(jobs: &[Stage], i: u32) -> Option<&Stage>
         return None;
     }
     jobs.get(i as usize - 1)
+}
+
+// The epoch that was taken. `None` if there is none.
+fn epoch_in(stage: Stage) -> Option<EpochRun>
+    ensures { result ≡ epoch_in stage }
+{
+    match stage {
+        Stage::Taken(Ran::Epoch(run)) => Some(run),
+        Stage::Taken(Ran::Idle(_)) => None,
+        Stage::Offered => None,
+        Stage::Claimed => None,
+        Stage::Done => None,
+        Stage::Judged => None,
+    }
 }
 
 // The judgement of a job, by its last event.
