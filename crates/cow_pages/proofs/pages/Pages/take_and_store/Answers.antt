@@ -17,7 +17,7 @@ invariant_of-self c =
     let bytes = little_bytes (width_bytes c.args.width) c.args.value in (
       table_changed c.take_and_write.result hand c.take_and_write.new.self root c.take_and_write.new.root c.self.inside.numbers c.args.number (written c.args.offset bytes) c.self.invariant.0
           (written_rewritten c.args.offset bytes) c.take_and_write.ensures.ok c.take_and_write.ensures.err,
-      aside_after c.take_and_write.result hand c.take_and_write.new.self root c.take_and_write.new.root c.args.number (written c.args.offset bytes) c.self.inside.code c.forget.new.code c.forget.ensures c.self.invariant.1
+      aside_after c.take_and_write.result hand c.take_and_write.new.self root c.take_and_write.new.root c.args.number (written c.args.offset bytes) c.self.inside.code c.forget.new.self c.forget.ensures c.self.invariant.1
           c.take_and_write.ensures.unheld c.take_and_write.ensures.ok c.take_and_write.ensures.err,
     )
 
