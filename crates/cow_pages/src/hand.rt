@@ -102,7 +102,7 @@ impl Hand {
     pub fn new(alloc: Global) -> Result<Hand, OutOfMemory>
         ensures { IfOk result (λ hand. hand ≡ replicate ENTRIES None) }
     {
-        let mut entries = Vec::new(alloc);
+        let mut entries = Vec::with_capacity(alloc, ENTRIES)?;
         grow(&mut entries, ENTRIES)?;
         Ok(Hand { entries })
     }
