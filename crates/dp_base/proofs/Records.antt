@@ -1,4 +1,4 @@
--- The header and the records of a journal: decoded as they are encoded, and in no other way.
+-- The header of a journal: decoded as it is encoded, and in no other way. What an append writes determines its body.
 use Rattle.std.proofs.Common.{◌≡◌, ℕ, ◌<◌, ◌≤◌, true, cond, eqb, ltb, leb, ◌&&◌, List, [], ◌∷◌, ◌++◌, length, Option, Some, None, refl, sym, ap, subst, ◌∙◌, append_assoc, arith}
 use Rattle.std.specs.Str.{bytes_eq}
 use Rattle.std.proofs.lemmas.Bool.{and_parts, eqb-true, ltb-true, leb-true, lt-ltb, le-leb, and_from, cond-true}
@@ -6,66 +6,35 @@ use Rattle.std.proofs.lemmas.Option.{cond_some}
 use Rattle.std.proofs.lemmas.Slice.Eq.{bytes_eq-Decides}
 use Rattle.dp_base.specs.declared.limits.TheConstants.{MAX_BODY_BYTES}
 use Rattle.dp_base.specs.Field.{AreBytes, ◌>>=◌, bytes_at, number_at}
-use Rattle.dp_base.specs.Journal.{IsBody, IsGuest, open_gate, closed_gate, magic, header_body, header, length_prefixed, frame, record_of, header_at, record_at}
+use Rattle.dp_base.specs.Journal.{IsBody, IsGuest, open_gate, closed_gate, magic, header_body, header, length_prefixed, frame, header_at}
 use Rattle.dp_base.specs.Encoding.{IsPrefixCode}
 use Rattle.dp_base.proofs.Fields.{bind_some, Splits, Splits-then, bytes_taken, bytes_found, byte_taken, length_prefixed_taken, length_prefixed_found, number_found, bind_at, none_after, code_from}
 
--- ---- records
+-- ---- frames
 
-abbrev record_end : ℕ × List ℕ → ℕ × List ℕ → List ℕ × List ℕ → Option (List ℕ × List ℕ)
-record_end gate size body = cond (eqb gate.0 open_gate && ltb 0 size.0 && leb size.0 MAX_BODY_BYTES) (Some body) None
+-- the body after its length, and the bytes after it
+abbrev sized_body : ℕ × List ℕ → Option (List ℕ × List ℕ)
+sized_body size = bytes_at size.0 size.1
 
-abbrev record_size : ℕ × List ℕ → ℕ × List ℕ → Option (List ℕ × List ℕ)
-record_size gate size = bytes_at size.0 size.1 >>= record_end gate size
+abbrev prefixed_at : List ℕ → Option (List ℕ × List ℕ)
+prefixed_at bytes = number_at 4 bytes >>= sized_body
 
-abbrev record_gate : ℕ × List ℕ → Option (List ℕ × List ℕ)
-record_gate gate = number_at 4 gate.1 >>= record_size gate
+prefixed_found : (body rest : List ℕ) → IsBody body → prefixed_at (length_prefixed body ++ rest) ≡ Some (body, rest)
+prefixed_found body rest fits =
+    bind_at (number_at 4 (length_prefixed body ++ rest)) sized_body (length body, body ++ rest) (Some (body, rest))
+    (length_prefixed_found 4 body rest (omega (arith, fits.1))) (bytes_found body rest)
 
-record_taken : (bytes : List ℕ) (x : List ℕ × List ℕ) → AreBytes bytes → record_at bytes ≡ Some x → Splits bytes (record_of x.0) x.1 × IsBody x.0
-unfolding record_at
-record_taken bytes x fits e =
-    let a = bind_some (number_at 1 bytes) record_gate x e in
-    let b = bind_some (number_at 4 a.0.1) (record_size a.0) x a.2 in
-    let c = bind_some (bytes_at b.0.0 b.0.1) (record_end a.0 b.0) x b.2 in
-    let g = cond_some (eqb a.0.0 open_gate && ltb 0 b.0.0 && leb b.0.0 MAX_BODY_BYTES) c.0 x c.2 in
-    let tests = and_parts (eqb a.0.0 open_gate && ltb 0 b.0.0) (leb b.0.0 MAX_BODY_BYTES) g.0 in
-    let both_tests = and_parts (eqb a.0.0 open_gate) (ltb 0 b.0.0) tests.0 in
-    let some : 0 < b.0.0 = ltb-true _ _ both_tests.1 in
-    let few : b.0.0 ≤ MAX_BODY_BYTES = leb-true _ _ tests.1 in
-    let gate = byte_taken open_gate bytes a.0 fits a.1 (eqb-true _ _ both_tests.0) in
-    let body = length_prefixed_taken 4 a.0.1 b.0 c.0 gate.left b.1 c.1 in
-    let whole = Splits-then bytes (open_gate ∷ []) a.0.1 (length_prefixed c.0.0) c.0.1 gate body.0 in
-    subst (λ (y : List ℕ × List ℕ). Splits bytes (record_of y.0) y.1 × IsBody y.0) {x = c.0} g.1
-    (whole, (subst (λ (k : ℕ). 0 < k) (sym body.1) some, subst (λ (k : ℕ). k ≤ MAX_BODY_BYTES) (sym body.1) few, body.3))
-
-record_found : (body rest : List ℕ) → IsBody body → record_at (record_of body ++ rest) ≡ Some (body, rest)
-unfolding record_at
-record_found body rest fits =
-    let gate : ℕ × List ℕ = (open_gate, length_prefixed body ++ rest) in
-    let size : ℕ × List ℕ = (length body, body ++ rest) in
-    let found : List ℕ × List ℕ = (body, rest) in
-    let some : ltb 0 (length body) ≡ true = lt-ltb _ _ fits.0 in
-    let few : leb (length body) MAX_BODY_BYTES ≡ true = le-leb _ _ fits.1 in
-    let size-is = length_prefixed_found 4 body rest (omega (arith, fits.1)) in
-    let last : record_end gate size found ≡ Some found = cond-true _ _ _ (and_from _ _ some few) in
-    bind_at (number_at 1 (record_of body ++ rest)) record_gate gate (Some found) (number_found 1 open_gate (length_prefixed body ++ rest) (omega arith))
-    (bind_at (number_at 4 gate.1) (record_size gate) size (Some found) size-is
-    (bind_at (bytes_at size.0 size.1) (record_end gate size) found (Some found) (bytes_found body rest) last))
-
-pub record_code : IsPrefixCode record_at record_of IsBody
-record_code = code_from record_at record_of IsBody record_found record_taken
-
--- ---- frames, which are records with the gate moved after them
-
-pub frame_split : (body rest : List ℕ) → frame body ++ rest ≡ length_prefixed body ++ closed_gate ∷ rest
-frame_split body rest = append_assoc (length_prefixed body) (closed_gate ∷ []) rest
+same_parts : (a b x y : List ℕ) → ◌≡◌ {A = Option (List ℕ × List ℕ)} (Some (a, closed_gate ∷ x)) (Some (b, closed_gate ∷ y)) → (a ≡ b) × (x ≡ y)
+same_parts a b x y found =
+    let same : ◌≡◌ {A = List ℕ × List ℕ} (a, closed_gate ∷ x) (b, closed_gate ∷ y) = cc in
+    let rest : closed_gate ∷ x ≡ closed_gate ∷ y = ap (λ (p : List ℕ × List ℕ). p.1) same in
+    (ap (λ (p : List ℕ × List ℕ). p.0) same, cc)
 
 pub frame_one : (a b x y : List ℕ) → IsBody a → IsBody b → frame a ++ x ≡ frame b ++ y → (a ≡ b) × (x ≡ y)
 frame_one a b x y a-is b-is e =
-    let moved : record_of a ++ closed_gate ∷ x ≡ record_of b ++ closed_gate ∷ y = ap (λ (t : List ℕ). open_gate ∷ t) (sym (frame_split a x) ∙ e ∙ frame_split b y) in
-    let both = record_code.prefix_free a b (closed_gate ∷ x) (closed_gate ∷ y) a-is b-is moved in
-    let same : closed_gate ∷ x ≡ closed_gate ∷ y = both.1 in
-    (both.0, cc)
+    let split = λ (body rest : List ℕ). append_assoc (length_prefixed body) (closed_gate ∷ []) rest in
+    let moved : length_prefixed a ++ closed_gate ∷ x ≡ length_prefixed b ++ closed_gate ∷ y = sym (split a x) ∙ e ∙ split b y in
+    same_parts a b x y (sym (prefixed_found a (closed_gate ∷ x) a-is) ∙ ap prefixed_at moved ∙ prefixed_found b (closed_gate ∷ y) b-is)
 
 -- ---- the header
 
@@ -116,13 +85,6 @@ pub header_code : IsPrefixCode header_at header IsGuest
 header_code = code_from header_at header IsGuest header_found header_taken
 
 -- ---- a closed gate
-
-pub record_behind_closed : (rest : List ℕ) → record_at (closed_gate ∷ rest) ≡ None
-unfolding record_at
-record_behind_closed rest =
-    let gate : ℕ × List ℕ = (closed_gate, rest) in
-    bind_at (number_at 1 (closed_gate ∷ rest)) record_gate gate None (number_found 1 closed_gate rest (omega arith))
-    (none_after (number_at 4 rest) (record_size gate) (λ size. none_after (bytes_at size.0 size.1) (record_end gate size) (λ body. refl)))
 
 pub header_behind_closed : (rest : List ℕ) → header_at (closed_gate ∷ rest) ≡ None
 unfolding header_at

@@ -1,6 +1,6 @@
 -- The bytes of a journal, format DPJ1. This project's own; docs/JOURNAL.md shows them.
--- Each value has an encoding (`header`, `record_of`, `epoch_body`), and with it what a reader accepts at the start of
--- bytes (`header_at`, `record_at`, `epoch_body_at`): the value, and the bytes after it.
+-- Each value has an encoding (`header`, `epoch_body`), and with it what a reader accepts at the start of bytes
+-- (`header_at`, `epoch_body_at`): the value, and the bytes after it. journal_text says what a reader finds at a record.
 use Rattle.std.specs.Prelude.{◌^◌, ◌<◌, ◌≤◌, ℕ, zero, suc, List, [], ◌∷◌, ◌++◌, length, sum_by, Option, Some, None, ◌==◌, ◌&&◌, nat_lt, nat_le, if◌then◌else◌}
 use Rattle.std.specs.List.{flat_map, AllByRecursion}
 use Rattle.std.specs.Str.{bytes_eq}
@@ -87,10 +87,6 @@ abbrev pub epoch_body : Epoch → List ℕ
 epoch_body e = 0 ∷ (little_bytes 4 (length e.slices) ++ (flat_map slice e.slices
     ++ (little_bytes 4 (length e.answers) ++ flat_map answer e.answers)))
 
--- a journal at rest: the header, a record for each epoch, and the closed gate
-abbrev pub journal : List ℕ → List Epoch → List ℕ
-journal guest epochs = header guest ++ (flat_map (λ e. record_of (epoch_body e)) epochs ++ closed_gate ∷ [])
-
 -- ---- what a reader accepts
 
 unfoldable pub header_at : List ℕ → Option (List ℕ × List ℕ)
@@ -100,13 +96,6 @@ header_at bytes = do
   size ← number_at 4 word.1
   guest ← bytes_at size.0 size.1
   if (gate.0 == open_gate) && bytes_eq word.0 magic then Some guest else None
-
-unfoldable pub record_at : List ℕ → Option (List ℕ × List ℕ)
-record_at bytes = do
-  gate ← number_at 1 bytes
-  size ← number_at 4 gate.1
-  body ← bytes_at size.0 size.1
-  if (gate.0 == open_gate) && nat_lt 0 size.0 && nat_le size.0 MAX_BODY_BYTES then Some body else None
 
 unfoldable pub slice_at : List ℕ → Option (Slice × List ℕ)
 slice_at bytes = do

@@ -4,7 +4,7 @@ ghost use Rattle.std.specs.Prelude.{◌≡◌, ◌++◌, ◌∷◌, [], ℕ, ◌
 ghost use Rattle.std.specs.List.{flat_map};
 ghost use Rattle.byteorder.specs.Endian.{little_bytes};
 ghost use Rattle.dp_base.specs.Field.{number_at};
-ghost use Rattle.dp_base.specs.Journal.{Epoch, IsGuest, IsBody, IsSlice, IsAnswer, IsEpoch, header, header_at, record_of, record_at, frame, closed_gate, slice, slice_at, answer, answer_at, epoch_body, epoch_body_at};
+ghost use Rattle.dp_base.specs.Journal.{Epoch, IsGuest, IsBody, IsSlice, IsAnswer, IsEpoch, header, header_at, record_of, frame, closed_gate, slice, slice_at, answer, answer_at, epoch_body, epoch_body_at};
 ghost use Rattle.dp_base.specs.declared.slice.Slice.{Slice};
 ghost use Rattle.dp_base.specs.Encoding.{IsPrefixCode, IsWholeCode};
 
@@ -23,20 +23,14 @@ pub fn headers()
     ensures { IsPrefixCode header_at header IsGuest }
 {}
 
-/// A body has one record, and a record holds one body.
-pub fn records()
-    ensures { IsPrefixCode record_at record_of IsBody }
-{}
-
 /// What an append writes determines the body and all that follows it.
 pub fn frames()
     ensures { (a b x y : List ℕ) → IsBody a → IsBody b → frame a ++ x ≡ frame b ++ y → (a ≡ b) × (x ≡ y) }
 {}
 
-/// What follows a closed gate is no header and no record.
+/// What follows a closed gate is no header.
 pub fn closed_gates()
-    ensures header { (rest : List ℕ) → header_at (closed_gate ∷ rest) ≡ None }
-    ensures record { (rest : List ℕ) → record_at (closed_gate ∷ rest) ≡ None }
+    ensures { (rest : List ℕ) → header_at (closed_gate ∷ rest) ≡ None }
 {}
 
 /// A slice has one encoding.
@@ -59,7 +53,6 @@ pub fn epochs()
 pub fn whole_values()
     ensures numbers { (n : ℕ) → IsWholeCode (number_at n) (little_bytes n) (λ x. x < 256 ^ n) }
     ensures headers { IsWholeCode header_at header IsGuest }
-    ensures records { IsWholeCode record_at record_of IsBody }
     ensures slices { IsWholeCode slice_at slice IsSlice }
     ensures answers { IsWholeCode answer_at answer IsAnswer }
     ensures epochs { IsWholeCode epoch_body_at epoch_body IsEpoch }

@@ -4,7 +4,7 @@
 ghost use Rattle.std.specs.Prelude.{◌≡◌, ◌∷◌, [], ◌≤◌, ℕ, List, length, Some, None};
 ghost use Rattle.byteorder.specs.Endian.{little_bytes};
 ghost use Rattle.dp_base.specs.Field.{AreBytes, bytes_at, number_at};
-ghost use Rattle.dp_base.specs.Journal.{IsSlice, IsAnswer, IsBody, IsGuest, answer_at, epoch_body, epoch_body_at, frame, header, header_at, journal, record_at, record_of, slice, slice_at};
+ghost use Rattle.dp_base.specs.Journal.{IsSlice, IsAnswer, IsBody, IsGuest, answer_at, epoch_body, epoch_body_at, frame, header, header_at, record_of, slice, slice_at};
 ghost use Rattle.dp_base.specs.Encoding.{IsPrefixCode, IsPrefixOf, whole};
 ghost use Rattle.dp_base.specs.declared.answer.Answer.TheVariants.{Read, Clock};
 
@@ -49,14 +49,9 @@ fn headers()
     ensures too_long { (guest : List ℕ) → length guest ≡ 4294967296 → IsGuest guest → ⊥ }
 {}
 
-#[tactic(auto, unfolding(dp_base::specs::Journal::record_at))]
 fn records()
     ensures encoded { record_of (0xaa ∷ []) ≡ 1 ∷ 1 ∷ 0 ∷ 0 ∷ 0 ∷ 0xaa ∷ [] }
     ensures framed { frame (0xaa ∷ []) ≡ 1 ∷ 0 ∷ 0 ∷ 0 ∷ 0xaa ∷ 0 ∷ [] }
-    ensures read { record_at (1 ∷ 1 ∷ 0 ∷ 0 ∷ 0 ∷ 0xaa ∷ 0 ∷ []) ≡ Some (0xaa ∷ [], 0 ∷ []) }
-    ensures torn_gate { record_at (7 ∷ 1 ∷ 0 ∷ 0 ∷ 0 ∷ 0xaa ∷ 0 ∷ []) ≡ None }
-    ensures empty { record_at (1 ∷ 0 ∷ 0 ∷ 0 ∷ 0 ∷ 0 ∷ []) ≡ None }
-    ensures not_whole { record_at (1 ∷ 2 ∷ 0 ∷ 0 ∷ 0 ∷ 0xaa ∷ []) ≡ None }
     ensures no_body { IsBody [] → ⊥ }
     ensures longest { (body : List ℕ) → length body ≡ 16777216 → AreBytes body → IsBody body }
     ensures too_long { (body : List ℕ) → length body ≡ 16777217 → IsBody body → ⊥ }
@@ -98,9 +93,4 @@ fn epochs()
     ensures mark { epoch_body_at (1 ∷ 1 ∷ 0 ∷ 0 ∷ 0 ∷ 1 ∷ 0 ∷ 3 ∷ 0 ∷ 0 ∷ 0 ∷ 0 ∷ 0 ∷ 0 ∷ 0 ∷ []) ≡ None }
     ensures most_steps { epoch_body_at (0 ∷ 1 ∷ 0 ∷ 0 ∷ 0 ∷ 1 ∷ 0 ∷ 0x40 ∷ 0x42 ∷ 0x0f ∷ 0 ∷ 0 ∷ 0 ∷ 0 ∷ 0 ∷ []) ≡ Some (record { slices = record { tid = record { 0 = 1 }; steps = 1000000 } ∷ []; answers = [] }, []) }
     ensures one_step_more { epoch_body_at (0 ∷ 2 ∷ 0 ∷ 0 ∷ 0 ∷ 1 ∷ 0 ∷ 0x40 ∷ 0x42 ∷ 0x0f ∷ 0 ∷ 2 ∷ 0 ∷ 1 ∷ 0 ∷ 0 ∷ 0 ∷ 0 ∷ 0 ∷ 0 ∷ 0 ∷ []) ≡ None }
-{}
-
-// A journal of a guest of one byte with two epochs.
-fn journals()
-    ensures { journal (0xaa ∷ []) (record { slices = record { tid = record { 0 = 1 }; steps = 3 } ∷ []; answers = [] } ∷ record { slices = record { tid = record { 0 = 1 }; steps = 4 } ∷ []; answers = [] } ∷ []) ≡ 1 ∷ 0x44 ∷ 0x50 ∷ 0x4a ∷ 0x31 ∷ 1 ∷ 0 ∷ 0 ∷ 0 ∷ 0xaa ∷ 1 ∷ 15 ∷ 0 ∷ 0 ∷ 0 ∷ 0 ∷ 1 ∷ 0 ∷ 0 ∷ 0 ∷ 1 ∷ 0 ∷ 3 ∷ 0 ∷ 0 ∷ 0 ∷ 0 ∷ 0 ∷ 0 ∷ 0 ∷ 1 ∷ 15 ∷ 0 ∷ 0 ∷ 0 ∷ 0 ∷ 1 ∷ 0 ∷ 0 ∷ 0 ∷ 1 ∷ 0 ∷ 4 ∷ 0 ∷ 0 ∷ 0 ∷ 0 ∷ 0 ∷ 0 ∷ 0 ∷ 0 ∷ [] }
 {}

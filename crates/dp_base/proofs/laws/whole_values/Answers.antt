@@ -1,5 +1,5 @@
 use Rattle.dp_base.proofs.Fields.{number_code}
-use Rattle.dp_base.proofs.Records.{header_code, record_code}
+use Rattle.dp_base.proofs.Records.{header_code}
 use Rattle.dp_base.proofs.Epochs.{slice_code, answer_code, epoch_code}
 use Rattle.dp_base.proofs.Whole.{whole_code}
 use Rattle.dp_base.proofs.laws.whole_values.Goals as goal
@@ -9,9 +9,6 @@ returns-clause-numbers c = λ n. whole_code (number_code n)
 
 pub returns-clause-headers : goal.returns-clause-headers
 returns-clause-headers c = whole_code header_code
-
-pub returns-clause-records : goal.returns-clause-records
-returns-clause-records c = whole_code record_code
 
 pub returns-clause-slices : goal.returns-clause-slices
 returns-clause-slices c = whole_code slice_code
