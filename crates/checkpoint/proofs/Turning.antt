@@ -22,7 +22,7 @@ use Rattle.guest_state.proofs.CheckpointCode.{bounds_of}
 use Rattle.dp_base.specs.Memory.{Memory, bytes_with, loaded, put_bytes, stored}
 use Rattle.guest_state.specs.Register.{with_register, next}
 use Rattle.guest_kernel.specs.declared.state.State.{State}
-use Rattle.guest_kernel.specs.Break.{may_move_break, page_from, with_break}
+use Rattle.guest_kernel.specs.Break.{may_move_break, page_rounded_up, with_break}
 use Rattle.guest_kernel.specs.Call.{Written, answered, begins_to_wait, bytes_written, called, cleared, end_of_exit, end_of_waiting, exits, exits_all, is_cleared, may_spawn, sets_break, silent, spawned_hart, spawns, waits, waits_by, wakes, written_out, written_by, EAGAIN, EINVAL, ENOSYS, called_alone, has_clock, has_read}
 use Rattle.turn_peek.specs.Arguments.{a0, a1, a2, a3, minus, moved, EFAULT}
 use Rattle.dp_base.proofs.Lists.{all_append, all_set, get_set, set_set}
@@ -302,8 +302,8 @@ module _ (laws : TurnLaws) (s : State) (tid : Tid) (hart : Hart) (clear : ℕ) (
       let start = and_parts _ _ (and_parts _ _ heap_is).0 in
       let few = leb-true (length (with_break s new)) MAX_PAGES parts.1 in
       let below = leb-true new HEAP_END range.1 in
-      let pages = laws.heap_pages s.pages (page_from s.heap) (page_from new) (page_from s.brk) (risen_pages s.pages pages_are.each pages_are.rise pages_are.few) (omega (arith, below)) few in
-      let bytes = laws.heap_bytes s.pages (page_from s.heap) (page_from new) (page_from s.brk) bytes_are in (
+      let pages = laws.heap_pages s.pages (page_rounded_up s.heap) (page_rounded_up new) (page_rounded_up s.brk) (risen_pages s.pages pages_are.each pages_are.rise pages_are.few) (omega (arith, below)) few in
+      let bytes = laws.heap_bytes s.pages (page_rounded_up s.heap) (page_rounded_up new) (page_rounded_up s.brk) bytes_are in (
         and_from _ _ (and_from _ _ start.0 range.0) range.1,
         record { each = contents (with_break s new) pages.each bytes; few = few; rise = pages_rise (with_break s new) pages.rising },
         omega (arith, below),

@@ -10,7 +10,7 @@ use Rattle.commit_core.specs.declared.stage.Stage.{Stage}
 use Rattle.commit_core.specs.declared.stage.Stage.TheVariants.{Offered, Claimed, Done, Taken, Judged}
 use Rattle.commit_core.specs.declared.verdict.Verdict.{Verdict}
 use Rattle.commit_core.specs.declared.verdict.Verdict.TheVariants.{Noted, Double, Stranger, Commit, Squash, Over}
-use Rattle.commit_core.specs.Judging.{Core, HasApplied, JudgesNext, JudgesWhere, claimed, finished, offered, stage_at, taken, with_job, with_stage}
+use Rattle.commit_core.specs.Judging.{Core, HasApplied, JudgesNext, JudgesWhere, on_claim, on_done, on_offer, stage_at, on_take, with_job, with_stage}
 use Rattle.commit_core.specs.Noting.{Goes, IsRefusal, NotesOrRefuses}
 
 pick : (b : Bool) (x y : Verdict × Core) → b ≡ true → (if b then x else y) ≡ x
@@ -43,7 +43,7 @@ other : (o : Option Stage) (at : Option Stage) (s : Stage) → at ≡ o → (o �
 other o at s is differs same = differs (sym is ∙ same)
 
 module _ (c there : Core) (verdict : Verdict) where
-  claims : (i : ℕ) (o : Option Stage) → stage_at c.jobs i ≡ o → (verdict, there) ≡ claimed c i o → NotesOrRefuses c (events.Claim i) verdict there
+  claims : (i : ℕ) (o : Option Stage) → stage_at c.jobs i ≡ o → (verdict, there) ≡ on_claim c i o → NotesOrRefuses c (events.Claim i) verdict there
   claims i None at is = refuse c there (events.Claim i) verdict (Stranger i) is tt (λ d goes. other None (stage_at c.jobs i) Offered at (λ e. cc) goes.0)
   claims i (Some Offered) at is = note_ c there (with_stage c i Claimed) (events.Claim i) verdict is (at, refl)
   claims i (Some Claimed) at is = refuse c there (events.Claim i) verdict (Double i) is tt (λ d goes. other (Some Claimed) (stage_at c.jobs i) Offered at (λ e. cc) goes.0)
@@ -51,7 +51,7 @@ module _ (c there : Core) (verdict : Verdict) where
   claims i (Some (Taken q)) at is = refuse c there (events.Claim i) verdict (Double i) is tt (λ d goes. other (Some (Taken q)) (stage_at c.jobs i) Offered at (λ e. cc) goes.0)
   claims i (Some Judged) at is = refuse c there (events.Claim i) verdict (Double i) is tt (λ d goes. other (Some Judged) (stage_at c.jobs i) Offered at (λ e. cc) goes.0)
 
-  finishes : (i : ℕ) (o : Option Stage) → stage_at c.jobs i ≡ o → (verdict, there) ≡ finished c i o → NotesOrRefuses c (events.Done i) verdict there
+  finishes : (i : ℕ) (o : Option Stage) → stage_at c.jobs i ≡ o → (verdict, there) ≡ on_done c i o → NotesOrRefuses c (events.Done i) verdict there
   finishes i None at is = refuse c there (events.Done i) verdict (Stranger i) is tt (λ d goes. other None (stage_at c.jobs i) Claimed at (λ e. cc) goes.0)
   finishes i (Some Offered) at is = refuse c there (events.Done i) verdict (Stranger i) is tt (λ d goes. other (Some Offered) (stage_at c.jobs i) Claimed at (λ e. cc) goes.0)
   finishes i (Some Claimed) at is = note_ c there (with_stage c i Done) (events.Done i) verdict is (at, refl)
@@ -59,7 +59,7 @@ module _ (c there : Core) (verdict : Verdict) where
   finishes i (Some (Taken q)) at is = refuse c there (events.Done i) verdict (Double i) is tt (λ d goes. other (Some (Taken q)) (stage_at c.jobs i) Claimed at (λ e. cc) goes.0)
   finishes i (Some Judged) at is = refuse c there (events.Done i) verdict (Double i) is tt (λ d goes. other (Some Judged) (stage_at c.jobs i) Claimed at (λ e. cc) goes.0)
 
-  takes : (i : ℕ) (ran : Ran) (o : Option Stage) → stage_at c.jobs i ≡ o → (verdict, there) ≡ taken c i ran o → NotesOrRefuses c (events.Take i ran) verdict there
+  takes : (i : ℕ) (ran : Ran) (o : Option Stage) → stage_at c.jobs i ≡ o → (verdict, there) ≡ on_take c i ran o → NotesOrRefuses c (events.Take i ran) verdict there
   takes i ran None at is = refuse c there (events.Take i ran) verdict (Stranger i) is tt (λ d goes. other None (stage_at c.jobs i) Done at (λ e. cc) goes.0)
   takes i ran (Some Offered) at is = refuse c there (events.Take i ran) verdict (Stranger i) is tt (λ d goes. other (Some Offered) (stage_at c.jobs i) Done at (λ e. cc) goes.0)
   takes i ran (Some Claimed) at is = refuse c there (events.Take i ran) verdict (Stranger i) is tt (λ d goes. other (Some Claimed) (stage_at c.jobs i) Done at (λ e. cc) goes.0)
@@ -67,7 +67,7 @@ module _ (c there : Core) (verdict : Verdict) where
   takes i ran (Some (Taken q)) at is = refuse c there (events.Take i ran) verdict (Double i) is tt (λ d goes. other (Some (Taken q)) (stage_at c.jobs i) Done at (λ e. cc) goes.0)
   takes i ran (Some Judged) at is = refuse c there (events.Take i ran) verdict (Double i) is tt (λ d goes. other (Some Judged) (stage_at c.jobs i) Done at (λ e. cc) goes.0)
 
-  offers : (i : ℕ) → (verdict, there) ≡ offered c i → NotesOrRefuses c (events.Offer i) verdict there
+  offers : (i : ℕ) → (verdict, there) ≡ on_offer c i → NotesOrRefuses c (events.Offer i) verdict there
   offers i is = by_number (nat_lt 0 i && nat_le i (length c.jobs)) refl
     where
       by_room : (nat_lt 0 i && nat_le i (length c.jobs)) ≡ false → (b : Bool) → (nat_eq i (length c.jobs + 1) && nat_le i c.max_jobs) ≡ b → NotesOrRefuses c (events.Offer i) verdict there

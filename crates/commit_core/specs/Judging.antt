@@ -50,35 +50,35 @@ shut c = record c { closed = true }
 -- ---- the verdict on each event, and what the round is then
 
 -- an offer is noted if it has the next number, and the round may have that many jobs
-abbrev pub offered : Core → ℕ → Verdict × Core
-offered c i =
+abbrev pub on_offer : Core → ℕ → Verdict × Core
+on_offer c i =
     if nat_lt 0 i && nat_le i (length c.jobs) then (Double i, c)
     else if nat_eq i (length c.jobs + 1) && nat_le i c.max_jobs then (Noted, with_job c)
     else (Stranger i, c)
 
-abbrev pub claimed : Core → ℕ → Option Stage → Verdict × Core
-claimed c i None = (Stranger i, c)
-claimed c i (Some Offered) = (Noted, with_stage c i Claimed)
-claimed c i (Some Claimed) = (Double i, c)
-claimed c i (Some Done) = (Double i, c)
-claimed c i (Some (Taken ran)) = (Double i, c)
-claimed c i (Some Judged) = (Double i, c)
+abbrev pub on_claim : Core → ℕ → Option Stage → Verdict × Core
+on_claim c i None = (Stranger i, c)
+on_claim c i (Some Offered) = (Noted, with_stage c i Claimed)
+on_claim c i (Some Claimed) = (Double i, c)
+on_claim c i (Some Done) = (Double i, c)
+on_claim c i (Some (Taken ran)) = (Double i, c)
+on_claim c i (Some Judged) = (Double i, c)
 
-abbrev pub finished : Core → ℕ → Option Stage → Verdict × Core
-finished c i None = (Stranger i, c)
-finished c i (Some Offered) = (Stranger i, c)
-finished c i (Some Claimed) = (Noted, with_stage c i Done)
-finished c i (Some Done) = (Double i, c)
-finished c i (Some (Taken ran)) = (Double i, c)
-finished c i (Some Judged) = (Double i, c)
+abbrev pub on_done : Core → ℕ → Option Stage → Verdict × Core
+on_done c i None = (Stranger i, c)
+on_done c i (Some Offered) = (Stranger i, c)
+on_done c i (Some Claimed) = (Noted, with_stage c i Done)
+on_done c i (Some Done) = (Double i, c)
+on_done c i (Some (Taken ran)) = (Double i, c)
+on_done c i (Some Judged) = (Double i, c)
 
-abbrev pub taken : Core → ℕ → Ran → Option Stage → Verdict × Core
-taken c i ran None = (Stranger i, c)
-taken c i ran (Some Offered) = (Stranger i, c)
-taken c i ran (Some Claimed) = (Stranger i, c)
-taken c i ran (Some Done) = (Noted, with_stage c i (Taken ran))
-taken c i ran (Some (Taken other)) = (Double i, c)
-taken c i ran (Some Judged) = (Double i, c)
+abbrev pub on_take : Core → ℕ → Ran → Option Stage → Verdict × Core
+on_take c i ran None = (Stranger i, c)
+on_take c i ran (Some Offered) = (Stranger i, c)
+on_take c i ran (Some Claimed) = (Stranger i, c)
+on_take c i ran (Some Done) = (Noted, with_stage c i (Taken ran))
+on_take c i ran (Some (Taken other)) = (Double i, c)
+on_take c i ran (Some Judged) = (Double i, c)
 
 -- the result of the next job: if its start is the committed state, and if it isn't
 abbrev pub IsJudged : Core → Ran → Verdict → Core → Type 0
@@ -106,10 +106,10 @@ abbrev pub HasJudged : Core → Verdict → Core → Type 0
 HasJudged c verdict there = JudgesWhere c.closed c verdict there
 
 abbrev pub HasApplied : Core → Event → Verdict → Core → Type 0
-HasApplied c (events.Offer i) verdict there = (verdict, there) ≡ offered c i
-HasApplied c (events.Claim i) verdict there = (verdict, there) ≡ claimed c i (stage_at c.jobs i)
-HasApplied c (events.Done i) verdict there = (verdict, there) ≡ finished c i (stage_at c.jobs i)
-HasApplied c (events.Take i ran) verdict there = (verdict, there) ≡ taken c i ran (stage_at c.jobs i)
+HasApplied c (events.Offer i) verdict there = (verdict, there) ≡ on_offer c i
+HasApplied c (events.Claim i) verdict there = (verdict, there) ≡ on_claim c i (stage_at c.jobs i)
+HasApplied c (events.Done i) verdict there = (verdict, there) ≡ on_done c i (stage_at c.jobs i)
+HasApplied c (events.Take i ran) verdict there = (verdict, there) ≡ on_take c i ran (stage_at c.jobs i)
 HasApplied c events.Judge verdict there = HasJudged c verdict there
 
 -- ---- on the way. This serves the contract of the crate's own step.

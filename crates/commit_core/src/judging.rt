@@ -5,7 +5,7 @@ ghost use Rattle.epoch_runner.specs.declared.epoch_run.EpochRun.{EpochRun};
 ghost use Rattle.epoch_runner.specs.declared.epoch_run.Ran.TheVariants.{Epoch};
 ghost use Rattle.std.specs.Option.{option_copied};
 ghost use Rattle.dp_base.specs.declared.limits.TheConstants.{MAX_JOBS};
-ghost use Rattle.commit_core.specs.Judging.{HasApplied, HasJudged, IsJudgement, claimed, epoch_in, new_core, finished, offered, stage_at, taken};
+ghost use Rattle.commit_core.specs.Judging.{HasApplied, HasJudged, IsJudgement, on_claim, epoch_in, new_core, on_done, on_offer, stage_at, on_take};
 
 use crate::event::Event;
 use crate::stage::Stage;
@@ -107,7 +107,7 @@ impl Core {
     }
 
     fn offer(&mut self, i: u32) -> Verdict
-        ensures { (result, self.new) ≡ offered self.old i }
+        ensures { (result, self.new) ≡ on_offer self.old i }
     {
         let count = self.jobs.len() as u32;
         if 0 < i && i <= count {
@@ -123,7 +123,7 @@ impl Core {
     }
 
     fn claim(&mut self, i: u32) -> Verdict
-        ensures { (result, self.new) ≡ claimed self.old i (stage_at self.old.jobs i) }
+        ensures { (result, self.new) ≡ on_claim self.old i (stage_at self.old.jobs i) }
     {
         match stage_of(&self.jobs, i) {
             None => Verdict::Stranger { i },
@@ -139,7 +139,7 @@ impl Core {
     }
 
     fn finish(&mut self, i: u32) -> Verdict
-        ensures { (result, self.new) ≡ finished self.old i (stage_at self.old.jobs i) }
+        ensures { (result, self.new) ≡ on_done self.old i (stage_at self.old.jobs i) }
     {
         match stage_of(&self.jobs, i) {
             None => Verdict::Stranger { i },
@@ -155,7 +155,7 @@ impl Core {
     }
 
     fn take(&mut self, i: u32, ran: Ran) -> Verdict
-        ensures { (result, self.new) ≡ taken self.old i ran (stage_at self.old.jobs i) }
+        ensures { (result, self.new) ≡ on_take self.old i ran (stage_at self.old.jobs i) }
     {
         match stage_of(&self.jobs, i) {
             None => Verdict::Stranger { i },

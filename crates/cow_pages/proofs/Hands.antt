@@ -5,7 +5,7 @@ use Rattle.std.specs.Option.{option_map, option_or}
 use Rattle.std.proofs.lemmas.Bool.{cases_eq, eq-eqb, ne_eqb}
 use Rattle.cow_pages.proofs.EntryChanges.{set_elsewhere, set_here, set_mapped}
 use Rattle.cow_pages.proofs.Leaves.{put_other, put_same, without_other, without_same}
-use Rattle.cow_pages.specs.Table.{IsAside, changed_if, entry_of, found, found_changed, held, held_changed, if_numbered}
+use Rattle.cow_pages.specs.Table.{IsAside, changed_if, hand_entry, found, found_changed, held, held_changed, if_numbered}
 use Rattle.cow_pages.specs.Tree.{Nodes, Slots, entry_at, leaf, leaf_put, leaf_without}
 use Rattle.dp_base.specs.declared.page.Page.{Page}
 
@@ -26,7 +26,7 @@ none_numbered number n None is differ = refl
 none_numbered number n (Some p) is differ = numbered_other n p (λ same. differ (sym is ∙ same))
 
 -- the page of an entry is in hand
-pub held_own : (hand : Slots) (entry : ℕ) (p : Page) → entry_at hand entry ≡ Some p → entry_of p.number ≡ entry → held hand p.number ≡ Some p
+pub held_own : (hand : Slots) (entry : ℕ) (p : Page) → entry_at hand entry ≡ Some p → hand_entry p.number ≡ entry → held hand p.number ≡ Some p
 held_own hand entry p at own = ap (λ (e : ℕ). if_numbered p.number (entry_at hand e)) own ∙ ap (λ (x : Option Page). if_numbered p.number x) at ∙ numbered_same p.number p refl
 
 -- ---- a page in hand that is in the tree too
@@ -61,49 +61,49 @@ in_tree nodes n (Some q) back = by_number (cases_eq q.number n)
         ap (λ (y : Option Page). option_or y (leaf nodes n)) (numbered_same n q same) ∙ sym (sym (ap (λ (m : ℕ). leaf nodes m) same) ∙ back)
     by_number (inr differ) = ap (λ (y : Option Page). option_or y (leaf nodes n)) (numbered_other n q differ)
 
-found_in_tree : (hand : Slots) (nodes : Nodes) (entry n : ℕ) → IfSome (entry_at hand entry) (λ q. leaf nodes q.number ≡ Some q) → entry ≡ entry_of n → found hand nodes n ≡ leaf nodes n
+found_in_tree : (hand : Slots) (nodes : Nodes) (entry n : ℕ) → IfSome (entry_at hand entry) (λ q. leaf nodes q.number ≡ Some q) → entry ≡ hand_entry n → found hand nodes n ≡ leaf nodes n
 found_in_tree hand nodes entry n back same =
-    in_tree nodes n (entry_at hand (entry_of n)) (subst (λ (e : ℕ). IfSome (entry_at hand e) (λ q. leaf nodes q.number ≡ Some q)) same back)
+    in_tree nodes n (entry_at hand (hand_entry n)) (subst (λ (e : ℕ). IfSome (entry_at hand e) (λ q. leaf nodes q.number ≡ Some q)) same back)
 
-held_set : (hand : Slots) (entry n : ℕ) (page : Option Page) → entry < length hand → entry ≡ entry_of n → held (slice_set hand entry page) n ≡ if_numbered n page
+held_set : (hand : Slots) (entry n : ℕ) (page : Option Page) → entry < length hand → entry ≡ hand_entry n → held (slice_set hand entry page) n ≡ if_numbered n page
 held_set hand entry n page within same = ap (λ (x : Option Page). if_numbered n x) (ap (λ (e : ℕ). entry_at (slice_set hand entry page) e) (sym same) ∙ set_here hand entry page within)
 
-pub taken_held : (hand : Slots) (nodes : Nodes) (number : ℕ) (page : Option Page) → entry_of number < length hand → page ≡ leaf nodes number → IfSome page (λ p. p.number ≡ number)
-    → IfSome (entry_at hand (entry_of number)) (λ q. leaf nodes q.number ≡ Some q) → held (slice_set hand (entry_of number) page) number ≡ found hand nodes number
+pub taken_held : (hand : Slots) (nodes : Nodes) (number : ℕ) (page : Option Page) → hand_entry number < length hand → page ≡ leaf nodes number → IfSome page (λ p. p.number ≡ number)
+    → IfSome (entry_at hand (hand_entry number)) (λ q. leaf nodes q.number ≡ Some q) → held (slice_set hand (hand_entry number) page) number ≡ found hand nodes number
 taken_held hand nodes number page within is numbered back =
-    held_set hand (entry_of number) number page within refl ∙ all_numbered number page numbered ∙ is ∙ sym (found_in_tree hand nodes (entry_of number) number back refl)
+    held_set hand (hand_entry number) number page within refl ∙ all_numbered number page numbered ∙ is ∙ sym (found_in_tree hand nodes (hand_entry number) number back refl)
 
 pub taken_numbered : (hand : Slots) (before nodes : Nodes) (number : ℕ) (page : Option Page) → ((n : ℕ) → found hand nodes n ≡ found hand before n) → IfSome (found hand before number) (λ p. p.number ≡ number)
-    → IfSome (entry_at hand (entry_of number)) (λ q. leaf nodes q.number ≡ Some q) → page ≡ leaf nodes number → IfSome page (λ p. p.number ≡ number)
+    → IfSome (entry_at hand (hand_entry number)) (λ q. leaf nodes q.number ≡ Some q) → page ≡ leaf nodes number → IfSome page (λ p. p.number ≡ number)
 taken_numbered hand before nodes number page same numbered back is =
-    subst (λ (x : Option Page). IfSome x (λ p. p.number ≡ number)) (sym (same number) ∙ found_in_tree hand nodes (entry_of number) number back refl ∙ sym is) numbered
+    subst (λ (x : Option Page). IfSome x (λ p. p.number ≡ number)) (sym (same number) ∙ found_in_tree hand nodes (hand_entry number) number back refl ∙ sym is) numbered
 
 or_none : (x : Option Page) → option_or x None ≡ x
 or_none None = refl
 or_none (Some p) = refl
 
-pub taken_same : (hand : Slots) (nodes : Nodes) (number : ℕ) (page : Option Page) → entry_of number < length hand → page ≡ leaf nodes number → IfSome page (λ p. p.number ≡ number)
-    → IfSome (entry_at hand (entry_of number)) (λ q. leaf nodes q.number ≡ Some q) → (n : ℕ) → found (slice_set hand (entry_of number) page) (leaf_without number nodes) n ≡ found hand nodes n
+pub taken_same : (hand : Slots) (nodes : Nodes) (number : ℕ) (page : Option Page) → hand_entry number < length hand → page ≡ leaf nodes number → IfSome page (λ p. p.number ≡ number)
+    → IfSome (entry_at hand (hand_entry number)) (λ q. leaf nodes q.number ≡ Some q) → (n : ℕ) → found (slice_set hand (hand_entry number) page) (leaf_without number nodes) n ≡ found hand nodes n
 taken_same hand nodes number page within is numbered back n = by_number (cases_eq number n)
   where
-    by_entry : (number ≡ n → ⊥) → ((entry_of number ≡ entry_of n) ⊎ (entry_of number ≡ entry_of n → ⊥)) → held (slice_set hand (entry_of number) page) n ≡ held hand n ⊎ (entry_of number ≡ entry_of n)
+    by_entry : (number ≡ n → ⊥) → ((hand_entry number ≡ hand_entry n) ⊎ (hand_entry number ≡ hand_entry n → ⊥)) → held (slice_set hand (hand_entry number) page) n ≡ held hand n ⊎ (hand_entry number ≡ hand_entry n)
     by_entry differ (inl same) = inr same
-    by_entry differ (inr apart) = inl (ap (λ (x : Option Page). if_numbered n x) (set_elsewhere hand (entry_of number) (entry_of n) page apart))
+    by_entry differ (inr apart) = inl (ap (λ (x : Option Page). if_numbered n x) (set_elsewhere hand (hand_entry number) (hand_entry n) page apart))
 
-    apart_by : (number ≡ n → ⊥) → (held (slice_set hand (entry_of number) page) n ≡ held hand n ⊎ (entry_of number ≡ entry_of n)) → option_or (held (slice_set hand (entry_of number) page) n) (leaf nodes n) ≡ found hand nodes n
+    apart_by : (number ≡ n → ⊥) → (held (slice_set hand (hand_entry number) page) n ≡ held hand n ⊎ (hand_entry number ≡ hand_entry n)) → option_or (held (slice_set hand (hand_entry number) page) n) (leaf nodes n) ≡ found hand nodes n
     apart_by differ (inl kept) = ap (λ (x : Option Page). option_or x (leaf nodes n)) kept
     apart_by differ (inr same) =
-        ap (λ (x : Option Page). option_or x (leaf nodes n)) (held_set hand (entry_of number) n page within same ∙ none_numbered number n page numbered differ)
-        ∙ sym (found_in_tree hand nodes (entry_of number) n back same)
+        ap (λ (x : Option Page). option_or x (leaf nodes n)) (held_set hand (hand_entry number) n page within same ∙ none_numbered number n page numbered differ)
+        ∙ sym (found_in_tree hand nodes (hand_entry number) n back same)
 
-    by_number : ((number ≡ n) ⊎ (number ≡ n → ⊥)) → found (slice_set hand (entry_of number) page) (leaf_without number nodes) n ≡ found hand nodes n
+    by_number : ((number ≡ n) ⊎ (number ≡ n → ⊥)) → found (slice_set hand (hand_entry number) page) (leaf_without number nodes) n ≡ found hand nodes n
     by_number (inl same) =
-        subst (λ (m : ℕ). found (slice_set hand (entry_of number) page) (leaf_without number nodes) m ≡ found hand nodes m) same
-        (ap (λ (x : Option Page). option_or (held (slice_set hand (entry_of number) page) number) x) (without_same number nodes) ∙ or_none (held (slice_set hand (entry_of number) page) number)
+        subst (λ (m : ℕ). found (slice_set hand (hand_entry number) page) (leaf_without number nodes) m ≡ found hand nodes m) same
+        (ap (λ (x : Option Page). option_or (held (slice_set hand (hand_entry number) page) number) x) (without_same number nodes) ∙ or_none (held (slice_set hand (hand_entry number) page) number)
         ∙ taken_held hand nodes number page within is numbered back)
     by_number (inr differ) =
-        ap (λ (x : Option Page). option_or (held (slice_set hand (entry_of number) page) n) x) (without_other number nodes n differ)
-        ∙ apart_by differ (by_entry differ (cases_eq (entry_of number) (entry_of n)))
+        ap (λ (x : Option Page). option_or (held (slice_set hand (hand_entry number) page) n) x) (without_other number nodes n differ)
+        ∙ apart_by differ (by_entry differ (cases_eq (hand_entry number) (hand_entry n)))
 
 -- ---- a page changed
 
@@ -131,17 +131,17 @@ changed_beside number n f (Some p) keeps apart = by_number (cases_eq p.number nu
 
 held_changed_here : (hand : Slots) (number : ℕ) (f : Page → Page) → ((p : Page) → (f p).number ≡ p.number) → held (held_changed number f hand) number ≡ option_map f (held hand number)
 held_changed_here hand number f keeps =
-    ap (λ (x : Option Page). if_numbered number x) (set_mapped hand (entry_of number) (changed_if number f)) ∙ changed_here number f (entry_at hand (entry_of number)) keeps
+    ap (λ (x : Option Page). if_numbered number x) (set_mapped hand (hand_entry number) (changed_if number f)) ∙ changed_here number f (entry_at hand (hand_entry number)) keeps
 
 held_changed_beside : (hand : Slots) (number n : ℕ) (f : Page → Page) → ((p : Page) → (f p).number ≡ p.number) → (number ≡ n → ⊥) → held (held_changed number f hand) n ≡ held hand n
-held_changed_beside hand number n f keeps apart = by_entry (cases_eq (entry_of number) (entry_of n))
+held_changed_beside hand number n f keeps apart = by_entry (cases_eq (hand_entry number) (hand_entry n))
   where
-    by_entry : ((entry_of number ≡ entry_of n) ⊎ (entry_of number ≡ entry_of n → ⊥)) → held (held_changed number f hand) n ≡ held hand n
+    by_entry : ((hand_entry number ≡ hand_entry n) ⊎ (hand_entry number ≡ hand_entry n → ⊥)) → held (held_changed number f hand) n ≡ held hand n
     by_entry (inl same) =
         subst (λ (e : ℕ). if_numbered n (entry_at (held_changed number f hand) e) ≡ if_numbered n (entry_at hand e)) same
-        (ap (λ (x : Option Page). if_numbered n x) (set_mapped hand (entry_of number) (changed_if number f)) ∙ changed_beside number n f (entry_at hand (entry_of number)) keeps apart)
+        (ap (λ (x : Option Page). if_numbered n x) (set_mapped hand (hand_entry number) (changed_if number f)) ∙ changed_beside number n f (entry_at hand (hand_entry number)) keeps apart)
     by_entry (inr differ) =
-        ap (λ (x : Option Page). if_numbered n x) (set_elsewhere hand (entry_of number) (entry_of n) (option_map (changed_if number f) (entry_at hand (entry_of number))) differ)
+        ap (λ (x : Option Page). if_numbered n x) (set_elsewhere hand (hand_entry number) (hand_entry n) (option_map (changed_if number f) (entry_at hand (hand_entry number))) differ)
 
 or_mapped : (f : Page → Page) (x y : Option Page) → x ≡ option_or x y → option_or (option_map f x) y ≡ option_map f (option_or x y)
 or_mapped f None y is = sym is ∙ ap (λ (z : Option Page). option_map f z) is
@@ -209,12 +209,12 @@ same_hand (Err e) hand new nodes err = λ n. ap (λ (h : Slots). found h nodes n
 
 -- ---- what stays aside when a page is taken in hand
 
-pub taken_unheld : (hand new : Slots) (number : ℕ) (page : Option Page) → entry_of number < length hand → IfSome page (λ p. p.number ≡ number) → new ≡ slice_set hand (entry_of number) page → (n : ℕ) → (number ≡ n → ⊥) → held hand n ≡ None → held new n ≡ None
-taken_unheld hand new number page within numbered is n differ none = ap (λ (h : Slots). held h n) is ∙ by_entry (cases_eq (entry_of number) (entry_of n))
+pub taken_unheld : (hand new : Slots) (number : ℕ) (page : Option Page) → hand_entry number < length hand → IfSome page (λ p. p.number ≡ number) → new ≡ slice_set hand (hand_entry number) page → (n : ℕ) → (number ≡ n → ⊥) → held hand n ≡ None → held new n ≡ None
+taken_unheld hand new number page within numbered is n differ none = ap (λ (h : Slots). held h n) is ∙ by_entry (cases_eq (hand_entry number) (hand_entry n))
   where
-    by_entry : ((entry_of number ≡ entry_of n) ⊎ (entry_of number ≡ entry_of n → ⊥)) → held (slice_set hand (entry_of number) page) n ≡ None
-    by_entry (inl same) = held_set hand (entry_of number) n page within same ∙ none_numbered number n page numbered differ
-    by_entry (inr apart) = ap (λ (x : Option Page). if_numbered n x) (set_elsewhere hand (entry_of number) (entry_of n) page apart) ∙ none
+    by_entry : ((hand_entry number ≡ hand_entry n) ⊎ (hand_entry number ≡ hand_entry n → ⊥)) → held (slice_set hand (hand_entry number) page) n ≡ None
+    by_entry (inl same) = held_set hand (hand_entry number) n page within same ∙ none_numbered number n page numbered differ
+    by_entry (inr apart) = ap (λ (x : Option Page). if_numbered n x) (set_elsewhere hand (hand_entry number) (hand_entry n) page apart) ∙ none
 
 pub changed_unheld : {X E : Type 0} (r : Result X E) (hand mid new : Slots) (number : ℕ) (f : Page → Page) → ((p : Page) → (f p).number ≡ p.number) → ((n : ℕ) → (number ≡ n → ⊥) → held hand n ≡ None → held mid n ≡ None)
     → OnOk r (new ≡ held_changed number f mid) → OnErr r (new ≡ mid) → (n : ℕ) → (number ≡ n → ⊥) → held hand n ≡ None → held new n ≡ None

@@ -13,7 +13,7 @@ use Rattle.cow_pages.proofs.Places.{IsPage_by_number, page_some, place_rising}
 use Rattle.cow_pages.proofs.Stores.{page_at-change, page_at-other}
 use Rattle.cow_pages.proofs.Writes.{ArePages-change, Rewritten, numbers_change}
 use Rattle.cow_pages.specs.InPage.{AreRising, has_number}
-use Rattle.cow_pages.specs.Table.{IsTable, found, found_changed, held, listed}
+use Rattle.cow_pages.specs.Table.{IsTable, found, found_changed, held, pages_numbered}
 use Rattle.cow_pages.specs.Tree.{Nodes, Slots, leaf, leaf_put}
 use Rattle.dp_base.specs.Memory.{ArePages, IsPage, Memory, change_page, page_at}
 use Rattle.dp_base.specs.declared.limits.TheConstants.{MAX_PAGES}
@@ -39,14 +39,14 @@ listed_by find (p ∷ ps) each =
     ∙ ap (λ (qs : Memory). p ∷ qs) (listed_by find ps (All-tail (λ (q : Page). find q.number ≡ Some q) p ps each))
 
 -- a table is a list, if what is found is the page of the list
-pub listed_is : (hand : Slots) (nodes : Nodes) (order : List ℕ) (memory : Memory) → ArePages memory → order ≡ numbers memory → ((n : ℕ) → page_at memory n ≡ found hand nodes n) → listed hand nodes order ≡ memory
+pub listed_is : (hand : Slots) (nodes : Nodes) (order : List ℕ) (memory : Memory) → ArePages memory → order ≡ numbers memory → ((n : ℕ) → page_at memory n ≡ found hand nodes n) → pages_numbered hand nodes order ≡ memory
 listed_is hand nodes order memory are is finds =
     ap (λ (ns : List ℕ). filter_map (found hand nodes) ns) is
     ∙ listed_by (found hand nodes) memory (λ k d within. sym (finds (get_or memory k d).number) ∙ each_found memory are.rising k d within)
 
 pub table_is : (hand : Slots) (nodes : Nodes) (order : List ℕ) (memory : Memory) → ArePages memory → order ≡ numbers memory → ((n : ℕ) → page_at memory n ≡ found hand nodes n) → IsTable hand nodes order
 table_is hand nodes order memory are is finds =
-    let same : listed hand nodes order ≡ memory = listed_is hand nodes order memory are is finds in
+    let same : pages_numbered hand nodes order ≡ memory = listed_is hand nodes order memory are is finds in
     record {
       pages = subst ArePages (sym same) are;
       whole = λ n. ap (λ (m : Memory). page_at m n) same ∙ finds n;
@@ -64,7 +64,7 @@ copied_by None y is page = tt
 copied_by (Some p) y is page = subst (λ (z : Option Page). IfSome z IsPage) (sym is) page
 
 pub found_page : (hand : Slots) (nodes : Nodes) (order : List ℕ) (n : ℕ) (x : Option (Bor Page)) → IsTable hand nodes order → option_copied x ≡ found hand nodes n → IfSome x (λ p. IsPage p.now)
-found_page hand nodes order n x are is = copied_by x (found hand nodes n) is (page_by (listed hand nodes order) n (found hand nodes n) are.pages (are.whole n))
+found_page hand nodes order n x are is = copied_by x (found hand nodes n) is (page_by (pages_numbered hand nodes order) n (found hand nodes n) are.pages (are.whole n))
 
 numbered_by : (memory : Memory) (n : ℕ) (x : Option Page) → page_at memory n ≡ x → IfSome x (λ p. p.number ≡ n)
 numbered_by memory n x at = subst (λ (y : Option Page). IfSome y (λ p. p.number ≡ n)) at (page_numbered memory)
@@ -78,22 +78,22 @@ numbered_by memory n x at = subst (λ (y : Option Page). IfSome y (λ p. p.numbe
     page_numbered (p ∷ ps) = by_test p ps (cases_eq p.number n) (page_numbered ps)
 
 pub found_numbered : (hand : Slots) (nodes : Nodes) (order : List ℕ) (n : ℕ) → IsTable hand nodes order → IfSome (found hand nodes n) (λ p. p.number ≡ n)
-found_numbered hand nodes order n are = numbered_by (listed hand nodes order) n (found hand nodes n) (are.whole n)
+found_numbered hand nodes order n are = numbered_by (pages_numbered hand nodes order) n (found hand nodes n) (are.whole n)
 
 -- the page at a place in the order
-pub place_some : (hand : Slots) (nodes : Nodes) (order : List ℕ) (i n : ℕ) → IsTable hand nodes order → slice_get order i ≡ Some n → page_at (listed hand nodes order) n ≡ slice_get (listed hand nodes order) i
+pub place_some : (hand : Slots) (nodes : Nodes) (order : List ℕ) (i n : ℕ) → IsTable hand nodes order → slice_get order i ≡ Some n → page_at (pages_numbered hand nodes order) n ≡ slice_get (pages_numbered hand nodes order) i
 place_some hand nodes order i n are at =
-    at_listed (listed hand nodes order) i n (slice_get (listed hand nodes order) i) are.pages.rising refl
-    (sym (slice_get-map (λ (p : Page). p.number) (listed hand nodes order) i) ∙ ap (λ (ns : List ℕ). slice_get ns i) (sym are.order) ∙ at)
+    at_listed (pages_numbered hand nodes order) i n (slice_get (pages_numbered hand nodes order) i) are.pages.rising refl
+    (sym (slice_get-map (λ (p : Page). p.number) (pages_numbered hand nodes order) i) ∙ ap (λ (ns : List ℕ). slice_get ns i) (sym are.order) ∙ at)
 
 none_by : (x : Option Page) → option_map (λ (p : Page). p.number) x ≡ None → x ≡ None
 none_by None is = refl
 none_by (Some p) is = absurd cc
 
-pub place_none : (hand : Slots) (nodes : Nodes) (order : List ℕ) (i : ℕ) → IsTable hand nodes order → slice_get order i ≡ None → slice_get (listed hand nodes order) i ≡ None
+pub place_none : (hand : Slots) (nodes : Nodes) (order : List ℕ) (i : ℕ) → IsTable hand nodes order → slice_get order i ≡ None → slice_get (pages_numbered hand nodes order) i ≡ None
 place_none hand nodes order i are at =
-    none_by (slice_get (listed hand nodes order) i)
-    (sym (slice_get-map (λ (p : Page). p.number) (listed hand nodes order) i) ∙ ap (λ (ns : List ℕ). slice_get ns i) (sym are.order) ∙ at)
+    none_by (slice_get (pages_numbered hand nodes order) i)
+    (sym (slice_get-map (λ (p : Page). p.number) (pages_numbered hand nodes order) i) ∙ ap (λ (ns : List ℕ). slice_get ns i) (sym are.order) ∙ at)
 
 -- ---- a page changed
 
@@ -109,35 +109,35 @@ change_found number n f memory keeps = by_number (cases_eq number n)
         ∙ sym (ap (λ (b : Bool). if b then option_map f (page_at memory n) else page_at memory n) (ne_eqb _ _ differ))
 
 finds_after : (hand new_hand : Slots) (nodes new_nodes : Nodes) (order : List ℕ) (number : ℕ) (f : Page → Page) → IsTable hand nodes order → ((p : Page) → Rewritten p (f p))
-    → ((n : ℕ) → found new_hand new_nodes n ≡ found_changed number f (found hand nodes) n) → (n : ℕ) → page_at (change_page number f (listed hand nodes order)) n ≡ found new_hand new_nodes n
+    → ((n : ℕ) → found new_hand new_nodes n ≡ found_changed number f (found hand nodes) n) → (n : ℕ) → page_at (change_page number f (pages_numbered hand nodes order)) n ≡ found new_hand new_nodes n
 finds_after hand new_hand nodes new_nodes order number f are keeps finds n =
-    change_found number n f (listed hand nodes order) (λ p. (keeps p).number)
+    change_found number n f (pages_numbered hand nodes order) (λ p. (keeps p).number)
     ∙ ap (λ (x : Option Page). if number == n then option_map f x else x) (are.whole n) ∙ sym (finds n)
 
-changed_order : (hand : Slots) (nodes : Nodes) (order : List ℕ) (number : ℕ) (f : Page → Page) → IsTable hand nodes order → ((p : Page) → Rewritten p (f p)) → order ≡ numbers (change_page number f (listed hand nodes order))
-changed_order hand nodes order number f are keeps = are.order ∙ sym (numbers_change number f (listed hand nodes order) (λ p. (keeps p).number))
+changed_order : (hand : Slots) (nodes : Nodes) (order : List ℕ) (number : ℕ) (f : Page → Page) → IsTable hand nodes order → ((p : Page) → Rewritten p (f p)) → order ≡ numbers (change_page number f (pages_numbered hand nodes order))
+changed_order hand nodes order number f are keeps = are.order ∙ sym (numbers_change number f (pages_numbered hand nodes order) (λ p. (keeps p).number))
 
 pub table_changed : {X E : Type 0} (r : Result X E) (hand new_hand : Slots) (nodes new_nodes : Nodes) (order : List ℕ) (number : ℕ) (f : Page → Page) → IsTable hand nodes order → ((p : Page) → Rewritten p (f p))
     → OnOk r ((n : ℕ) → found new_hand new_nodes n ≡ found_changed number f (found hand nodes) n) → OnErr r ((n : ℕ) → found new_hand new_nodes n ≡ found hand nodes n) → IsTable new_hand new_nodes order
 table_changed (Ok x) hand new_hand nodes new_nodes order number f are keeps ok err =
-    table_is new_hand new_nodes order (change_page number f (listed hand nodes order)) (ArePages-change number f (listed hand nodes order) are.pages keeps)
+    table_is new_hand new_nodes order (change_page number f (pages_numbered hand nodes order)) (ArePages-change number f (pages_numbered hand nodes order) are.pages keeps)
     (changed_order hand nodes order number f are keeps) (finds_after hand new_hand nodes new_nodes order number f are keeps ok)
 table_changed (Err e) hand new_hand nodes new_nodes order number f are keeps ok err =
-    table_is new_hand new_nodes order (listed hand nodes order) are.pages are.order (λ n. are.whole n ∙ sym (err n))
+    table_is new_hand new_nodes order (pages_numbered hand nodes order) are.pages are.order (λ n. are.whole n ∙ sym (err n))
 
 pub changed_on : {X E : Type 0} (r : Result X E) (hand new_hand : Slots) (nodes new_nodes : Nodes) (order : List ℕ) (number : ℕ) (f : Page → Page) (memory after : Memory) → IsTable hand nodes order → ((p : Page) → Rewritten p (f p))
-    → listed hand nodes order ≡ memory → after ≡ change_page number f memory → OnOk r ((n : ℕ) → found new_hand new_nodes n ≡ found_changed number f (found hand nodes) n) → OnOk r (listed new_hand new_nodes order ≡ after)
+    → pages_numbered hand nodes order ≡ memory → after ≡ change_page number f memory → OnOk r ((n : ℕ) → found new_hand new_nodes n ≡ found_changed number f (found hand nodes) n) → OnOk r (pages_numbered new_hand new_nodes order ≡ after)
 changed_on (Ok x) hand new_hand nodes new_nodes order number f memory after are keeps view is ok =
-    listed_is new_hand new_nodes order (change_page number f (listed hand nodes order)) (ArePages-change number f (listed hand nodes order) are.pages keeps)
+    listed_is new_hand new_nodes order (change_page number f (pages_numbered hand nodes order)) (ArePages-change number f (pages_numbered hand nodes order) are.pages keeps)
     (changed_order hand nodes order number f are keeps) (finds_after hand new_hand nodes new_nodes order number f are keeps ok)
     ∙ ap (λ (m : Memory). change_page number f m) view ∙ sym is
 changed_on (Err e) hand new_hand nodes new_nodes order number f memory after are keeps view is ok = tt
 
-pub same_on : {X E : Type 0} (r : Result X E) (hand new_hand : Slots) (nodes new_nodes : Nodes) (order : List ℕ) (memory : Memory) → IsTable hand nodes order → listed hand nodes order ≡ memory
-    → OnErr r ((n : ℕ) → found new_hand new_nodes n ≡ found hand nodes n) → OnErr r (listed new_hand new_nodes order ≡ memory)
+pub same_on : {X E : Type 0} (r : Result X E) (hand new_hand : Slots) (nodes new_nodes : Nodes) (order : List ℕ) (memory : Memory) → IsTable hand nodes order → pages_numbered hand nodes order ≡ memory
+    → OnErr r ((n : ℕ) → found new_hand new_nodes n ≡ found hand nodes n) → OnErr r (pages_numbered new_hand new_nodes order ≡ memory)
 same_on (Ok x) hand new_hand nodes new_nodes order memory are view err = tt
 same_on (Err e) hand new_hand nodes new_nodes order memory are view err =
-    listed_is new_hand new_nodes order (listed hand nodes order) are.pages are.order (λ n. are.whole n ∙ sym (err n)) ∙ view
+    listed_is new_hand new_nodes order (pages_numbered hand nodes order) are.pages are.order (λ n. are.whole n ∙ sym (err n)) ∙ view
 
 -- ---- a page put after all others
 
@@ -163,41 +163,41 @@ none_first : (x y : Option Page) → option_or x y ≡ None → x ≡ None
 none_first None y is = refl
 none_first (Some p) y is = absurd cc
 
-finds_above : (hand : Slots) (nodes : Nodes) (order : List ℕ) (p : Page) → IsTable hand nodes order → All (λ q. q.number < p.number) (listed hand nodes order) → (n : ℕ) → page_at (listed hand nodes order ++ p ∷ []) n ≡ found hand (leaf_put p nodes) n
-finds_above hand nodes order p are below n = joined n (listed hand nodes order) (p ∷ []) ∙ by_number (cases_eq p.number n)
+finds_above : (hand : Slots) (nodes : Nodes) (order : List ℕ) (p : Page) → IsTable hand nodes order → All (λ q. q.number < p.number) (pages_numbered hand nodes order) → (n : ℕ) → page_at (pages_numbered hand nodes order ++ p ∷ []) n ≡ found hand (leaf_put p nodes) n
+finds_above hand nodes order p are below n = joined n (pages_numbered hand nodes order) (p ∷ []) ∙ by_number (cases_eq p.number n)
   where
-    none : page_at (listed hand nodes order) p.number ≡ None
-    none = none_above p.number (listed hand nodes order) below
+    none : page_at (pages_numbered hand nodes order) p.number ≡ None
+    none = none_above p.number (pages_numbered hand nodes order) below
 
     free : held hand p.number ≡ None
     free = none_first (held hand p.number) (leaf nodes p.number) (sym (are.whole p.number) ∙ none)
 
-    by_number : ((p.number ≡ n) ⊎ (p.number ≡ n → ⊥)) → option_or (page_at (listed hand nodes order) n) (page_at (p ∷ []) n) ≡ found hand (leaf_put p nodes) n
+    by_number : ((p.number ≡ n) ⊎ (p.number ≡ n → ⊥)) → option_or (page_at (pages_numbered hand nodes order) n) (page_at (p ∷ []) n) ≡ found hand (leaf_put p nodes) n
     by_number (inl same) =
-        ap (λ (b : Bool). option_or (page_at (listed hand nodes order) n) (cond b (Some p) None)) (eq-eqb _ _ same)
-        ∙ subst (λ (m : ℕ). option_or (page_at (listed hand nodes order) m) (Some p) ≡ found hand (leaf_put p nodes) m) same
+        ap (λ (b : Bool). option_or (page_at (pages_numbered hand nodes order) n) (cond b (Some p) None)) (eq-eqb _ _ same)
+        ∙ subst (λ (m : ℕ). option_or (page_at (pages_numbered hand nodes order) m) (Some p) ≡ found hand (leaf_put p nodes) m) same
         (ap (λ (x : Option Page). option_or x (Some p)) none ∙ sym (ap (λ (x : Option Page). option_or x (leaf (leaf_put p nodes) p.number)) free ∙ put_same p nodes))
     by_number (inr differ) =
-        ap (λ (b : Bool). option_or (page_at (listed hand nodes order) n) (cond b (Some p) None)) (ne_eqb _ _ differ) ∙ or_none (page_at (listed hand nodes order) n) ∙ are.whole n
+        ap (λ (b : Bool). option_or (page_at (pages_numbered hand nodes order) n) (cond b (Some p) None)) (ne_eqb _ _ differ) ∙ or_none (page_at (pages_numbered hand nodes order) n) ∙ are.whole n
         ∙ ap (λ (x : Option Page). option_or (held hand n) x) (sym (put_other p nodes n differ))
 
-above_order : (hand : Slots) (nodes : Nodes) (order : List ℕ) (p : Page) → IsTable hand nodes order → order ++ p.number ∷ [] ≡ numbers (listed hand nodes order ++ p ∷ [])
-above_order hand nodes order p are = ap (λ (ns : List ℕ). ns ++ p.number ∷ []) are.order ∙ sym (map_push (λ (q : Page). q.number) (listed hand nodes order) p)
+above_order : (hand : Slots) (nodes : Nodes) (order : List ℕ) (p : Page) → IsTable hand nodes order → order ++ p.number ∷ [] ≡ numbers (pages_numbered hand nodes order ++ p ∷ [])
+above_order hand nodes order p are = ap (λ (ns : List ℕ). ns ++ p.number ∷ []) are.order ∙ sym (map_push (λ (q : Page). q.number) (pages_numbered hand nodes order) p)
 
-pub table_above : {X E : Type 0} (r : Result X E) (hand : Slots) (nodes new : Nodes) (order new_order : List ℕ) (p : Page) → IsTable hand nodes order → IsPage p → All (λ q. q.number < p.number) (listed hand nodes order)
-    → length (listed hand nodes order) < MAX_PAGES → OnOk r (new_order ≡ order ++ p.number ∷ []) → OnOk r (new ≡ leaf_put p nodes) → OnErr r (new_order ≡ order) → OnErr r (new ≡ nodes) → IsTable hand new new_order
+pub table_above : {X E : Type 0} (r : Result X E) (hand : Slots) (nodes new : Nodes) (order new_order : List ℕ) (p : Page) → IsTable hand nodes order → IsPage p → All (λ q. q.number < p.number) (pages_numbered hand nodes order)
+    → length (pages_numbered hand nodes order) < MAX_PAGES → OnOk r (new_order ≡ order ++ p.number ∷ []) → OnOk r (new ≡ leaf_put p nodes) → OnErr r (new_order ≡ order) → OnErr r (new ≡ nodes) → IsTable hand new new_order
 table_above (Ok x) hand nodes new order new_order p are page below room ok_order ok_nodes err_order err_nodes =
     subst (λ (n : Nodes). IsTable hand n new_order) (sym ok_nodes)
-    (table_is hand (leaf_put p nodes) new_order (listed hand nodes order ++ p ∷ []) (ArePages-push (listed hand nodes order) p are.pages page below room)
+    (table_is hand (leaf_put p nodes) new_order (pages_numbered hand nodes order ++ p ∷ []) (ArePages-push (pages_numbered hand nodes order) p are.pages page below room)
     (ok_order ∙ above_order hand nodes order p are) (finds_above hand nodes order p are below))
 table_above (Err e) hand nodes new order new_order p are page below room ok_order ok_nodes err_order err_nodes =
     subst (λ (n : Nodes). IsTable hand n new_order) (sym err_nodes) (subst (λ (ns : List ℕ). IsTable hand nodes ns) (sym err_order) are)
 
-pub above_on : {X E : Type 0} (r : Result X E) (hand : Slots) (nodes new : Nodes) (order new_order : List ℕ) (p : Page) (memory : Memory) → IsTable hand nodes order → IsPage p → All (λ q. q.number < p.number) (listed hand nodes order)
-    → length (listed hand nodes order) < MAX_PAGES → listed hand nodes order ≡ memory → OnOk r (new_order ≡ order ++ p.number ∷ []) → OnOk r (new ≡ leaf_put p nodes) → OnOk r (listed hand new new_order ≡ memory ++ p ∷ [])
+pub above_on : {X E : Type 0} (r : Result X E) (hand : Slots) (nodes new : Nodes) (order new_order : List ℕ) (p : Page) (memory : Memory) → IsTable hand nodes order → IsPage p → All (λ q. q.number < p.number) (pages_numbered hand nodes order)
+    → length (pages_numbered hand nodes order) < MAX_PAGES → pages_numbered hand nodes order ≡ memory → OnOk r (new_order ≡ order ++ p.number ∷ []) → OnOk r (new ≡ leaf_put p nodes) → OnOk r (pages_numbered hand new new_order ≡ memory ++ p ∷ [])
 above_on (Ok x) hand nodes new order new_order p memory are page below room view ok_order ok_nodes =
-    ap (λ (n : Nodes). listed hand n new_order) ok_nodes
-    ∙ listed_is hand (leaf_put p nodes) new_order (listed hand nodes order ++ p ∷ []) (ArePages-push (listed hand nodes order) p are.pages page below room)
+    ap (λ (n : Nodes). pages_numbered hand n new_order) ok_nodes
+    ∙ listed_is hand (leaf_put p nodes) new_order (pages_numbered hand nodes order ++ p ∷ []) (ArePages-push (pages_numbered hand nodes order) p are.pages page below room)
     (ok_order ∙ above_order hand nodes order p are) (finds_above hand nodes order p are below)
     ∙ ap (λ (m : Memory). m ++ p ∷ []) view
 above_on (Err e) hand nodes new order new_order p memory are page below room view ok_order ok_nodes = tt

@@ -3,13 +3,13 @@
 ghost use Rattle.std.specs.Prelude.{◌≡◌, IfSome, None, Some};
 ghost use Rattle.std.specs.Option.{option_copied};
 
-use crate::frame::Frame;
+use crate::shared_page::SharedPage;
 use std::alloc::Global;
 use std::marker::Model;
 
 #[derive(Drop)]
 pub struct CodePage {
-    kept: Vec<Frame>,
+    kept: Vec<SharedPage>,
 }
 
 impl Model for CodePage {
@@ -32,14 +32,14 @@ impl CodePage {
     }
 
     #[inline(always)]
-    pub fn get(&self) -> Option<&Frame>
+    pub fn get(&self) -> Option<&SharedPage>
         ensures { option_copied result ≡ self.now }
     {
         self.kept.get(0)
     }
 
     // Keeps this page instead of the one before. If memory runs out it keeps none.
-    pub fn keep(&mut self, page: Option<Frame>)
+    pub fn keep(&mut self, page: Option<SharedPage>)
         ensures { IfSome self.new (λ kept. page ≡ Some kept) }
     {
         self.kept.clear();

@@ -6,13 +6,13 @@ ghost use Rattle.std.specs.Option.{option_copied, option_map};
 ghost use Rattle.byteorder.specs.Endian.{little_bytes};
 ghost use Rattle.dp_base.specs.Memory.{width_bytes};
 ghost use Rattle.cow_pages.specs.InPage.{is_writable, with_bytes, written};
-ghost use Rattle.cow_pages.specs.Table.{IsAside, changed_if, entry_of, found, found_changed, held, held_changed, if_numbered};
+ghost use Rattle.cow_pages.specs.Table.{IsAside, changed_if, hand_entry, found, found_changed, held, held_changed, if_numbered};
 ghost use Rattle.cow_pages.specs.Tree.{entry_at, leaf, leaf_put, leaf_without};
 
 use crate::entries::grow;
-use crate::frame::Frame;
 use crate::node::shared;
 use crate::root::Root;
+use crate::shared_page::SharedPage;
 use dp_base::{OutOfMemory, Width};
 use std::alloc::Global;
 use std::marker::Model;
@@ -22,7 +22,7 @@ const ENTRIES: usize = 16;
 
 #[derive(Drop)]
 pub struct Hand {
-    entries: Vec<Option<Frame>>,
+    entries: Vec<Option<SharedPage>>,
 }
 
 impl Model for Hand {
@@ -41,7 +41,7 @@ impl Model for Hand {
 // The entry of a page, by its number. The high bits are mixed in, so that a heap and a stack have entries of their own.
 #[inline(always)]
 fn entry_of(number: u32) -> usize
-    ensures entry { result ≡ entry_of number }
+    ensures entry { result ≡ hand_entry number }
     ensures inside { result < ENTRIES }
 {
     let number = number as usize;
@@ -52,7 +52,7 @@ fn entry_of(number: u32) -> usize
 // changes nothing.
 #[inline(always)]
 fn write_entry(
-    entry: &mut Option<Frame>,
+    entry: &mut Option<SharedPage>,
     alloc: Global,
     number: u32,
     offset: usize,
@@ -76,7 +76,7 @@ fn write_entry(
 }
 
 fn put_part_entry(
-    entry: &mut Option<Frame>,
+    entry: &mut Option<SharedPage>,
     alloc: Global,
     number: u32,
     offset: usize,
@@ -117,7 +117,7 @@ impl Hand {
 
     // The page with a number.
     #[inline(always)]
-    pub fn at(&self, number: u32) -> Option<&Frame>
+    pub fn at(&self, number: u32) -> Option<&SharedPage>
         ensures { option_copied result ≡ held self.now number }
     {
         match &self.entries[entry_of(number)] {
@@ -134,17 +134,17 @@ impl Hand {
     }
 
     // The page that has the entry of this number.
-    fn rival(&self, number: u32) -> Option<&Frame>
-        ensures page { option_copied result ≡ entry_at self.now (entry_of number) }
-        ensures own { IfSome result (λ p. entry_of p.now.number ≡ entry_of number) }
+    fn rival(&self, number: u32) -> Option<&SharedPage>
+        ensures page { option_copied result ≡ entry_at self.now (hand_entry number) }
+        ensures own { IfSome result (λ p. hand_entry p.now.number ≡ hand_entry number) }
     {
         self.entries[entry_of(number)].as_ref()
     }
 
     // Gives the entry of a number to its page, or to none.
-    fn set(&mut self, number: u32, page: Option<Frame>)
+    fn set(&mut self, number: u32, page: Option<SharedPage>)
         requires { IfSome page (λ p. p.number ≡ number) }
-        ensures entry { self.new ≡ slice_set self.old (entry_of number) page }
+        ensures entry { self.new ≡ slice_set self.old (hand_entry number) page }
         ensures count { length self.old ≡ ENTRIES }
     {
         self.entries[entry_of(number)] = page;
@@ -186,7 +186,7 @@ impl Hand {
     }
 
     // The page of the tree with a number, which has the same bytes in memory. `None` if the page is in hand.
-    pub fn aside(&self, root: &Root, number: u32) -> Option<Frame>
+    pub fn aside(&self, root: &Root, number: u32) -> Option<SharedPage>
         requires { IfSome (found self.now root.now number) (λ p. p.number ≡ number) }
         ensures { IfSome result (IsAside self.now root.now) }
     {
@@ -202,7 +202,7 @@ impl Hand {
     // Puts the page that has the entry of this number back into the tree. It stays in hand too.
     fn put_back(&self, root: &mut Root, alloc: Global, number: u32) -> Result<(), OutOfMemory>
         ensures same { (n : ℕ) → found self.now root.new n ≡ found self.now root.old n }
-        ensures back { OnOk result (IfSome (entry_at self.now (entry_of number)) (λ p. leaf root.new p.number ≡ Some p)) }
+        ensures back { OnOk result (IfSome (entry_at self.now (hand_entry number)) (λ p. leaf root.new p.number ≡ Some p)) }
     {
         match self.rival(number) {
             Some(page) => root.put(alloc, page.share()?),

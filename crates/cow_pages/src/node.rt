@@ -4,7 +4,7 @@ ghost use Rattle.std.specs.Option.{option_copied};
 ghost use Rattle.cow_pages.specs.Tree.{entry_at, entry_put, slots_without};
 
 use crate::entries::grow;
-use crate::frame::Frame;
+use crate::shared_page::SharedPage;
 use dp_base::OutOfMemory;
 use std::alloc::Global;
 use std::marker::Model;
@@ -12,7 +12,7 @@ use std::sync::Arc;
 
 #[derive(Drop)]
 pub struct Slots {
-    slots: Vec<Option<Frame>>,
+    slots: Vec<Option<SharedPage>>,
 }
 
 impl Model for Slots {
@@ -41,7 +41,7 @@ impl Model for Node {
 
 impl Slots {
     #[inline(always)]
-    fn at(&self, place: usize) -> Option<&Frame>
+    fn at(&self, place: usize) -> Option<&SharedPage>
         ensures { option_copied result ≡ entry_at self.now place }
     {
         match self.slots.get(place) {
@@ -59,7 +59,7 @@ impl Slots {
     }
 
     #[tactic(auto, using(crate::proofs::EntryChanges::put_entry))]
-    fn put(&mut self, place: usize, page: Frame) -> Result<(), OutOfMemory>
+    fn put(&mut self, place: usize, page: SharedPage) -> Result<(), OutOfMemory>
         requires { place < 1024 }
         ensures ok { OnOk result (self.new ≡ entry_put place page self.old) }
         ensures err { OnErr result (self.new ≡ self.old) }
@@ -69,7 +69,7 @@ impl Slots {
         Ok(())
     }
 
-    fn take(&mut self, place: usize) -> Option<Frame>
+    fn take(&mut self, place: usize) -> Option<SharedPage>
         ensures page { result ≡ entry_at self.old place }
         ensures rest { self.new ≡ slots_without place self.old }
     {
@@ -81,7 +81,10 @@ impl Slots {
 }
 
 // Equal slots, whose pages have the same bytes in memory.
-pub fn shared(alloc: Global, slots: &[Option<Frame>]) -> Result<Vec<Option<Frame>>, OutOfMemory>
+pub fn shared(
+    alloc: Global,
+    slots: &[Option<SharedPage>],
+) -> Result<Vec<Option<SharedPage>>, OutOfMemory>
     ensures { IfOk result (λ copy. copy.items ≡ slots.now) }
 {
     let mut copy = Vec::with_capacity(alloc, slots.len())?;
@@ -92,7 +95,7 @@ pub fn shared(alloc: Global, slots: &[Option<Frame>]) -> Result<Vec<Option<Frame
 }
 
 #[inline(always)]
-fn share_slot(slot: &Option<Frame>) -> Result<Option<Frame>, OutOfMemory>
+fn share_slot(slot: &Option<SharedPage>) -> Result<Option<SharedPage>, OutOfMemory>
     ensures { IfOk result (λ copy. copy ≡ slot.now) }
 {
     match slot {
@@ -103,7 +106,7 @@ fn share_slot(slot: &Option<Frame>) -> Result<Option<Frame>, OutOfMemory>
 
 impl Node {
     // A node of one page.
-    pub fn new(alloc: Global, place: usize, page: Frame) -> Result<Node, OutOfMemory>
+    pub fn new(alloc: Global, place: usize, page: SharedPage) -> Result<Node, OutOfMemory>
         requires { place < 1024 }
         ensures { IfOk result (λ node. node ≡ entry_put place page []) }
     {
@@ -134,7 +137,7 @@ impl Node {
 
     // The page at a place.
     #[inline(always)]
-    pub fn at(&self, place: usize) -> Option<&Frame>
+    pub fn at(&self, place: usize) -> Option<&SharedPage>
         ensures { option_copied result ≡ entry_at self.now place }
     {
         let slots: &Slots = &self.slots;
@@ -142,7 +145,7 @@ impl Node {
     }
 
     // Puts a page at a place. An `Err` changes nothing.
-    pub fn put(&mut self, alloc: Global, place: usize, page: Frame) -> Result<(), OutOfMemory>
+    pub fn put(&mut self, alloc: Global, place: usize, page: SharedPage) -> Result<(), OutOfMemory>
         requires { place < 1024 }
         ensures ok { OnOk result (self.new ≡ entry_put place page self.old) }
         ensures err { OnErr result (self.new ≡ self.old) }
@@ -160,7 +163,7 @@ impl Node {
     }
 
     // Takes the page at a place out, if there is one. An `Err` changes nothing.
-    pub fn take(&mut self, alloc: Global, place: usize) -> Result<Option<Frame>, OutOfMemory>
+    pub fn take(&mut self, alloc: Global, place: usize) -> Result<Option<SharedPage>, OutOfMemory>
         ensures page { IfOk result (λ page. page ≡ entry_at self.old place) }
         ensures ok { OnOk result (self.new ≡ slots_without place self.old) }
         ensures err { OnErr result (self.new ≡ self.old) }

@@ -2,8 +2,8 @@
 ghost use Rattle.std.specs.Prelude.{◌≡◌, ◌++◌, ◌∷◌, [], IfOk, OnErr, OnOk, slice_get};
 ghost use Rattle.cow_pages.specs.Tree.{leaf_put};
 
-use crate::frame::Frame;
 use crate::root::Root;
+use crate::shared_page::SharedPage;
 use dp_base::OutOfMemory;
 use std::alloc::Global;
 use std::marker::Model;
@@ -46,7 +46,12 @@ impl Rising {
         Ok(Rising { numbers })
     }
 
-    fn put_page(&mut self, alloc: Global, root: &mut Root, page: Frame) -> Result<(), OutOfMemory>
+    fn put_page(
+        &mut self,
+        alloc: Global,
+        root: &mut Root,
+        page: SharedPage,
+    ) -> Result<(), OutOfMemory>
         ensures ok_numbers { OnOk result (self.new ≡ self.old ++ page.number ∷ []) }
         ensures ok_root { OnOk result (root.new ≡ leaf_put page root.old) }
         ensures err_numbers { OnErr result (self.new ≡ self.old) }
@@ -60,7 +65,7 @@ fn put_in(
     numbers: &mut Vec<u32>,
     alloc: Global,
     root: &mut Root,
-    page: Frame,
+    page: SharedPage,
 ) -> Result<(), OutOfMemory>
     ensures ok_numbers { OnOk result (numbers.new.items ≡ numbers.old.items ++ page.number ∷ []) }
     ensures ok_root { OnOk result (root.new ≡ leaf_put page root.old) }
@@ -133,7 +138,7 @@ impl Numbers {
         &mut self,
         alloc: Global,
         root: &mut Root,
-        page: Frame,
+        page: SharedPage,
     ) -> Result<(), OutOfMemory>
         ensures ok_numbers { OnOk result (self.new ≡ self.old ++ page.number ∷ []) }
         ensures ok_root { OnOk result (root.new ≡ leaf_put page root.old) }

@@ -5,8 +5,8 @@ ghost use Rattle.std.specs.Option.{option_copied, option_map};
 ghost use Rattle.cow_pages.specs.Tree.{entry_put, leaf, leaf_of, leaf_put, leaf_without, slots_of, slots_without};
 
 use crate::entries::grow;
-use crate::frame::Frame;
 use crate::node::Node;
+use crate::shared_page::SharedPage;
 use dp_base::OutOfMemory;
 use std::alloc::Global;
 use std::marker::Model;
@@ -43,7 +43,7 @@ impl Model for Root {
 
 impl Nodes {
     #[inline(always)]
-    fn at(&self, number: u32) -> Option<&Frame>
+    fn at(&self, number: u32) -> Option<&SharedPage>
         ensures { option_copied result ≡ leaf self.now number }
     {
         match self.nodes.get((number / 1024) as usize) {
@@ -60,14 +60,14 @@ impl Nodes {
         Ok(Nodes { nodes })
     }
 
-    fn put(&mut self, alloc: Global, page: Frame) -> Result<(), OutOfMemory>
+    fn put(&mut self, alloc: Global, page: SharedPage) -> Result<(), OutOfMemory>
         ensures ok { OnOk result (self.new ≡ leaf_put page self.old) }
         ensures err { OnErr result (self.new ≡ self.old) }
     {
         put_at(&mut self.nodes, alloc, page)
     }
 
-    fn take(&mut self, alloc: Global, number: u32) -> Result<Option<Frame>, OutOfMemory>
+    fn take(&mut self, alloc: Global, number: u32) -> Result<Option<SharedPage>, OutOfMemory>
         ensures page { IfOk result (λ page. page ≡ leaf self.old number) }
         ensures ok { OnOk result (self.new ≡ leaf_without number self.old) }
         ensures err { OnErr result (self.new ≡ self.old) }
@@ -96,7 +96,7 @@ fn share_node(node: &Option<Node>) -> Result<Option<Node>, OutOfMemory>
     }
 }
 
-fn put_at(nodes: &mut Vec<Option<Node>>, alloc: Global, page: Frame) -> Result<(), OutOfMemory>
+fn put_at(nodes: &mut Vec<Option<Node>>, alloc: Global, page: SharedPage) -> Result<(), OutOfMemory>
     ensures ok { OnOk result (nodes.new.items ≡ leaf_put page nodes.old.items) }
     ensures err { OnErr result (nodes.new.items ≡ nodes.old.items) }
 {
@@ -113,7 +113,7 @@ fn put_node(
     node: &mut Option<Node>,
     alloc: Global,
     place: usize,
-    page: Frame,
+    page: SharedPage,
 ) -> Result<(), OutOfMemory>
     requires { place < 1024 }
     ensures ok { OnOk result (node.new ≡ Some (entry_put place page (slots_of node.old))) }
@@ -135,7 +135,7 @@ fn put_past(
     alloc: Global,
     index: usize,
     place: usize,
-    page: Frame,
+    page: SharedPage,
 ) -> Result<(), OutOfMemory>
     requires index { index < 2 ^ 32 }
     requires place { place < 1024 }
@@ -152,7 +152,7 @@ fn take_at(
     nodes: &mut Vec<Option<Node>>,
     alloc: Global,
     number: u32,
-) -> Result<Option<Frame>, OutOfMemory>
+) -> Result<Option<SharedPage>, OutOfMemory>
     ensures page { IfOk result (λ page. page ≡ leaf nodes.old.items number) }
     ensures ok { OnOk result (nodes.new.items ≡ leaf_without number nodes.old.items) }
     ensures err { OnErr result (nodes.new.items ≡ nodes.old.items) }
@@ -167,7 +167,7 @@ fn take_node(
     node: &mut Option<Node>,
     alloc: Global,
     place: usize,
-) -> Result<Option<Frame>, OutOfMemory>
+) -> Result<Option<SharedPage>, OutOfMemory>
     ensures page { IfOk result (λ page. page ≡ leaf_of node.old place) }
     ensures ok { OnOk result (node.new ≡ option_map (slots_without place) node.old) }
     ensures err { OnErr result (node.new ≡ node.old) }
@@ -210,7 +210,7 @@ impl Root {
 
     // The page with a number.
     #[inline(always)]
-    pub fn at(&self, number: u32) -> Option<&Frame>
+    pub fn at(&self, number: u32) -> Option<&SharedPage>
         ensures { option_copied result ≡ leaf self.now number }
     {
         let nodes: &Nodes = &self.nodes;
@@ -218,7 +218,7 @@ impl Root {
     }
 
     // Puts a page at its number. An `Err` changes nothing.
-    pub fn put(&mut self, alloc: Global, page: Frame) -> Result<(), OutOfMemory>
+    pub fn put(&mut self, alloc: Global, page: SharedPage) -> Result<(), OutOfMemory>
         ensures ok { OnOk result (self.new ≡ leaf_put page self.old) }
         ensures err { OnErr result (self.new ≡ self.old) }
     {
@@ -235,7 +235,7 @@ impl Root {
     }
 
     // Takes the page with a number out, if there is one. An `Err` changes nothing.
-    pub fn take(&mut self, alloc: Global, number: u32) -> Result<Option<Frame>, OutOfMemory>
+    pub fn take(&mut self, alloc: Global, number: u32) -> Result<Option<SharedPage>, OutOfMemory>
         ensures page { IfOk result (λ page. page ≡ leaf self.old number) }
         ensures ok { OnOk result (self.new ≡ leaf_without number self.old) }
         ensures err { OnErr result (self.new ≡ self.old) }

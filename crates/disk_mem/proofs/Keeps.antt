@@ -6,7 +6,7 @@ use Rattle.disk_model.specs.declared.world.Stream.TheVariants.{Out, Note}
 use Rattle.disk_mem.specs.declared.call.Call.{Call}
 use Rattle.disk_mem.specs.declared.call.Call.TheVariants.{Write, Cut, Emit}
 use Rattle.disk_mem.specs.Replay.{filled, start, after_call, replay}
-use Rattle.disk_mem.specs.Recording.{Recording, recording, started, recorded, IsContentOf, IsQuiet}
+use Rattle.disk_mem.specs.Recording.{Recording, recording, new_recording, recorded, IsContentOf, IsQuiet}
 
 replay-none : (h : History) (calls : List Call) → calls ≡ [] → replay h calls ≡ h
 unfolding replay
@@ -18,11 +18,11 @@ replay-push h [] call = refl
 replay-push h (c ∷ calls) call = replay-push (after_call c h) calls call
 
 -- an empty record
-pub started-is : (bytes first : List ℕ) (calls : List Call) → calls ≡ [] → first ≡ bytes → recording first calls ≡ started bytes
+pub started-is : (bytes first : List ℕ) (calls : List Call) → calls ≡ [] → first ≡ bytes → recording first calls ≡ new_recording bytes
 started-is bytes first calls none same =
     ap (λ (l : List Call). recording first l) none
     ∙ ap (λ (h : History). record { first = first; calls = []; history = h }) (replay-none (start first) [] refl)
-    ∙ ap started same
+    ∙ ap new_recording same
 
 pub started-holds : (first d o n : List ℕ) (calls : List Call) → calls ≡ [] → first ≡ d → o ≡ [] → n ≡ [] → IsContentOf (replay (start first) calls) d o n
 started-holds first d o n calls none disk sent noted =

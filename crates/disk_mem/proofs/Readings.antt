@@ -4,7 +4,7 @@ use Rattle.std.proofs.lemmas.Bool.{cases_lt}
 use Rattle.std.proofs.lemmas.Bool.Decides.{nat_tests}
 use Rattle.std.specs.Prelude.{min, nat_lt, slice_index, if◌then◌else◌}
 use Rattle.disk_model.specs.Input.{IsLast, IsNoted}
-use Rattle.disk_mem.specs.Counted.{counted}
+use Rattle.disk_mem.specs.Counted.{counted_up}
 use Rattle.disk_mem.specs.MemoryInput.{MemoryInput, noted, reading_at, first_readings, did_read_clock}
 
 pub length-readings : (clocks : List ℕ) (n : ℕ) → length (first_readings clocks n) ≡ n
@@ -27,7 +27,7 @@ noted-all reading l many =
     ap (λ (b : Bool). if b then l ++ reading ∷ [] else l) test
 
 -- one reading more
-pub noted-next : (clocks : List ℕ) (n more reading : ℕ) → n < 2 ^ 64 → more ≡ counted n → reading ≡ reading_at clocks n → first_readings clocks more ≡ noted reading (first_readings clocks n)
+pub noted-next : (clocks : List ℕ) (n more reading : ℕ) → n < 2 ^ 64 → more ≡ counted_up n → reading ≡ reading_at clocks n → first_readings clocks more ≡ noted reading (first_readings clocks n)
 noted-next clocks n more reading fits is here =
     let size : length (first_readings clocks n) ≡ n = length-readings clocks n in
     elim (cases_lt n (2 ^ 64 - 1)) [

@@ -3,7 +3,7 @@ use Rattle.std.specs.Prelude.{ℕ, Bool, List, map, string_bytes}
 use Rattle.disk_model.specs.Directory.{File}
 use Rattle.disk_mem.specs.declared.fails.Fails.{Fails}
 use Rattle.disk_mem.specs.declared.named_file.NamedFile.{NamedFile}
-use Rattle.disk_mem.specs.Counted.{counted}
+use Rattle.disk_mem.specs.Counted.{counted_up}
 use Rattle.disk_mem.specs.Fails.{fails_at}
 
 -- a file as a directory has it
@@ -27,12 +27,12 @@ of_files files fails = record { files = as_files files; fails = fails; fetches =
 
 -- whether the next fetch fails by its number
 abbrev pub fetch_fails_next : MemoryFiles → Bool
-fetch_fails_next m = fails_at m.fails (counted m.fetches)
+fetch_fails_next m = fails_at m.fails (counted_up m.fetches)
 
 -- after one that didn't fail, or for which an allocation failed
 abbrev pub did_fetch : MemoryFiles → MemoryFiles
-did_fetch m = record m { fetches = counted m.fetches }
+did_fetch m = record m { fetches = counted_up m.fetches }
 
 -- after one that failed
 abbrev pub failed_fetch : MemoryFiles → MemoryFiles
-failed_fetch m = record (did_fetch m) { faults = counted m.faults }
+failed_fetch m = record (did_fetch m) { faults = counted_up m.faults }

@@ -3,7 +3,7 @@ use Rattle.std.specs.Prelude.{ℕ, ◌-◌, ◌^◌, min, nat_lt, if◌then◌el
 use Rattle.std.specs.List.{concat}
 use Rattle.disk_model.specs.Input.{Input, took, taken, left_after}
 use Rattle.disk_mem.specs.declared.fails.Fails.{Fails}
-use Rattle.disk_mem.specs.Counted.{counted}
+use Rattle.disk_mem.specs.Counted.{counted_up}
 use Rattle.disk_mem.specs.Fails.{fails_at}
 
 -- ---- pieces, of which some bytes were given
@@ -69,15 +69,15 @@ of_pieces pieces clocks fails = record {
 
 -- whether the next take fails by its number
 abbrev pub take_fails_next : MemoryInput → Bool
-take_fails_next m = fails_at m.fails (counted m.takes)
+take_fails_next m = fails_at m.fails (counted_up m.takes)
 
 -- after one that didn't fail, into a buffer of this size
 abbrev pub did_take : ℕ → MemoryInput → MemoryInput
-did_take room m = record m { input = took room m.input; takes = counted m.takes }
+did_take room m = record m { input = took room m.input; takes = counted_up m.takes }
 
 -- after one that failed
 abbrev pub failed_take : MemoryInput → MemoryInput
-failed_take m = record m { takes = counted m.takes; faults = counted m.faults }
+failed_take m = record m { takes = counted_up m.takes; faults = counted_up m.faults }
 
 -- after a reading of the clock
 abbrev pub did_read_clock : ℕ → MemoryInput → MemoryInput

@@ -3,7 +3,7 @@ use Rattle.std.specs.Prelude.{◌≡◌, ℕ, ◌⊎◌, Bool, true, false, List
 use Rattle.disk_model.specs.History.{History}
 use Rattle.disk_mem.specs.declared.call.Call.{Call}
 use Rattle.disk_mem.specs.declared.fails.Fails.{Fails}
-use Rattle.disk_mem.specs.Counted.{counted}
+use Rattle.disk_mem.specs.Counted.{counted_up}
 use Rattle.disk_mem.specs.Fails.{fails_at}
 use Rattle.disk_mem.specs.Replay.{start, after_call}
 
@@ -46,26 +46,26 @@ abbrev pub restarted : List ℕ → MemoryWorld → MemoryWorld
 restarted bytes m = record m { first = bytes; calls = []; history = start bytes }
 
 -- with one call more in the record
-abbrev pub called : Call → MemoryWorld → MemoryWorld
-called call m = record m { calls = m.calls ++ call ∷ []; history = after_call call m.history }
+abbrev pub with_call : Call → MemoryWorld → MemoryWorld
+with_call call m = record m { calls = m.calls ++ call ∷ []; history = after_call call m.history }
 
 -- ---- calls on the disk
 
 -- whether the next one fails by its number
 abbrev pub fails_next : MemoryWorld → Bool
-fails_next m = fails_at m.fails (counted m.disk_calls)
+fails_next m = fails_at m.fails (counted_up m.disk_calls)
 
 -- after one that was answered Ok
 abbrev pub did : Call → MemoryWorld → MemoryWorld
-did call m = record (called call m) { disk_calls = counted m.disk_calls }
+did call m = record (with_call call m) { disk_calls = counted_up m.disk_calls }
 
 -- after one that failed by its number
 abbrev pub failed : Call → MemoryWorld → MemoryWorld
-failed call m = record (did call m) { disk_faults = counted m.disk_faults }
+failed call m = record (did call m) { disk_faults = counted_up m.disk_faults }
 
 -- after one for which an allocation failed
 abbrev pub unallocated : MemoryWorld → MemoryWorld
-unallocated m = record m { disk_calls = counted m.disk_calls; disk_faults = counted m.disk_faults; allocation_failed = true }
+unallocated m = record m { disk_calls = counted_up m.disk_calls; disk_faults = counted_up m.disk_faults; allocation_failed = true }
 
 -- after one that was answered Failed, which the record has so if it failed by its number
 abbrev pub IsFailed : Call → MemoryWorld → MemoryWorld → Type 0
@@ -74,16 +74,16 @@ IsFailed call m new = ((fails_next m ≡ true) × (new ≡ failed call m)) ⊎ (
 -- ---- emits
 
 abbrev pub emit_fails_next : MemoryWorld → Bool
-emit_fails_next m = fails_at m.sink_fails (counted m.emits)
+emit_fails_next m = fails_at m.sink_fails (counted_up m.emits)
 
 abbrev pub did_emit : Call → MemoryWorld → MemoryWorld
-did_emit call m = record (called call m) { emits = counted m.emits }
+did_emit call m = record (with_call call m) { emits = counted_up m.emits }
 
 abbrev pub failed_emit : Call → MemoryWorld → MemoryWorld
-failed_emit call m = record (did_emit call m) { sink_faults = counted m.sink_faults }
+failed_emit call m = record (did_emit call m) { sink_faults = counted_up m.sink_faults }
 
 abbrev pub unallocated_emit : MemoryWorld → MemoryWorld
-unallocated_emit m = record m { emits = counted m.emits; sink_faults = counted m.sink_faults; allocation_failed = true }
+unallocated_emit m = record m { emits = counted_up m.emits; sink_faults = counted_up m.sink_faults; allocation_failed = true }
 
 abbrev pub IsFailedEmit : Call → MemoryWorld → MemoryWorld → Type 0
 IsFailedEmit call m new = ((emit_fails_next m ≡ true) × (new ≡ failed_emit call m)) ⊎ (new ≡ unallocated_emit m)

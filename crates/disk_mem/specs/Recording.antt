@@ -16,8 +16,8 @@ abbrev pub recording : List ℕ → List Call → Recording
 recording first calls = record { first = first; calls = calls; history = replay (start first) calls }
 
 -- before the first call
-abbrev pub started : List ℕ → Recording
-started bytes = record { first = bytes; calls = []; history = start bytes }
+abbrev pub new_recording : List ℕ → Recording
+new_recording bytes = record { first = bytes; calls = []; history = start bytes }
 
 -- with one call more
 abbrev pub recorded : Call → Recording → Recording

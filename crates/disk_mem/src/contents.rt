@@ -6,7 +6,7 @@ ghost use Rattle.disk_model.specs.Known.{overwritten};
 ghost use Rattle.disk_model.specs.Steps.{stream_of};
 ghost use Rattle.disk_mem.specs.declared.call.Call.TheVariants.{Write, Cut, Emit};
 ghost use Rattle.disk_mem.specs.Replay.{filled, start, replay};
-ghost use Rattle.disk_mem.specs.Recording.{started, recorded, IsQuiet};
+ghost use Rattle.disk_mem.specs.Recording.{new_recording, recorded, IsQuiet};
 ghost use Rattle.disk_mem.specs.Crashing.{left_by};
 
 use crate::Call;
@@ -44,7 +44,7 @@ impl Model for Contents {
 impl Contents {
     /// Makes an empty disk, with an empty record.
     pub fn new(alloc: Global) -> Contents
-        ensures { result ≡ started [] }
+        ensures { result ≡ new_recording [] }
     {
         Contents {
             alloc,
@@ -58,7 +58,7 @@ impl Contents {
 
     /// Makes a disk with these bytes, and an empty record.
     pub fn of_disk(alloc: Global, bytes: &[u8]) -> Result<Contents, OutOfMemory>
-        ensures { IfOk result (λ c. c ≡ started bytes.now) }
+        ensures { IfOk result (λ c. c ≡ new_recording bytes.now) }
     {
         let first = bytes.to_vec(alloc)?;
         let disk = bytes.to_vec(alloc)?;

@@ -2,7 +2,7 @@
 ghost use Rattle.std.specs.Prelude.{◌≡◌, ◌≤◌, not};
 ghost use Rattle.dp_base.specs.Counts.{Rose};
 ghost use Rattle.disk_mem.specs.Fails.{fails_at};
-ghost use Rattle.disk_mem.specs.Counted.{counted};
+ghost use Rattle.disk_mem.specs.Counted.{counted_up};
 
 use crate::Fails;
 
@@ -28,8 +28,8 @@ impl Counter {
 
     /// Counts a call. Returns `false` if it is to fail by its number.
     pub fn count_call(&mut self) -> bool
-        ensures answer { result ≡ not (fails_at self.old.fails (counted self.old.calls)) }
-        ensures after { self.new ≡ record self.old { calls = counted self.old.calls } }
+        ensures answer { result ≡ not (fails_at self.old.fails (counted_up self.old.calls)) }
+        ensures after { self.new ≡ record self.old { calls = counted_up self.old.calls } }
     {
         self.calls = self.calls.saturating_add(1);
         !self.fails.fails_at(self.calls)
@@ -37,7 +37,7 @@ impl Counter {
 
     /// Counts a fault.
     pub fn count_fault(&mut self)
-        ensures after { self.new ≡ record self.old { faults = counted self.old.faults } }
+        ensures after { self.new ≡ record self.old { faults = counted_up self.old.faults } }
         ensures cause { Rose self.old.faults self.new.faults }
         ensures count { self.old.faults ≤ self.new.faults }
     {

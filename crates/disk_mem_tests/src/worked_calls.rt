@@ -5,15 +5,15 @@ ghost use Rattle.disk_model.specs.Input.{is_at_end, left_after, taken, took};
 ghost use Rattle.disk_mem.specs.MemoryInput.{noted, reading_at};
 ghost use Rattle.disk_mem.specs.declared.call.Call.TheVariants.{Write, Cut, Sync, Emit};
 ghost use Rattle.disk_mem.specs.declared.fails.Fails.TheVariants.{Never, At, From};
-ghost use Rattle.disk_mem.specs.Counted.{counted};
+ghost use Rattle.disk_mem.specs.Counted.{counted_up};
 ghost use Rattle.disk_mem.specs.Fails.{fails_at};
 ghost use Rattle.disk_mem.specs.Replay.{filled, start, after_call};
 ghost use Rattle.disk_mem.specs.Crashing.{left_by};
 
 // A count at both its ends.
 fn counts()
-    ensures first { counted 0 ≡ 1 }
-    ensures stays { counted 0xffffffffffffffff ≡ 0xffffffffffffffff }
+    ensures first { counted_up 0 ≡ 1 }
+    ensures stays { counted_up 0xffffffffffffffff ≡ 0xffffffffffffffff }
 {}
 
 fn numbers()

@@ -33,6 +33,15 @@ pub const MAX_CALL_BYTES: u32 = 4096;
 /// Steps of one epoch at most.
 pub const MAX_EPOCH_STEPS: u32 = 1_000_000;
 
+/// Steps of one slice at most.
+pub const MAX_SLICE_STEPS: u32 = 100_000;
+
+/// Epochs from one mark to the next at most.
+pub const MAX_MARK_EPOCHS: u32 = 1000;
+
+/// Steps of one recording at most.
+pub const MAX_RECORDING_STEPS: u64 = 1_000_000_000_000;
+
 /// An epoch ends after the step at which it has written or read this many bytes.
 pub const EPOCH_END_BYTES: u32 = 65_536;
 

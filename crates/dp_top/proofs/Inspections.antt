@@ -12,7 +12,7 @@ use Rattle.dp_report.specs.declared.status.Status.{Status}
 use Rattle.dp_report.specs.declared.status.Status.TheVariants as statuses
 use Rattle.epoch_replay.specs.declared.inspect_fault.InspectFault.{InspectFault}
 use Rattle.epoch_replay.specs.declared.inspect_fault.InspectFault.TheVariants as faults
-use Rattle.epoch_replay.specs.Inspecting.{Inspected, MetNoOther}
+use Rattle.epoch_replay.specs.Inspecting.{Inspected, InspectMetNoOther}
 use Rattle.epoch_replay.specs.Replaying.{OnDisk}
 use Rattle.epoch_replay.proofs.Moments.{quiet}
 use Rattle.journal_text.specs.Reading.{Reading, bad_record, end, reads}
@@ -73,7 +73,7 @@ command_listing tells words files i j before mid after status text ok did asked 
 
 -- ---- the counts of faults at Ok
 
-pub inspection_met_none : (answer : Result (Unit {0}) InspectFault) (disk disk_after sink sink_after : ℕ) → status_of_inspection answer ≡ statuses.Ok → MetNoOther answer disk disk_after sink sink_after → (disk_after ≡ disk) × (sink_after ≡ sink)
+pub inspection_met_none : (answer : Result (Unit {0}) InspectFault) (disk disk_after sink sink_after : ℕ) → status_of_inspection answer ≡ statuses.Ok → InspectMetNoOther answer disk disk_after sink sink_after → (disk_after ≡ disk) × (sink_after ≡ sink)
 inspection_met_none (Ok done) disk disk_after sink sink_after is met = met
 inspection_met_none (Err faults.NoJournal) disk disk_after sink sink_after is met = absurd cc
 inspection_met_none (Err (faults.BadJournal number)) disk disk_after sink sink_after is met = absurd cc

@@ -9,7 +9,7 @@ use Rattle.dp_report.specs.declared.status.Status.{Status}
 use Rattle.dp_report.specs.declared.status.Status.TheVariants as statuses
 use Rattle.epoch_replay.specs.declared.replay_fault.ReplayFault.{ReplayFault}
 use Rattle.epoch_replay.specs.declared.replay_fault.ReplayFault.TheVariants as faults
-use Rattle.epoch_replay.specs.Faults.{MetNoOther}
+use Rattle.epoch_replay.specs.Faults.{ReplayMetNoOther}
 use Rattle.epoch_replay.specs.Replaying.{EachReplayMoment, OnDisk, Replayed, output_of}
 use Rattle.epoch_replay.specs.Play.{plays_to}
 use Rattle.epoch_replay.proofs.Moments.{Moments, noted_moments, quiet}
@@ -61,7 +61,7 @@ told_moments before mid after text ok each line = told_on replayed_text (known_d
 
 -- ---- the counts of faults at Ok
 
-pub replay_met_none : (answer : Result Report ReplayFault) (disk disk_after sink sink_after : ℕ) → status_of_replay answer ≡ statuses.Ok → MetNoOther answer disk disk_after sink sink_after → (disk_after ≡ disk) × (sink_after ≡ sink)
+pub replay_met_none : (answer : Result Report ReplayFault) (disk disk_after sink sink_after : ℕ) → status_of_replay answer ≡ statuses.Ok → ReplayMetNoOther answer disk disk_after sink sink_after → (disk_after ≡ disk) × (sink_after ≡ sink)
 replay_met_none (Ok report) disk disk_after sink sink_after is met = met
 replay_met_none (Err faults.NoJournal) disk disk_after sink sink_after is met = absurd cc
 replay_met_none (Err (faults.BadImage fault)) disk disk_after sink sink_after is met = absurd cc

@@ -8,7 +8,7 @@ use Rattle.device.specs.Sending.{Sent}
 use Rattle.disk_model.specs.declared.world.Stream.TheVariants.{Note, Out}
 use Rattle.disk_model.specs.Directory.{File}
 use Rattle.disk_model.specs.History.{History}
-use Rattle.disk_mem.specs.Counted.{counted}
+use Rattle.disk_mem.specs.Counted.{counted_up}
 use Rattle.disk_mem.specs.MemoryWorld.{MemoryWorld, restarted}
 use Rattle.disk_model.specs.Input.{Input, IsNoted}
 use Rattle.disk_model.specs.Known.{IfKnown}
@@ -49,7 +49,7 @@ use Rattle.dp_top.proofs.Statuses.{no_inspection, no_recording, no_replay}
 -- ---- the clock
 
 -- one more reading of 0, of the first 2^64 - 1
-pub one_more : (n more : ℕ) → n < 2 ^ 64 → more ≡ counted n → IsNoted 0 (replicate n 0) (replicate more 0)
+pub one_more : (n more : ℕ) → n < 2 ^ 64 → more ≡ counted_up n → IsNoted 0 (replicate n 0) (replicate more 0)
 one_more n more fits is =
     elim (cases_lt n (2 ^ 64 - 1)) [
       | inl few ↦

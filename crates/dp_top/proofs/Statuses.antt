@@ -19,7 +19,7 @@ use Rattle.recorder.specs.declared.options.Options.{Options}
 use Rattle.dp_report.specs.declared.report.Report.{Report}
 use Rattle.recorder.specs.declared.record_fault.RecordFault.{RecordFault}
 use Rattle.recorder.specs.declared.record_fault.RecordFault.TheVariants as faults
-use Rattle.recorder.specs.Faults.{MetNoOther}
+use Rattle.recorder.specs.Faults.{RecordMetNoOther}
 use Rattle.recorder.specs.Moments.{EachMoment}
 use Rattle.recorder.specs.Recording.{IsInUse, Recorded}
 use Rattle.recorder.proofs.Moments.{nothing_left, nothing_synced}
@@ -27,7 +27,7 @@ use Rattle.dp_report.specs.declared.status.Status.{Status}
 use Rattle.dp_report.specs.declared.status.Status.TheVariants as statuses
 use Rattle.dp_words.specs.declared.command.Command.{Command}
 use Rattle.dp_words.specs.declared.command.Command.TheVariants.{Inspect, Record, Replay, Selftest}
-use Rattle.elf_image.specs.Faults.{image_fault, number_of}
+use Rattle.elf_image.specs.Faults.{image_fault, fault_number}
 use Rattle.elf_image.specs.declared.image_fault.ImageFault.{ImageFault}
 use Rattle.elf_image.specs.declared.image_fault.ImageFault.TheVariants as image_faults
 use Rattle.dp_top.specs.Answer.{status_of, status_of_image}
@@ -57,9 +57,9 @@ came_by tells name options files i j before after guest loaded there state answe
     inr (inr (answer, status_is, as_))
 
 -- why a file is refused, by the fault's number
-pub why_refused : (fault : ImageFault) (file : List ℕ) → (fault ≡ image_faults.OutOfMemory) ⊎ (image_fault file ≡ number_of fault)
-    → (number_of fault ≡ None) ⊎ (image_fault file ≡ number_of fault)
-why_refused fault file (inl lost) = inl (ap number_of lost)
+pub why_refused : (fault : ImageFault) (file : List ℕ) → (fault ≡ image_faults.OutOfMemory) ⊎ (image_fault file ≡ fault_number fault)
+    → (fault_number fault ≡ None) ⊎ (image_fault file ≡ fault_number fault)
+why_refused fault file (inl lost) = inl (ap fault_number lost)
 why_refused fault file (inr refused) = inr refused
 
 -- the guest that was fetched is refused by the fault of this number, or by none: memory ran out
@@ -73,7 +73,7 @@ came_refused tells name options files i j before after guest loaded (Some fault)
 
 -- ---- the counts of faults at Ok
 
-pub record_met_none : (answer : Result Report RecordFault) (disk disk_after sink sink_after input input_after : ℕ) → status_of answer ≡ statuses.Ok → MetNoOther answer disk disk_after sink sink_after input input_after
+pub record_met_none : (answer : Result Report RecordFault) (disk disk_after sink sink_after input input_after : ℕ) → status_of answer ≡ statuses.Ok → RecordMetNoOther answer disk disk_after sink sink_after input input_after
     → (disk_after ≡ disk) × (sink_after ≡ sink) × (input_after ≡ input)
 record_met_none (Ok report) disk disk_after sink sink_after input input_after is met = met
 record_met_none (Err faults.InputFault) disk disk_after sink sink_after input input_after is met = absurd cc

@@ -5,7 +5,7 @@ ghost use Rattle.disk_model.specs.Known.{IfKnown, known_disk};
 ghost use Rattle.epoch_replay.specs.Replaying.{EachReplayMoment, IsKnownToEnd, OnDisk};
 ghost use Rattle.journal_text.specs.Reading.{reads};
 ghost use Rattle.dp_words.specs.Commands.{are_taken};
-ghost use Rattle.elf_image.specs.Faults.{number_of};
+ghost use Rattle.elf_image.specs.Faults.{fault_number};
 ghost use Rattle.dp_top.specs.Answer.{status_of_image};
 ghost use Rattle.dp_top.specs.Asking.{Asked, AskedInspection, AskedReplay, AskedSelfTest};
 ghost use Rattle.dp_top.specs.Moments.{EachListingMoment, EachTestMoment, EveryMoment, StillThroughout};
@@ -280,7 +280,7 @@ fn record_named<
 
 // The status of a guest whose file is refused.
 fn status_of_fault(fault: ImageFault) -> Status
-    ensures { result ≡ status_of_image (number_of fault) }
+    ensures { result ≡ status_of_image (fault_number fault) }
 {
     match fault.number() {
         Some(number) => Status::BadImage(number),

@@ -9,7 +9,7 @@ use Rattle.clap.specs.Words.{IsUnsignedIn, Row, Text}
 use Rattle.clap.specs.declared.builder.value_parser.ValueParser.TheVariants as parser
 use Rattle.clap.proofs.ValueTestLemmas.{accepts-Accepts}
 use Rattle.dp_words.specs.CommandLine.{required_number}
-use Rattle.dp_words.specs.Commands.{number_of, text_of}
+use Rattle.dp_words.specs.Commands.{number_named, text_of}
 use Rattle.dp_words.specs.Found.{HasNumber, HasValue}
 
 -- the text that was found
@@ -24,7 +24,7 @@ number_parses k name t rows r is has parses =
     (OkIff-decides r _ _ h).1 (has.1, has.2)
 
 pub number_read : {E : Type 0} (k n : ℕ) (name t : Text) (rows : List Row) (r : Result ℕ E) → t ≡ text_of name rows → ParsesUnsigned k 10 t r → r ≡ Ok n
-    → n ≡ number_of name rows
+    → n ≡ number_named name rows
 number_read k n name t rows r is parses ok =
     let h = rw is at parses in
     (OkIff-at_ok r _ _ n h ok).1
@@ -37,13 +37,13 @@ pub number_below : (bound least most : ℕ) (name : Text) (rows : List Row) → 
     → HasNumber bound name rows
 number_below bound least most name rows below has =
     let inside = in_bounds least most name rows has in
-    let most_of : number_of name rows ≤ most = inside.3 in
+    let most_of : number_named name rows ≤ most = inside.3 in
     (has.0, inside.0, omega arith)
 
-pub number_inside : (least most n : ℕ) (name : Text) (rows : List Row) → n ≡ number_of name rows → HasValue rows (required_number name least most)
+pub number_inside : (least most n : ℕ) (name : Text) (rows : List Row) → n ≡ number_named name rows → HasValue rows (required_number name least most)
     → (least ≤ n) × (n ≤ most)
 number_inside least most n name rows is has =
     let inside = in_bounds least most name rows has in
-    let from : least ≤ number_of name rows = inside.2 in
-    let to : number_of name rows ≤ most = inside.3 in
+    let from : least ≤ number_named name rows = inside.2 in
+    let to : number_named name rows ≤ most = inside.3 in
     (omega (arith, is), omega (arith, is))

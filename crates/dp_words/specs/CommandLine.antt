@@ -1,6 +1,7 @@
 -- The command line, as data of clap's definitions: a row for each argument of each subcommand. When clap builds it, it
 -- adds the flag --help to each.
 use Rattle.std.specs.Prelude.{ℕ, List, [], ◌∷◌, true, Some, codes, fold}
+use Rattle.dp_base.specs.declared.limits.TheConstants.{MAX_EPOCH_STEPS, MAX_JOBS, MAX_MARK_EPOCHS, MAX_RECORDING_STEPS, MAX_SLICE_STEPS, MAX_WORKERS}
 use Rattle.clap.specs.Words.{App, Rule, Text, new_app, new_rule, with_rule, with_subcommand}
 use Rattle.clap.specs.Simple.{on_top}
 use Rattle.clap.specs.declared.builder.action.ArgAction.TheVariants.{Set}
@@ -27,18 +28,18 @@ abbrev pub record_words : List Rule
 record_words =
     text (codes "guest")
     ∷ text (codes "journal")
-    ∷ number (codes "workers") 1 64 (codes "4")
-    ∷ number (codes "epoch") 1 1000000 (codes "20000")
-    ∷ number (codes "slice") 1 100000 (codes "1000")
-    ∷ number (codes "ahead") 1 64 (codes "16")
-    ∷ number (codes "mark") 0 1000 (codes "16")
-    ∷ number (codes "limit") 1 1000000000000 (codes "1000000000")
+    ∷ number (codes "workers") 1 MAX_WORKERS (codes "4")
+    ∷ number (codes "epoch") 1 MAX_EPOCH_STEPS (codes "20000")
+    ∷ number (codes "slice") 1 MAX_SLICE_STEPS (codes "1000")
+    ∷ number (codes "ahead") 1 MAX_JOBS (codes "16")
+    ∷ number (codes "mark") 0 MAX_MARK_EPOCHS (codes "16")
+    ∷ number (codes "limit") 1 MAX_RECORDING_STEPS (codes "1000000000")
     ∷ []
 
 abbrev pub replay_words : List Rule
 replay_words =
     text (codes "journal")
-    ∷ number (codes "workers") 1 64 (codes "4")
+    ∷ number (codes "workers") 1 MAX_WORKERS (codes "4")
     ∷ []
 
 abbrev pub inspect_words : List Rule
@@ -47,17 +48,17 @@ inspect_words = text (codes "journal") ∷ []
 abbrev pub selftest_words : List Rule
 selftest_words = required_number (codes "n") 0 4294967295 ∷ []
 
-abbrev pub record_line : App
-record_line = fold with_rule (new_app (codes "record")) record_words
+abbrev pub record_subcommand : App
+record_subcommand = fold with_rule (new_app (codes "record")) record_words
 
-abbrev pub replay_line : App
-replay_line = fold with_rule (new_app (codes "replay")) replay_words
+abbrev pub replay_subcommand : App
+replay_subcommand = fold with_rule (new_app (codes "replay")) replay_words
 
-abbrev pub inspect_line : App
-inspect_line = fold with_rule (new_app (codes "inspect")) inspect_words
+abbrev pub inspect_subcommand : App
+inspect_subcommand = fold with_rule (new_app (codes "inspect")) inspect_words
 
-abbrev pub selftest_line : App
-selftest_line = fold with_rule (new_app (codes "selftest")) selftest_words
+abbrev pub selftest_subcommand : App
+selftest_subcommand = fold with_rule (new_app (codes "selftest")) selftest_words
 
 -- one of the subcommands must be there, and `help` is none of them
 abbrev pub no_words : App
@@ -68,5 +69,5 @@ no_words =
 abbrev pub command_line : App
 command_line =
     with_subcommand
-    (with_subcommand (with_subcommand (with_subcommand no_words record_line.top) replay_line.top) inspect_line.top)
-    selftest_line.top
+    (with_subcommand (with_subcommand (with_subcommand no_words record_subcommand.top) replay_subcommand.top) inspect_subcommand.top)
+    selftest_subcommand.top

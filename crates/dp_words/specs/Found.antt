@@ -4,7 +4,7 @@ use Rattle.std.specs.Str.Parse.{IsNumeral, without_leading_plus}
 use Rattle.clap.specs.Words.{Row, Rule, Text, first_of}
 use Rattle.clap.specs.Takes.{value_passes}
 use Rattle.dp_words.specs.CommandLine.{inspect_words, record_words, replay_words, selftest_words}
-use Rattle.dp_words.specs.Commands.{number_of, text_of}
+use Rattle.dp_words.specs.Commands.{number_named, text_of}
 
 -- clap found a text of this name, and one that reads as a number below the bound
 abbrev pub HasText : Text → List Row → Type 0
@@ -12,7 +12,7 @@ HasText name rows = is_some (first_of name rows) ≡ true
 
 abbrev pub HasNumber : ℕ → Text → List Row → Type 0
 HasNumber bound name rows = HasText name rows
-    × IsNumeral 10 (without_leading_plus (text_of name rows)) × (number_of name rows < bound)
+    × IsNumeral 10 (without_leading_plus (text_of name rows)) × (number_named name rows < bound)
 
 -- clap found a value for each word of the subcommand, and one that the word takes
 abbrev pub HasValue : List Row → Rule → Type 0

@@ -2,11 +2,13 @@
 ghost use Rattle.std.specs.Prelude.{◌≡◌, IfOk, false};
 ghost use Rattle.clap.specs.Words.{app_of, with_rule};
 ghost use Rattle.clap.specs.declared.builder.command.Command.TheViews.{out-Command as fields_of};
-ghost use Rattle.dp_words.specs.CommandLine.{command_line, inspect_line, number, record_line, replay_line, required_number, selftest_line, text};
+ghost use Rattle.dp_words.specs.CommandLine.{command_line, inspect_subcommand, number, record_subcommand, replay_subcommand, required_number, selftest_subcommand, text};
 
 use clap::builder::ValueParser;
 use clap::{Arg, ArgAction, Command};
-use dp_base::limits::{MAX_EPOCH_STEPS, MAX_JOBS, MAX_WORKERS};
+use dp_base::limits::{
+    MAX_EPOCH_STEPS, MAX_JOBS, MAX_MARK_EPOCHS, MAX_RECORDING_STEPS, MAX_SLICE_STEPS, MAX_WORKERS,
+};
 use std::alloc::{AllocError, Global};
 
 /// The whole command line. It fails only if an allocation does.
@@ -24,22 +26,22 @@ pub(crate) fn command_line<'a>(alloc: Global) -> Result<Command<'a>, AllocError>
 
 // `record GUEST JOURNAL` and its options.
 fn record<'a>(alloc: Global) -> Result<Command<'a>, AllocError>
-    ensures { IfOk result (λ line. (app_of line ≡ record_line) × ((fields_of line).has_globals ≡ false)) }
+    ensures { IfOk result (λ line. (app_of line ≡ record_subcommand) × ((fields_of line).has_globals ≡ false)) }
 {
     let record = Command::new(alloc, "record");
     let record = with_text(alloc, record, "guest")?;
     let record = with_text(alloc, record, "journal")?;
     let record = with_number(alloc, record, "workers", 1, MAX_WORKERS as u64, "4")?;
     let record = with_number(alloc, record, "epoch", 1, MAX_EPOCH_STEPS as u64, "20000")?;
-    let record = with_number(alloc, record, "slice", 1, 100_000, "1000")?;
+    let record = with_number(alloc, record, "slice", 1, MAX_SLICE_STEPS as u64, "1000")?;
     let record = with_number(alloc, record, "ahead", 1, MAX_JOBS as u64, "16")?;
-    let record = with_number(alloc, record, "mark", 0, 1000, "16")?;
-    with_number(alloc, record, "limit", 1, 1_000_000_000_000, "1000000000")
+    let record = with_number(alloc, record, "mark", 0, MAX_MARK_EPOCHS as u64, "16")?;
+    with_number(alloc, record, "limit", 1, MAX_RECORDING_STEPS, "1000000000")
 }
 
 // `replay JOURNAL` and its option.
 fn replay<'a>(alloc: Global) -> Result<Command<'a>, AllocError>
-    ensures { IfOk result (λ line. (app_of line ≡ replay_line) × ((fields_of line).has_globals ≡ false)) }
+    ensures { IfOk result (λ line. (app_of line ≡ replay_subcommand) × ((fields_of line).has_globals ≡ false)) }
 {
     let replay = Command::new(alloc, "replay");
     let replay = with_text(alloc, replay, "journal")?;
@@ -48,14 +50,14 @@ fn replay<'a>(alloc: Global) -> Result<Command<'a>, AllocError>
 
 // `inspect JOURNAL`.
 fn inspect<'a>(alloc: Global) -> Result<Command<'a>, AllocError>
-    ensures { IfOk result (λ line. (app_of line ≡ inspect_line) × ((fields_of line).has_globals ≡ false)) }
+    ensures { IfOk result (λ line. (app_of line ≡ inspect_subcommand) × ((fields_of line).has_globals ≡ false)) }
 {
     with_text(alloc, Command::new(alloc, "inspect"), "journal")
 }
 
 // `selftest N`.
 fn selftest<'a>(alloc: Global) -> Result<Command<'a>, AllocError>
-    ensures { IfOk result (λ line. (app_of line ≡ selftest_line) × ((fields_of line).has_globals ≡ false)) }
+    ensures { IfOk result (λ line. (app_of line ≡ selftest_subcommand) × ((fields_of line).has_globals ≡ false)) }
 {
     with_required_number(
         alloc,

@@ -2,7 +2,7 @@
 ghost use Rattle.std.specs.Prelude.{◌≡◌, ◌<◌, ◌^◌, IfOk};
 ghost use Rattle.clap.specs.Words.{found_of, rows_of};
 ghost use Rattle.dp_words.specs.CommandLine.{inspect_words, record_words, replay_words, selftest_words};
-ghost use Rattle.dp_words.specs.Commands.{IsInRange, inspect_of, number_of, record_of, replay_of, selftest_of, text_of};
+ghost use Rattle.dp_words.specs.Commands.{IsInRange, inspect_of, number_named, record_command, replay_of, selftest_of, text_of};
 ghost use Rattle.dp_words.specs.Found.{HasNumber, HasText, HasValues};
 
 use crate::command::Command;
@@ -13,7 +13,7 @@ use std::alloc::{AllocError, Global};
 /// The command of `record`. It fails only if an allocation does.
 pub(crate) fn record(alloc: Global, matches: &ArgMatches<'_>) -> Result<Command, AllocError>
     requires { HasValues record_words (rows_of (found_of matches.now)) }
-    ensures command { IfOk result (λ command. command ≡ record_of (rows_of (found_of matches.now))) }
+    ensures command { IfOk result (λ command. command ≡ record_command (rows_of (found_of matches.now))) }
     ensures ranges { IfOk result IsInRange }
 {
     let guest = text(alloc, matches, "guest")?;
@@ -84,7 +84,7 @@ fn found<'m>(matches: &'m ArgMatches<'_>, name: &str) -> &'m str
 // The number of this name.
 fn number(matches: &ArgMatches<'_>, name: &str) -> u64
     requires { HasNumber (2 ^ 64) name.now (rows_of (found_of matches.now)) }
-    ensures { result ≡ number_of name.now (rows_of (found_of matches.now)) }
+    ensures { result ≡ number_named name.now (rows_of (found_of matches.now)) }
 {
     found(matches, name).parse::<u64>().unwrap()
 }
@@ -92,7 +92,7 @@ fn number(matches: &ArgMatches<'_>, name: &str) -> u64
 // A number below 2^32.
 fn small_number(matches: &ArgMatches<'_>, name: &str) -> u32
     requires { HasNumber (2 ^ 32) name.now (rows_of (found_of matches.now)) }
-    ensures { result ≡ number_of name.now (rows_of (found_of matches.now)) }
+    ensures { result ≡ number_named name.now (rows_of (found_of matches.now)) }
 {
     number(matches, name) as u32
 }

@@ -1,7 +1,9 @@
 // The command line with its help. `dp_words` decides what is a command; this line says why not, and takes the same.
 use clap::builder::ValueParser;
 use clap::{Arg, ArgAction, Command};
-use dp_base::limits::{MAX_EPOCH_STEPS, MAX_JOBS, MAX_WORKERS};
+use dp_base::limits::{
+    MAX_EPOCH_STEPS, MAX_JOBS, MAX_MARK_EPOCHS, MAX_RECORDING_STEPS, MAX_SLICE_STEPS, MAX_WORKERS,
+};
 use std::alloc::{AllocError, Global};
 
 // `rt version` names the logic too. Kits with the same logic prove the same.
@@ -67,7 +69,7 @@ fn record<'a>(alloc: Global) -> Result<Command<'a>, AllocError> {
             alloc,
             "slice",
             1,
-            100_000,
+            MAX_SLICE_STEPS as u64,
             "1000",
             "Steps that one thread takes before another gets its turn, 1 to 100,000",
         ))?
@@ -75,7 +77,7 @@ fn record<'a>(alloc: Global) -> Result<Command<'a>, AllocError> {
             alloc,
             "limit",
             1,
-            1_000_000_000_000,
+            MAX_RECORDING_STEPS,
             "1000000000",
             "Steps of the whole recording, 1 to 1,000,000,000,000: it stops there, with status 11",
         ))?
@@ -83,7 +85,7 @@ fn record<'a>(alloc: Global) -> Result<Command<'a>, AllocError> {
             alloc,
             "mark",
             0,
-            1000,
+            MAX_MARK_EPOCHS as u64,
             "16",
             "Epochs from one mark to the next, 0 to 1,000: a replay by several workers starts at each mark; 0 writes none",
         ))?

@@ -8,7 +8,7 @@ use Rattle.dp_base.specs.declared.limits.TheConstants.{MAX_GUEST_BYTES, MAX_PAGE
 use Rattle.elf_image.specs.declared.image.Segment.{Segment}
 use Rattle.elf_image.specs.declared.program_header.ProgramHeader.{ProgramHeader}
 use Rattle.elf_image.specs.declared.span.Span.{Span}
-use Rattle.elf_image.specs.File.{is_loaded, loaded, program_headers}
+use Rattle.elf_image.specs.File.{is_loaded, load_headers, program_headers}
 use Rattle.elf_image.specs.Faults.{has_bad_segment, has_too_many_pages, image_fault, is_bad_entry}
 use Rattle.elf_image.specs.Image.{entry_span, has_bytes, segment_of, segments_of}
 use Rattle.elf_image.specs.Segment.{AreSegments, IsSegment, MEMORY_END, span_of, spans_of, start_pages}
@@ -20,19 +20,19 @@ map-entry_span file (p ∷ ps) = ap (λ (spans : List Span). entry_span p ∷ sp
 -- ---- what was read of a file, where each list was looked at before the next was made of it
 
 pub loaded_are : (file : List ℕ) (headers seen entries : List ProgramHeader)
-    → headers ≡ program_headers file → seen ≡ headers → entries ≡ filter is_loaded seen → entries ≡ loaded file
+    → headers ≡ program_headers file → seen ≡ headers → entries ≡ filter is_loaded seen → entries ≡ load_headers file
 loaded_are file headers seen entries read same kept = kept ∙ ap (filter is_loaded) (same ∙ read)
 
 pub segments_are : (file : List ℕ) (entries seen : List ProgramHeader) (segments : List Segment)
-    → entries ≡ loaded file → seen ≡ entries → segments ≡ map (segment_of file) (filter has_bytes seen) → segments ≡ segments_of file
+    → entries ≡ load_headers file → seen ≡ entries → segments ≡ map (segment_of file) (filter has_bytes seen) → segments ≡ segments_of file
 segments_are file entries seen segments theirs same made =
     made ∙ ap (λ (ps : List ProgramHeader). map (segment_of file) (filter has_bytes ps)) (same ∙ theirs)
 
 pub spans_are : (file : List ℕ) (entries seen : List ProgramHeader) (spans : List Span)
-    → entries ≡ loaded file → seen ≡ entries → spans ≡ map entry_span (filter has_bytes seen) → spans ≡ spans_of (segments_of file)
+    → entries ≡ load_headers file → seen ≡ entries → spans ≡ map entry_span (filter has_bytes seen) → spans ≡ spans_of (segments_of file)
 spans_are file entries seen spans theirs same made =
     made ∙ ap (λ (ps : List ProgramHeader). map entry_span (filter has_bytes ps)) (same ∙ theirs)
-    ∙ map-entry_span file (filter has_bytes (loaded file))
+    ∙ map-entry_span file (filter has_bytes (load_headers file))
 
 pub pages_are : (file : List ℕ) (spans : List Span) (answer known : Bool)
     → spans ≡ spans_of (segments_of file) → answer ≡ nat_lt MAX_PAGES (length (start_pages spans)) → answer ≡ known → has_too_many_pages file ≡ known
@@ -76,8 +76,8 @@ spans_in_memory segments are =
     let each = All-from_recursion IsSegment segments are in
     All-map EndsInMemory span_of segments (All-weaker IsSegment (λ s. EndsInMemory (span_of s)) (λ s is. is.ends) segments each)
 
-pub ends_in_memory : (file : List ℕ) → list_any (is_bad_entry file) (loaded file) ≡ false → All EndsInMemory (spans_of (segments_of file))
-ends_in_memory file good = spans_in_memory (segments_of file) (good_entries file (loaded file) good)
+pub ends_in_memory : (file : List ℕ) → list_any (is_bad_entry file) (load_headers file) ≡ false → All EndsInMemory (spans_of (segments_of file))
+ends_in_memory file good = spans_in_memory (segments_of file) (good_entries file (load_headers file) good)
 
 pub are_segments : (file : List ℕ) → has_bad_segment file ≡ false → has_too_many_pages file ≡ false → AreSegments (segments_of file)
 are_segments file good few =
@@ -85,7 +85,7 @@ are_segments file good few =
     let apart = or_parts _ _ some.0 in
     let filled = eqb-false (length (segments_of file)) 0 some.1 in
     record {
-      each = good_entries file (loaded file) apart.0;
+      each = good_entries file (load_headers file) apart.0;
       some = omega (arith, filled);
       apart = apart.1;
       few_pages = ltb-false _ _ few;

@@ -10,7 +10,7 @@ use Rattle.dp_base.specs.Field.{AreBytes}
 use Rattle.dp_base.proofs.Fields.{AreBytes-drop, AreBytes-take}
 use Rattle.elf_image.specs.declared.image.Segment.{Segment}
 use Rattle.elf_image.specs.declared.program_header.ProgramHeader.{ProgramHeader}
-use Rattle.elf_image.specs.Image.{byte_at, has_byte, page_bytes, segment_of, segments_of}
+use Rattle.elf_image.specs.Image.{byte_at, has_byte, image_page_bytes, segment_of, segments_of}
 
 -- ---- a list by its places
 
@@ -26,8 +26,8 @@ listed_bytes f a (suc n) small (suc i) = listed_bytes f (a + 1) n small i
 
 pub page_listed : (segments : List Segment) (number : ℕ) (page : List ℕ) → length page ≡ PAGE_BYTES
     → ((offset : ℕ) → offset < PAGE_BYTES → get_or page offset 0 ≡ unwrap_or (byte_at segments (PAGE_BYTES * number + offset)) 0)
-    → page ≡ page_bytes segments number
-unfolding page_bytes
+    → page ≡ image_page_bytes segments number
+unfolding image_page_bytes
 page_listed segments number page size each = listed (λ address. unwrap_or (byte_at segments address) 0) page (PAGE_BYTES * number) PAGE_BYTES size each
 
 -- ---- the first segment wins
@@ -46,8 +46,8 @@ segment_bytes : (file : List ℕ) (ps : List ProgramHeader) → AreBytes file �
 segment_bytes file [] bytes = tt
 segment_bytes file (p ∷ ps) bytes = (AreBytes-take p.p_filesz (drop p.p_offset file) (AreBytes-drop p.p_offset file bytes), segment_bytes file ps bytes)
 
-pub page_is_bytes : (file : List ℕ) (number : ℕ) → AreBytes file → AreBytes (page_bytes (segments_of file) number)
-unfolding page_bytes
+pub page_is_bytes : (file : List ℕ) (number : ℕ) → AreBytes file → AreBytes (image_page_bytes (segments_of file) number)
+unfolding image_page_bytes
 page_is_bytes file number bytes =
     listed_bytes (λ address. unwrap_or (byte_at (segments_of file) address) 0) (PAGE_BYTES * number) PAGE_BYTES
     (λ address. given_byte (segments_of file) address (segment_bytes file _ bytes))

@@ -7,7 +7,7 @@ use Rattle.dp_base.specs.declared.limits.TheConstants.{MAX_GUEST_BYTES, MAX_PAGE
 use Rattle.elf_image.specs.declared.image_fault.ImageFault.{ImageFault}
 use Rattle.elf_image.specs.declared.image_fault.ImageFault.TheVariants as faults
 use Rattle.elf_image.specs.declared.program_header.ProgramHeader.{ProgramHeader}
-use Rattle.elf_image.specs.File.{e_machine, e_phentsize, e_phnum, e_phoff, e_type, e_version, ei_class, ei_data, ei_version, is_interpreter, loaded, elf_magic, program_headers}
+use Rattle.elf_image.specs.File.{e_machine, e_phentsize, e_phnum, e_phoff, e_type, e_version, ei_class, ei_data, ei_version, is_interpreter, load_headers, elf_magic, program_headers}
 use Rattle.elf_image.specs.Segment.{MEMORY_END, on_the_stack, overlap, spans_of, start_pages}
 use Rattle.elf_image.specs.Image.{segments_of}
 
@@ -47,7 +47,7 @@ is_bad_entry file p = nat_lt p.p_memsz p.p_filesz || nat_lt (length file) (p.p_o
 
 -- a bad entry that is loaded, two with a byte in common, or none with a byte
 abbrev pub has_bad_segment : List ℕ → Bool
-has_bad_segment file = list_any (is_bad_entry file) (loaded file) || overlap (spans_of (segments_of file)) || length (segments_of file) == 0
+has_bad_segment file = list_any (is_bad_entry file) (load_headers file) || overlap (spans_of (segments_of file)) || length (segments_of file) == 0
 
 abbrev pub has_too_many_pages : List ℕ → Bool
 has_too_many_pages file = nat_lt MAX_PAGES (length (start_pages (spans_of (segments_of file))))
@@ -68,15 +68,15 @@ image_fault file =
     else None
 
 -- the number of a fault, which memory's want doesn't have
-abbrev pub number_of : ImageFault → Option ℕ
-number_of faults.TooLong = Some 1
-number_of faults.NotElf = Some 2
-number_of faults.NotClass32 = Some 3
-number_of faults.NotLittle = Some 4
-number_of faults.NotExec = Some 5
-number_of faults.NotRiscv = Some 6
-number_of faults.BadTable = Some 7
-number_of faults.Interp = Some 8
-number_of faults.BadSegment = Some 9
-number_of faults.TooManyPages = Some 10
-number_of faults.OutOfMemory = None
+abbrev pub fault_number : ImageFault → Option ℕ
+fault_number faults.TooLong = Some 1
+fault_number faults.NotElf = Some 2
+fault_number faults.NotClass32 = Some 3
+fault_number faults.NotLittle = Some 4
+fault_number faults.NotExec = Some 5
+fault_number faults.NotRiscv = Some 6
+fault_number faults.BadTable = Some 7
+fault_number faults.Interp = Some 8
+fault_number faults.BadSegment = Some 9
+fault_number faults.TooManyPages = Some 10
+fault_number faults.OutOfMemory = None

@@ -48,8 +48,8 @@ e_phnum file = field 2 44 file
 -- ---- the program header table, 32 bytes an entry
 
 -- the entry at an offset of the file; p_paddr and p_align aren't looked at
-abbrev pub entry_at : List ℕ → ℕ → ProgramHeader
-entry_at file at = record {
+abbrev pub program_header_at : List ℕ → ℕ → ProgramHeader
+program_header_at file at = record {
   p_type = field 4 at file;
   p_offset = field 4 (at + 4) file;
   p_vaddr = field 4 (at + 8) file;
@@ -59,7 +59,7 @@ entry_at file at = record {
 }
 
 abbrev pub program_headers : List ℕ → List ProgramHeader
-program_headers file = map (λ i. entry_at file (e_phoff file + 32 * i)) (range_with_len 0 (e_phnum file))
+program_headers file = map (λ i. program_header_at file (e_phoff file + 32 * i)) (range_with_len 0 (e_phnum file))
 
 -- PT_LOAD
 abbrev pub is_loaded : ProgramHeader → Bool
@@ -70,5 +70,5 @@ abbrev pub is_interpreter : ProgramHeader → Bool
 is_interpreter p = p.p_type == 3
 
 -- the entries that are loaded
-abbrev pub loaded : List ℕ → List ProgramHeader
-loaded file = filter is_loaded (program_headers file)
+abbrev pub load_headers : List ℕ → List ProgramHeader
+load_headers file = filter is_loaded (program_headers file)

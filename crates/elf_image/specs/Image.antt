@@ -8,7 +8,7 @@ use Rattle.elf_image.specs.declared.image.Image.{Image}
 use Rattle.elf_image.specs.declared.image.Segment.{Segment}
 use Rattle.elf_image.specs.declared.program_header.ProgramHeader.{ProgramHeader}
 use Rattle.elf_image.specs.declared.span.Span.{Span}
-use Rattle.elf_image.specs.File.{e_entry, loaded}
+use Rattle.elf_image.specs.File.{e_entry, load_headers}
 use Rattle.elf_image.specs.Segment.{has_page, heap_start, span_of, spans_of}
 
 -- an entry's bytes of the file, and its flags: PF_X 1, PF_W 2, PF_R 4
@@ -24,7 +24,7 @@ has_bytes p = nat_lt 0 p.p_memsz
 
 -- those that have a byte, in the order of their entries
 abbrev pub segments_of : List ℕ → List Segment
-segments_of file = map (segment_of file) (filter has_bytes (loaded file))
+segments_of file = map (segment_of file) (filter has_bytes (load_headers file))
 
 pub record IsImageOf (file : List ℕ) (image : Image) : Type 0 where
   pub entry : image.entry ≡ e_entry file
@@ -41,8 +41,8 @@ abbrev pub byte_at : List Segment → (address : ℕ) → Option ℕ
 byte_at segments address = option_map (λ s. slice_index_or s.bytes (address - s.addr) 0) (find (λ s. has_byte s address) segments)
 
 -- the bytes of a page, which are 0 if no segment has them
-unfoldable pub page_bytes : List Segment → (number : ℕ) → List ℕ
-page_bytes segments number = map (λ address. unwrap_or (byte_at segments address) 0) (range_with_len (PAGE_BYTES * number) PAGE_BYTES)
+unfoldable pub image_page_bytes : List Segment → (number : ℕ) → List ℕ
+image_page_bytes segments number = map (λ address. unwrap_or (byte_at segments address) 0) (range_with_len (PAGE_BYTES * number) PAGE_BYTES)
 
 -- the flags of a page: those of all segments that have a byte on it
 abbrev pub page_flags : List Segment → (number : ℕ) → ℕ

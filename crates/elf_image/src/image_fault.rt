@@ -1,6 +1,6 @@
 // Why a file is no image.
 ghost use Rattle.std.specs.Prelude.{◌≡◌};
-ghost use Rattle.elf_image.specs.Faults.{number_of};
+ghost use Rattle.elf_image.specs.Faults.{fault_number};
 ghost use Rattle.elf_image.specs.declared.image_fault.ImageFault.TheVariants as faults;
 
 use dp_base::OutOfMemory;
@@ -36,7 +36,7 @@ pub enum ImageFault {
 impl ImageFault {
     /// Returns the number of the fault, from 1 on, or `None` for `OutOfMemory`.
     pub fn number(self) -> Option<u32>
-        ensures { result ≡ number_of self }
+        ensures { result ≡ fault_number self }
     {
         match self {
             ImageFault::TooLong => Some(1),

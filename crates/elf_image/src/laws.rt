@@ -6,7 +6,7 @@ ghost use Rattle.dp_base.specs.declared.limits.TheConstants.{MAX_GUEST_BYTES, PA
 ghost use Rattle.dp_base.specs.Field.{AreBytes};
 ghost use Rattle.elf_image.specs.declared.image.Segment.{Segment};
 ghost use Rattle.elf_image.specs.Faults.{image_fault};
-ghost use Rattle.elf_image.specs.Image.{page_bytes, page_flags, segments_of};
+ghost use Rattle.elf_image.specs.Image.{image_page_bytes, page_flags, segments_of};
 ghost use Rattle.elf_image.specs.Segment.{AreSegments, ArePageNumbers, MEMORY_END, heap_start, spans_of, start_pages};
 
 /// A file without a fault has segments, and at most 1,048,576 bytes.
@@ -27,7 +27,7 @@ pub fn page_flags_are_three_bits()
 
 /// What the segments of a file give is bytes.
 pub fn a_page_of_a_file_is_bytes()
-    ensures { (file : List ℕ) (number : ℕ) → AreBytes file → AreBytes (page_bytes (segments_of file) number) }
+    ensures { (file : List ℕ) (number : ℕ) → AreBytes file → AreBytes (image_page_bytes (segments_of file) number) }
 {}
 
 /// The heap starts at a page's start, at the end of memory at most.

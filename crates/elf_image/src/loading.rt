@@ -1,8 +1,8 @@
 // From a file to its image.
 ghost use Rattle.std.specs.Prelude.{◌≡◌, ◌⊎◌, ◌+◌, ◌≤◌, false, nat_lt, length, map, All, None, IfOk, IfErr};
 ghost use Rattle.std.specs.List.{filter, list_any};
-ghost use Rattle.elf_image.specs.Faults.{has_bad_segment, image_fault, is_bad_entry, number_of};
-ghost use Rattle.elf_image.specs.File.{loaded};
+ghost use Rattle.elf_image.specs.Faults.{has_bad_segment, image_fault, is_bad_entry, fault_number};
+ghost use Rattle.elf_image.specs.File.{load_headers};
 ghost use Rattle.elf_image.specs.Image.{IsImageOf, has_bytes, segment_of, segments_of};
 ghost use Rattle.elf_image.specs.Segment.{MEMORY_END, spans_of, start_pages};
 
@@ -32,7 +32,7 @@ const EM_RISCV: u16 = 243;
 pub fn load(alloc: Global, file: &[u8]) -> Result<Image, ImageFault>
     ensures image { IfOk result (λ image. IsImageOf file.now image) }
     ensures accepted { IfOk result (λ image. image_fault file.now ≡ None) }
-    ensures refused { IfErr result (λ fault. (fault ≡ ImageFault.OutOfMemory) ⊎ (image_fault file.now ≡ number_of fault)) }
+    ensures refused { IfErr result (λ fault. (fault ≡ ImageFault.OutOfMemory) ⊎ (image_fault file.now ≡ fault_number fault)) }
 {
     if file.len() > MAX_GUEST_BYTES as usize {
         return Err(ImageFault::TooLong);
@@ -76,7 +76,7 @@ pub fn load(alloc: Global, file: &[u8]) -> Result<Image, ImageFault>
 
 // Whether a bad entry is loaded, two segments have a byte in common, or none has a byte.
 fn has_bad_segment(file: &[u8], entries: &[ProgramHeader], spans: &[Span]) -> bool
-    requires theirs { entries.now ≡ loaded file.now }
+    requires theirs { entries.now ≡ load_headers file.now }
     requires where_they_lie { spans.now ≡ spans_of (segments_of file.now) }
     ensures answer { result ≡ has_bad_segment file.now }
     ensures whole { result ≡ false → list_any (is_bad_entry file.now) entries.now ≡ false }
@@ -98,8 +98,8 @@ fn segments(
     file: &[u8],
     loaded: &[ProgramHeader],
 ) -> Result<Vec<Segment>, OutOfMemory>
-    requires { list_any (is_bad_entry file.now) loaded.now ≡ false }
-    ensures { IfOk result (λ segments. segments.items ≡ map (segment_of file.now) (filter has_bytes loaded.now)) }
+    requires { list_any (is_bad_entry file.now) load_headers.now ≡ false }
+    ensures { IfOk result (λ segments. segments.items ≡ map (segment_of file.now) (filter has_bytes load_headers.now)) }
 {
     let mut segments = Vec::new(alloc);
     for p in loaded {

@@ -1,6 +1,6 @@
 // The pages of a guest's memory, as its segments give them.
 ghost use Rattle.std.specs.Prelude.{◌≡◌, ◌+◌, ◌-◌, ◌*◌, ◌<◌, ℕ, IfOk, if◌then◌else◌, slice_index, slice_index_or};
-ghost use Rattle.elf_image.specs.Image.{has_byte, page_bytes, page_flags};
+ghost use Rattle.elf_image.specs.Image.{has_byte, image_page_bytes, page_flags};
 ghost use Rattle.elf_image.specs.Segment.{ArePageNumbers, spans_of, start_pages};
 
 use crate::image::{Segment, Segments};
@@ -32,7 +32,7 @@ impl Segments {
     /// Returns the bytes of a page, which are 0 if no segment has them.
     pub fn page_bytes(&self, number: u32) -> [u8; 4096]
         requires { number < PAGE_NUMBERS }
-        ensures { result ≡ page_bytes self.now number }
+        ensures { result ≡ image_page_bytes self.now number }
     {
         page_bytes(self.as_slice(), number)
     }
@@ -63,7 +63,7 @@ fn page_flags(segments: &[Segment], number: u32) -> u8
 
 fn page_bytes(segments: &[Segment], number: u32) -> [u8; 4096]
     requires { number < PAGE_NUMBERS }
-    ensures { result ≡ page_bytes segments.now number }
+    ensures { result ≡ image_page_bytes segments.now number }
 {
     let mut page = [0; 4096];
     // The first segment that has a byte gives it, so the first is written last.

@@ -1,7 +1,7 @@
 // The program header table (System V ABI, edition 4.1, chapter 5 "Program Header").
 ghost use Rattle.std.specs.Prelude.{◌≡◌, ◌+◌, ◌*◌, ◌≤◌, length, map, IfOk};
 ghost use Rattle.std.specs.List.{filter, list_any};
-ghost use Rattle.elf_image.specs.File.{e_phnum, e_phoff, entry_at, is_interpreter, is_loaded, program_headers};
+ghost use Rattle.elf_image.specs.File.{e_phnum, e_phoff, program_header_at, is_interpreter, is_loaded, program_headers};
 ghost use Rattle.elf_image.specs.Faults.{is_bad_entry};
 ghost use Rattle.elf_image.specs.Image.{entry_span, has_bytes};
 
@@ -33,7 +33,7 @@ pub(crate) struct ProgramHeader {
 /// Returns the entry at an offset of a file.
 fn entry_at(file: &[u8], offset: usize) -> ProgramHeader
     requires { offset + 32 ≤ length file.now }
-    ensures { result ≡ entry_at file.now offset }
+    ensures { result ≡ program_header_at file.now offset }
 {
     ProgramHeader {
         p_type: word_at(file, offset),

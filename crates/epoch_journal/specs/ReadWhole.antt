@@ -10,10 +10,10 @@ IsReadWhole None bytes = ⊤
 IsReadWhole (Some disk) bytes = bytes ≡ take MAX_JOURNAL_BYTES disk
 
 -- The disk had no fault, unless the answer names one: the count of its faults, before and after.
-abbrev pub MetNoOther : {A : Type 0} → Result A ReadFault → (disk disk_after : ℕ) → Type 0
-MetNoOther (Ok done) disk disk_after = disk_after ≡ disk
-MetNoOther (Err reads.OutOfMemory) disk disk_after = disk_after ≡ disk
-MetNoOther (Err reads.DiskFault) disk disk_after = ⊤
+abbrev pub ReadMetNoOther : {A : Type 0} → Result A ReadFault → (disk disk_after : ℕ) → Type 0
+ReadMetNoOther (Ok done) disk disk_after = disk_after ≡ disk
+ReadMetNoOther (Err reads.OutOfMemory) disk disk_after = disk_after ≡ disk
+ReadMetNoOther (Err reads.DiskFault) disk disk_after = ⊤
 
 -- ---- on the way. These serve the contracts of the crate's own steps.
 

@@ -3,7 +3,7 @@ ghost use Rattle.std.specs.Prelude.{◌≡◌, ◌<◌, ◌≤◌, IfOk, IsErrOf
 ghost use Rattle.dp_base.specs.declared.limits.TheConstants.{MAX_JOURNAL_BYTES};
 ghost use Rattle.dp_base.specs.Counts.{Rose};
 ghost use Rattle.disk_model.specs.Known.{known_disk};
-ghost use Rattle.epoch_journal.specs.ReadWhole.{IsReadOn, IsReadSoFar, IsReadWhole, MetNoOther};
+ghost use Rattle.epoch_journal.specs.ReadWhole.{IsReadOn, IsReadSoFar, IsReadWhole, ReadMetNoOther};
 ghost use Rattle.epoch_journal.specs.declared.reading.ReadFault.TheVariants as reads;
 
 use disk_model::{Failed, World};
@@ -45,7 +45,7 @@ pub fn read_whole<W: World>(alloc: Global, world: &mut W) -> Result<Vec<u8>, Rea
     ensures history { W.history world.new ≡ W.history world.old }
     ensures cause { IsErrOf result ReadFault.DiskFault →
         Rose (W.disk_faults world.old) (W.disk_faults world.new) }
-    ensures others { MetNoOther result (W.disk_faults world.old) (W.disk_faults world.new) }
+    ensures others { ReadMetNoOther result (W.disk_faults world.old) (W.disk_faults world.new) }
     ensures count { W.disk_faults world.old ≤ W.disk_faults world.new }
     ensures sink { W.sink_faults world.new ≡ W.sink_faults world.old }
 {
@@ -68,7 +68,7 @@ fn read_chunk<W: World>(world: &mut W, bytes: &mut Vec<u8>) -> Result<bool, Read
     ensures history { W.history world.new ≡ W.history world.old }
     ensures cause { IsErrOf result ReadFault.DiskFault →
         Rose (W.disk_faults world.old) (W.disk_faults world.new) }
-    ensures others { MetNoOther result (W.disk_faults world.old) (W.disk_faults world.new) }
+    ensures others { ReadMetNoOther result (W.disk_faults world.old) (W.disk_faults world.new) }
     ensures count { W.disk_faults world.old ≤ W.disk_faults world.new }
     ensures sink { W.sink_faults world.new ≡ W.sink_faults world.old }
 {

@@ -14,19 +14,19 @@ use Rattle.epoch_replay.specs.Inspection.{inspection, record_lines, tail_line}
 use Rattle.epoch_replay.specs.Playing.{left_at}
 use Rattle.epoch_replay.specs.Replaying.{HasSent, HasSentSome, IsReplaying}
 
-abbrev pub of_read : ReadFault → InspectFault
-of_read reads.DiskFault = faults.DiskFault
-of_read reads.OutOfMemory = faults.OutOfMemory
+abbrev pub inspect_fault_of : ReadFault → InspectFault
+inspect_fault_of reads.DiskFault = faults.DiskFault
+inspect_fault_of reads.OutOfMemory = faults.OutOfMemory
 
 -- No device has failed but the one that the answer names: the counts of the disk's faults and of the sink's, before and
 -- after.
-abbrev pub MetNoOther : {A : Type 0} → Result A InspectFault → (disk disk_after sink sink_after : ℕ) → Type 0
-MetNoOther (Ok done) disk disk_after sink sink_after = (disk_after ≡ disk) × (sink_after ≡ sink)
-MetNoOther (Err faults.DiskFault) disk disk_after sink sink_after = sink_after ≡ sink
-MetNoOther (Err faults.OutputFault) disk disk_after sink sink_after = disk_after ≡ disk
-MetNoOther (Err faults.NoJournal) disk disk_after sink sink_after = (disk_after ≡ disk) × (sink_after ≡ sink)
-MetNoOther (Err (faults.BadJournal number)) disk disk_after sink sink_after = (disk_after ≡ disk) × (sink_after ≡ sink)
-MetNoOther (Err faults.OutOfMemory) disk disk_after sink sink_after = (disk_after ≡ disk) × (sink_after ≡ sink)
+abbrev pub InspectMetNoOther : {A : Type 0} → Result A InspectFault → (disk disk_after sink sink_after : ℕ) → Type 0
+InspectMetNoOther (Ok done) disk disk_after sink sink_after = (disk_after ≡ disk) × (sink_after ≡ sink)
+InspectMetNoOther (Err faults.DiskFault) disk disk_after sink sink_after = sink_after ≡ sink
+InspectMetNoOther (Err faults.OutputFault) disk disk_after sink sink_after = disk_after ≡ disk
+InspectMetNoOther (Err faults.NoJournal) disk disk_after sink sink_after = (disk_after ≡ disk) × (sink_after ≡ sink)
+InspectMetNoOther (Err (faults.BadJournal number)) disk disk_after sink sink_after = (disk_after ≡ disk) × (sink_after ≡ sink)
+InspectMetNoOther (Err faults.OutOfMemory) disk disk_after sink sink_after = (disk_after ≡ disk) × (sink_after ≡ sink)
 
 -- ---- by its answer
 

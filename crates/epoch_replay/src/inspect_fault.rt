@@ -1,6 +1,6 @@
 // Why an inspection isn't whole.
 ghost use Rattle.std.specs.Prelude.{◌≡◌};
-ghost use Rattle.epoch_replay.specs.Inspecting.{of_read};
+ghost use Rattle.epoch_replay.specs.Inspecting.{inspect_fault_of};
 ghost use Rattle.epoch_replay.specs.declared.inspect_fault.InspectFault.TheVariants as faults;
 
 use disk_model::Failed;
@@ -23,7 +23,7 @@ pub enum InspectFault {
 }
 
 impl From<ReadFault> for InspectFault {
-    ghost from_gives = { λ fault e. e ≡ of_read fault };
+    ghost from_gives = { λ fault e. e ≡ inspect_fault_of fault };
 
     fn from(fault: ReadFault) -> Self {
         match fault {

@@ -8,7 +8,7 @@ ghost use Rattle.disk_model.specs.declared.world.Stream.TheVariants.{Out};
 ghost use Rattle.device.specs.Sending.{Sent};
 ghost use Rattle.journal_text.specs.Reading.{Reading, reads};
 ghost use Rattle.epoch_replay.specs.declared.inspect_fault.InspectFault.TheVariants as faults;
-ghost use Rattle.epoch_replay.specs.Inspecting.{Inspected, IsPlaced, ListedOn, ListedSoFar, MetNoOther};
+ghost use Rattle.epoch_replay.specs.Inspecting.{Inspected, IsPlaced, ListedOn, ListedSoFar, InspectMetNoOther};
 ghost use Rattle.epoch_replay.specs.Inspection.{end_line, epoch_line, guest_line, mark_line};
 ghost use Rattle.epoch_replay.specs.Replaying.{OnDisk};
 
@@ -42,7 +42,7 @@ pub(crate) struct Listing {
 pub fn inspect<W: World>(alloc: Global, mut world: W) -> (W, Result<(), InspectFault>)
     ensures inspected { OnDisk (known_disk (W.history world))
         (λ bytes. Inspected (reads bytes) (W.history world) (W.history result.0) result.1) }
-    ensures others { MetNoOther result.1 (W.disk_faults world) (W.disk_faults result.0) (W.sink_faults world) (W.sink_faults result.0) }
+    ensures others { InspectMetNoOther result.1 (W.disk_faults world) (W.disk_faults result.0) (W.sink_faults world) (W.sink_faults result.0) }
     ensures disk_cause { result.1 ≡ Err faults.DiskFault → Rose (W.disk_faults world) (W.disk_faults result.0) }
     ensures sink_cause { result.1 ≡ Err faults.OutputFault → Rose (W.sink_faults world) (W.sink_faults result.0) }
     ensures disk_count { W.disk_faults world ≤ W.disk_faults result.0 }
@@ -55,7 +55,7 @@ pub fn inspect<W: World>(alloc: Global, mut world: W) -> (W, Result<(), InspectF
 fn inspect_disk<W: World>(alloc: Global, world: &mut W) -> Result<(), InspectFault>
     ensures inspected { OnDisk (known_disk (W.history world.old))
         (λ bytes. Inspected (reads bytes) (W.history world.old) (W.history world.new) result) }
-    ensures others { MetNoOther result (W.disk_faults world.old) (W.disk_faults world.new)
+    ensures others { InspectMetNoOther result (W.disk_faults world.old) (W.disk_faults world.new)
         (W.sink_faults world.old) (W.sink_faults world.new) }
     ensures disk_cause { IsErrOf result InspectFault.DiskFault →
         Rose (W.disk_faults world.old) (W.disk_faults world.new) }
@@ -72,7 +72,7 @@ fn inspect_disk<W: World>(alloc: Global, world: &mut W) -> Result<(), InspectFau
 fn inspect_file<W: World>(world: &mut W, file: &[u8]) -> Result<(), InspectFault>
     requires { length file.now ≤ MAX_JOURNAL_BYTES }
     ensures inspected { Inspected (reads file.now) (W.history world.old) (W.history world.new) result }
-    ensures others { MetNoOther result (W.disk_faults world.old) (W.disk_faults world.new)
+    ensures others { InspectMetNoOther result (W.disk_faults world.old) (W.disk_faults world.new)
         (W.sink_faults world.old) (W.sink_faults world.new) }
     ensures no_disk_fault { IsErrOf result InspectFault.DiskFault → ⊥ }
     ensures sink_cause { IsErrOf result InspectFault.OutputFault →
@@ -112,7 +112,7 @@ fn list_record<W: World>(
     ensures listed { (reading : Reading) (first : Option History) →
         ListedSoFar reading file.now first (W.history world.old) here.old →
         ListedOn reading file.now first (W.history world.new) here.new result }
-    ensures others { MetNoOther result (W.disk_faults world.old) (W.disk_faults world.new)
+    ensures others { InspectMetNoOther result (W.disk_faults world.old) (W.disk_faults world.new)
         (W.sink_faults world.old) (W.sink_faults world.new) }
     ensures placed { IfOk result (λ more. IsPlaced file.now here.new) }
     ensures goes_on { IfOk result (λ more. IsTrue more → here.old.at < here.new.at) }

@@ -12,7 +12,7 @@ ghost use Rattle.guest_kernel.specs.declared.state.State.{State};
 ghost use Rattle.guest_state.specs.Checkpoint.{Checkpoint, IsCheckpoint};
 ghost use Rattle.checkpoint.specs.State.{IsEncodable, checkpoint_of};
 ghost use Rattle.epoch_replay.specs.Play.{is_right, play_from, play_of};
-ghost use Rattle.epoch_replay.specs.Parts.{IsWithinMarks, first_part, marked_parts, play_parts, stretch};
+ghost use Rattle.epoch_replay.specs.Parts.{IsWithinMarks, first_part, marked_parts, play_parts, played_part};
 ghost use Rattle.epoch_replay.specs.Replaying.{IsReplaying};
 
 /// A mark is right exactly if it is the guest's whole state there.
@@ -34,10 +34,10 @@ pub fn a_crash_in_a_replay_leaves_the_disk()
 pub fn a_play_is_that_of_its_stretches()
     ensures records { (base s : State) (number : ℕ) (records : List Record) (tail : Tail) → IsEncodable base →
         AllByRecursion IsRecord records → IsWithinMarks (length records) s → play_from base s number records tail
-        ≡ play_parts (stretch s (first_part records)) number (length (first_part records))
+        ≡ play_parts (played_part s (first_part records)) number (length (first_part records))
         (marked_parts (Some (checkpoint_of base)) records) tail }
     ensures journal { (bytes : List ℕ) (r : Reading) → AreBytes bytes → reads bytes ≡ Some r → IsGuestFile r.guest → play_of r
-        ≡ play_parts (stretch (start_state r.guest) (first_part r.records)) 1 (length (first_part r.records))
+        ≡ play_parts (played_part (start_state r.guest) (first_part r.records)) 1 (length (first_part r.records))
         (marked_parts (Some (checkpoint_of (start_state r.guest))) r.records) r.tail }
 {
     guest_state::laws::whole_checkpoints();

@@ -7,7 +7,7 @@ ghost use Rattle.disk_model.specs.Known.{known_disk};
 ghost use Rattle.journal_text.specs.Reading.{Reading, reads};
 ghost use Rattle.epoch_replay.specs.declared.replay_fault.ReplayFault.TheVariants as faults;
 ghost use Rattle.epoch_replay.specs.Playing.{IsBounded, IsStart, PlayedOn, PlayedSoFar, past_mark};
-ghost use Rattle.epoch_replay.specs.Faults.{MetNoOther};
+ghost use Rattle.epoch_replay.specs.Faults.{ReplayMetNoOther};
 ghost use Rattle.epoch_replay.specs.Replaying.{EachReplayMoment, IsKnownToEnd, IsNoReplayFault, OnDisk, Replayed};
 
 use crate::epoch::play_epoch;
@@ -49,7 +49,7 @@ pub fn replay<R: Threads + Sync, W: World>(
         (λ bytes. Replayed (reads bytes) (W.history world) (W.history result.0) result.1) }
     ensures moments { OnDisk (known_disk (W.history world))
         (λ bytes. EachReplayMoment (reads bytes) (W.history world) (W.history result.0)) }
-    ensures others { MetNoOther result.1 (W.disk_faults world) (W.disk_faults result.0) (W.sink_faults world) (W.sink_faults result.0) }
+    ensures others { ReplayMetNoOther result.1 (W.disk_faults world) (W.disk_faults result.0) (W.sink_faults world) (W.sink_faults result.0) }
     ensures disk_cause { result.1 ≡ Err faults.DiskFault → Rose (W.disk_faults world) (W.disk_faults result.0) }
     ensures sink_cause { result.1 ≡ Err faults.OutputFault → Rose (W.sink_faults world) (W.sink_faults result.0) }
     ensures disk_count { W.disk_faults world ≤ W.disk_faults result.0 }
@@ -79,7 +79,7 @@ pub fn replay_through<R: Threads + Sync, W: World, G: Gate + Sync>(
         (λ bytes. Replayed (reads bytes) (W.history world) (W.history result.0) result.1) }
     ensures moments { OnDisk (known_disk (W.history world))
         (λ bytes. EachReplayMoment (reads bytes) (W.history world) (W.history result.0)) }
-    ensures others { MetNoOther result.1 (W.disk_faults world) (W.disk_faults result.0) (W.sink_faults world) (W.sink_faults result.0) }
+    ensures others { ReplayMetNoOther result.1 (W.disk_faults world) (W.disk_faults result.0) (W.sink_faults world) (W.sink_faults result.0) }
     ensures disk_cause { result.1 ≡ Err faults.DiskFault → Rose (W.disk_faults world) (W.disk_faults result.0) }
     ensures sink_cause { result.1 ≡ Err faults.OutputFault → Rose (W.sink_faults world) (W.sink_faults result.0) }
     ensures disk_count { W.disk_faults world ≤ W.disk_faults result.0 }
@@ -104,7 +104,7 @@ fn replay_disk<R: Threads + Sync, W: World, G: Gate + Sync>(
         (λ bytes. Replayed (reads bytes) (W.history world.old) (W.history world.new) result) }
     ensures moments { OnDisk (known_disk (W.history world.old))
         (λ bytes. EachReplayMoment (reads bytes) (W.history world.old) (W.history world.new)) }
-    ensures others { MetNoOther result (W.disk_faults world.old) (W.disk_faults world.new)
+    ensures others { ReplayMetNoOther result (W.disk_faults world.old) (W.disk_faults world.new)
         (W.sink_faults world.old) (W.sink_faults world.new) }
     ensures disk_cause { IsErrOf result ReplayFault.DiskFault →
         Rose (W.disk_faults world.old) (W.disk_faults world.new) }
@@ -129,7 +129,7 @@ fn replay_file<R: Threads + Sync, W: World, G: Gate + Sync>(
     requires few { length file.now ≤ MAX_JOURNAL_BYTES }
     ensures replayed { Replayed (reads file.now) (W.history world.old) (W.history world.new) result }
     ensures moments { EachReplayMoment (reads file.now) (W.history world.old) (W.history world.new) }
-    ensures others { MetNoOther result (W.disk_faults world.old) (W.disk_faults world.new)
+    ensures others { ReplayMetNoOther result (W.disk_faults world.old) (W.disk_faults world.new)
         (W.sink_faults world.old) (W.sink_faults world.new) }
     ensures no_disk_fault { IsErrOf result ReplayFault.DiskFault → ⊥ }
     ensures sink_cause { IsErrOf result ReplayFault.OutputFault →
@@ -167,7 +167,7 @@ fn play<R: Threads + Sync, W: World, G: Gate + Sync>(
     requires starts { IsStart file.now first start }
     ensures replayed { Replayed (reads file.now) (W.history world.old) (W.history world.new) result }
     ensures moments { EachReplayMoment (reads file.now) (W.history world.old) (W.history world.new) }
-    ensures others { MetNoOther result (W.disk_faults world.old) (W.disk_faults world.new)
+    ensures others { ReplayMetNoOther result (W.disk_faults world.old) (W.disk_faults world.new)
         (W.sink_faults world.old) (W.sink_faults world.new) }
     ensures no_disk_fault { IsErrOf result ReplayFault.DiskFault → ⊥ }
     ensures sink_cause { IsErrOf result ReplayFault.OutputFault →
@@ -222,7 +222,7 @@ fn play_on<R: Threads + Sync, W: World, G: Gate + Sync>(
     ensures moments { (reading : Reading) (first : Option History) →
         PlayedSoFar reading file.now first (W.history world.old) progress.old →
         EachReplayMoment (Some reading) first (W.history world.new) }
-    ensures others { MetNoOther result (W.disk_faults world.old) (W.disk_faults world.new)
+    ensures others { ReplayMetNoOther result (W.disk_faults world.old) (W.disk_faults world.new)
         (W.sink_faults world.old) (W.sink_faults world.new) }
     ensures bounded { IfOk result (λ more. IsBounded file.now progress.new) }
     ensures goes_on { IfOk result (λ more. IsTrue more → progress.old.at < progress.new.at) }
@@ -254,7 +254,7 @@ fn play_record<W: World>(
     ensures moments { (reading : Reading) (first : Option History) →
         PlayedSoFar reading file.now first (W.history world.old) progress.old →
         EachReplayMoment (Some reading) first (W.history world.new) }
-    ensures others { MetNoOther result (W.disk_faults world.old) (W.disk_faults world.new)
+    ensures others { ReplayMetNoOther result (W.disk_faults world.old) (W.disk_faults world.new)
         (W.sink_faults world.old) (W.sink_faults world.new) }
     ensures bounded { IfOk result (λ more. IsBounded file.now progress.new) }
     ensures goes_on { IfOk result (λ more. IsTrue more → progress.old.at < progress.new.at) }

@@ -6,7 +6,7 @@ ghost use Rattle.disk_model.specs.History.{History};
 ghost use Rattle.journal_text.specs.Reading.{Reading};
 ghost use Rattle.epoch_replay.specs.declared.replay_fault.ReplayFault.TheVariants as faults;
 ghost use Rattle.epoch_replay.specs.Playing.{IsBounded, PlayedSoFar};
-ghost use Rattle.epoch_replay.specs.Faults.{MetNoOther};
+ghost use Rattle.epoch_replay.specs.Faults.{ReplayMetNoOther};
 ghost use Rattle.epoch_replay.specs.Replaying.{EachReplayMoment};
 ghost use Rattle.epoch_replay.specs.Stretches.{ArePartJobs, ArePartResults, IsBegun, IsPartResult, IsStretch, WasPartTaken};
 
@@ -50,7 +50,7 @@ pub(crate) fn play_window<R: Threads + Sync, W: World, G: Gate + Sync>(
     ensures moments { (reading : Reading) (first : Option History) →
         PlayedSoFar reading file.now first (W.history world.old) progress.old →
         EachReplayMoment (Some reading) first (W.history world.new) }
-    ensures others { MetNoOther result (W.disk_faults world.old) (W.disk_faults world.new)
+    ensures others { ReplayMetNoOther result (W.disk_faults world.old) (W.disk_faults world.new)
         (W.sink_faults world.old) (W.sink_faults world.new) }
     ensures bounded { IfOk result (λ _. IsBounded file.now progress.new) }
     ensures goes_on { IfOk result (λ further. IsTrue further → progress.old.at < progress.new.at) }
@@ -246,7 +246,7 @@ fn take_all<W: World>(
     ensures moments { (reading : Reading) (first : Option History) →
         PlayedSoFar reading file.now first (W.history world.old) progress.old →
         EachReplayMoment (Some reading) first (W.history world.new) }
-    ensures others { MetNoOther result (W.disk_faults world.old) (W.disk_faults world.new)
+    ensures others { ReplayMetNoOther result (W.disk_faults world.old) (W.disk_faults world.new)
         (W.sink_faults world.old) (W.sink_faults world.new) }
     ensures bounded { IfOk result (λ _. IsBounded file.now progress.new) }
     ensures stays { IfOk result (λ _. progress.old.at ≤ progress.new.at) }
@@ -283,7 +283,7 @@ fn take<W: World>(
     ensures moments { (reading : Reading) (first : Option History) →
         PlayedSoFar reading file.now first (W.history world.old) progress.old →
         EachReplayMoment (Some reading) first (W.history world.new) }
-    ensures others { MetNoOther result (W.disk_faults world.old) (W.disk_faults world.new)
+    ensures others { ReplayMetNoOther result (W.disk_faults world.old) (W.disk_faults world.new)
         (W.sink_faults world.old) (W.sink_faults world.new) }
     ensures bounded { IfOk result (λ _. IsBounded file.now progress.new) }
     ensures stays { IfOk result (λ _. progress.old.at ≤ progress.new.at) }

@@ -14,7 +14,7 @@ use Rattle.guest_kernel.specs.State.{has_ended, without_reservation}
 use Rattle.guest_kernel.specs.Turn.{turn, yields}
 use Rattle.epoch_runner.specs.declared.bounds.Bounds.{Bounds}
 use Rattle.epoch_runner.specs.Answering.{answers_for, can_step, ready_at}
-use Rattle.epoch_runner.specs.Schedule.{Course, IsScheduled, IsUsedUp, NextStep, closed, closed_by, course, ends, followed, given, next, progress, starting, step, turn_of, turned}
+use Rattle.epoch_runner.specs.Schedule.{Course, IsScheduled, IsUsedUp, NextStep, closed, closed_by, course, ends, followed, given, next_step, progress, starting, step, turn_of, turned}
 use Rattle.epoch_runner.proofs.AnswerLists.{read_length}
 use Rattle.epoch_runner.specs.KernelLaws.{ReservationLaw, RunLaws, TurnLaws}
 use Rattle.epoch_runner.proofs.Nexts.{ends_next, no_hints_next, rules, turn_next}
@@ -152,7 +152,7 @@ module _ (turn_laws : TurnLaws) (run_laws : RunLaws) (reserved : ReservationLaw)
     rest = refl;
   }
 
-  by_next : (start : State) (w : Supplied) (bounds : Bounds) (n : ℕ) (c d : Course) (x : NextStep) → Holds start bounds n c → next c.state w bounds (progress c) ≡ x → followed w c x ≡ Some d → Holds start bounds (suc n) d
+  by_next : (start : State) (w : Supplied) (bounds : Bounds) (n : ℕ) (c d : Course) (x : NextStep) → Holds start bounds n c → next_step c.state w bounds (progress c) ≡ x → followed w c x ≡ Some d → Holds start bounds (suc n) d
   by_next start w bounds n c d ends so_far is went = absurd cc
   by_next start w bounds n c d (turn_of tid false hints) so_far is went =
       let there = turn_next c.state w bounds (progress c) tid false hints is in
@@ -176,7 +176,7 @@ module _ (turn_laws : TurnLaws) (run_laws : RunLaws) (reserved : ReservationLaw)
 
   by_course : (start : State) (w : Supplied) (bounds : Bounds) (n : ℕ) (d : Course) (o : Option Course) → ((c : Course) → o ≡ Some c → Holds start bounds n c) → (o >>= step w bounds) ≡ Some d → Holds start bounds (suc n) d
   by_course start w bounds n d None so_far went = absurd cc
-  by_course start w bounds n d (Some c) so_far went = by_next start w bounds n c d (next c.state w bounds (progress c)) (so_far c refl) refl went
+  by_course start w bounds n d (Some c) so_far went = by_next start w bounds n c d (next_step c.state w bounds (progress c)) (so_far c refl) refl went
 
   pub course_holds : (start : State) (hints : Hints) (w : Supplied) (bounds : Bounds) (n : ℕ) (d : Course) → course n w bounds (starting start hints) ≡ Some d → Holds start bounds n d
   unfolding course
@@ -216,7 +216,7 @@ module _ (turn_laws : TurnLaws) (run_laws : RunLaws) (reserved : ReservationLaw)
       ]
 
   -- without hints none are left, and none are used up
-  none_left : (w : Supplied) (bounds : Bounds) (c d : Course) (x : NextStep) → c.hints ≡ None → next c.state w bounds (progress c) ≡ x → followed w c x ≡ Some d → d.hints ≡ None
+  none_left : (w : Supplied) (bounds : Bounds) (c d : Course) (x : NextStep) → c.hints ≡ None → next_step c.state w bounds (progress c) ≡ x → followed w c x ≡ Some d → d.hints ≡ None
   none_left w bounds c d ends none is went = absurd cc
   none_left w bounds c d (turn_of tid begins hints) none is went = by_turn begins went
     where
@@ -236,7 +236,7 @@ module _ (turn_laws : TurnLaws) (run_laws : RunLaws) (reserved : ReservationLaw)
 
   then_none : (w : Supplied) (bounds : Bounds) (d : Course) (o : Option Course) → ((c : Course) → o ≡ Some c → c.hints ≡ None) → (o >>= step w bounds) ≡ Some d → d.hints ≡ None
   then_none w bounds d None so_far went = absurd cc
-  then_none w bounds d (Some c) so_far went = none_left w bounds c d (next c.state w bounds (progress c)) (so_far c refl) refl went
+  then_none w bounds d (Some c) so_far went = none_left w bounds c d (next_step c.state w bounds (progress c)) (so_far c refl) refl went
 
   pub course_none : (start : State) (hints : Hints) (w : Supplied) (bounds : Bounds) (n : ℕ) (d : Course) → given hints ≡ None → course n w bounds (starting start hints) ≡ Some d → d.hints ≡ None
   unfolding course

@@ -5,7 +5,7 @@ use Rattle.dp_base.specs.Field.{◌>>=◌}
 use Rattle.dp_base.specs.Journal.{Epoch}
 use Rattle.guest_kernel.specs.declared.state.State.{State}
 use Rattle.epoch_runner.specs.declared.bounds.Bounds.{Bounds}
-use Rattle.epoch_runner.specs.Schedule.{Course, IsScheduled, closed, course, ends, followed, next, progress, starting, step}
+use Rattle.epoch_runner.specs.Schedule.{Course, IsScheduled, closed, course, ends, followed, next_step, progress, starting, step}
 use Rattle.supply.specs.Supplied.{Supplied}
 use Rattle.sync_hints.specs.declared.hints.Hints.{Hints}
 
@@ -50,10 +50,10 @@ course-alike zero w bounds c d some is = absurd (omega (arith, some))
 course-alike (suc n) w bounds c d some is = first_step n w bounds c ∙ ap (λ o. o >>= course n w bounds) is ∙ sym (first_step n w bounds d)
 
 -- after the end there is nothing
-past_end : (n : ℕ) (w : Supplied) (bounds : Bounds) (c : Course) → next c.state w bounds (progress c) ≡ ends → course (suc n) w bounds c ≡ None
+past_end : (n : ℕ) (w : Supplied) (bounds : Bounds) (c : Course) → next_step c.state w bounds (progress c) ≡ ends → course (suc n) w bounds c ≡ None
 past_end n w bounds c stops = first_step n w bounds c ∙ ap (λ x. followed w c x >>= course n w bounds) stops
 
-no_further : (m n : ℕ) (w : Supplied) (bounds : Bounds) (c d e : Course) → course m w bounds c ≡ Some d → next d.state w bounds (progress d) ≡ ends → course n w bounds c ≡ Some e → n ≤ m
+no_further : (m n : ℕ) (w : Supplied) (bounds : Bounds) (c d e : Course) → course m w bounds c ≡ Some d → next_step d.state w bounds (progress d) ≡ ends → course n w bounds c ≡ Some e → n ≤ m
 no_further m n w bounds c d e went stops other = elim (cases_lt m n) [
   | inr within ↦ within
   | inl beyond ↦ (
@@ -63,7 +63,7 @@ no_further m n w bounds c d e went stops other = elim (cases_lt m n) [
 ]
 
 -- a course has one end
-pub one_end : (m n : ℕ) (w : Supplied) (bounds : Bounds) (c d e : Course) → course m w bounds c ≡ Some d → next d.state w bounds (progress d) ≡ ends → course n w bounds c ≡ Some e → next e.state w bounds (progress e) ≡ ends → d ≡ e
+pub one_end : (m n : ℕ) (w : Supplied) (bounds : Bounds) (c d e : Course) → course m w bounds c ≡ Some d → next_step d.state w bounds (progress d) ≡ ends → course n w bounds c ≡ Some e → next_step e.state w bounds (progress e) ≡ ends → d ≡ e
 one_end m n w bounds c d e went stops other ends_too =
     let below = no_further m n w bounds c d e went stops other in
     let above = no_further n m w bounds c e d other ends_too went in

@@ -20,7 +20,7 @@ use Rattle.epoch_runner.specs.Answering.{answers_for, can_step, ready_at}
 use Rattle.epoch_runner.specs.declared.bounds.Bounds.{Bounds}
 use Rattle.epoch_runner.specs.Hinted.{Following, any_left, at_entry, lefts}
 use Rattle.epoch_runner.specs.Running.{IsRunOf}
-use Rattle.epoch_runner.specs.Schedule.{Course, IsScheduled, IsUsedUp, begins_from, begins_with, closed, course, ends, followed, next, progress, starting, step, takes_turn, turn_of, turned}
+use Rattle.epoch_runner.specs.Schedule.{Course, IsScheduled, IsUsedUp, begins_from, begins_with, closed, course, ends, followed, next_step, progress, starting, step, takes_turn, turn_of, turned}
 use Rattle.epoch_runner.specs.SliceRun.{EpochSoFar, IsSliceRun, Traced, inside, next_slice}
 use Rattle.dp_base.proofs.Lists.{all_append}
 use Rattle.epoch_runner.proofs.AnswerLists.{few_encoded}
@@ -80,7 +80,7 @@ not_used_up hints true any used_up = both_ways (any_left (lefts hints.counts)) (
 not_used_up hints false any used_up = used_up
 
 -- an epoch that has a step doesn't end before it
-start_goes_on : (start : State) (hints : Hints) (w : Supplied) (bounds : Bounds) → 0 < bounds.steps → can_step start w ≡ true → next start w bounds (progress (starting start hints)) ≡ ends → ⊥
+start_goes_on : (start : State) (hints : Hints) (w : Supplied) (bounds : Bounds) → 0 < bounds.steps → can_step start w ≡ true → next_step start w bounds (progress (starting start hints)) ≡ ends → ⊥
 start_goes_on start hints w bounds some can is = elim (ends_next start w bounds (progress (starting start hints)) is) [
   | inr used_up ↦ not_used_up hints (any_left (lefts hints.counts)) refl used_up
   | inl ended ↦ elim (rules start w bounds (progress (starting start hints)) ended) [
@@ -92,10 +92,10 @@ start_goes_on start hints w bounds some can is = elim (ends_next start w bounds 
 ]
 
 begun : (start : State) (hints : Hints) (w : Supplied) (bounds : Bounds) (count : ℕ) (here : Course) → 0 < bounds.steps → can_step start w ≡ true → course count w bounds (starting start hints) ≡ Some here
-    → next here.state w bounds (progress here) ≡ ends → 0 < count
+    → next_step here.state w bounds (progress here) ≡ ends → 0 < count
 unfolding course
 begun start hints w bounds zero here some can went is =
-    let same : starting start hints ≡ here = cc in absurd (start_goes_on start hints w bounds some can (ap (λ (c : Course). next c.state w bounds (progress c)) same ∙ is))
+    let same : starting start hints ≡ here = cc in absurd (start_goes_on start hints w bounds some can (ap (λ (c : Course). next_step c.state w bounds (progress c)) same ∙ is))
 begun start hints w bounds (suc n) here some can went is = omega arith
 
 -- there is a step in each slice
@@ -169,7 +169,7 @@ module _ (turn_laws : TurnLaws) (run_laws : RunLaws) (reserved : ReservationLaw)
       ∙ ap (λ (a : List Answer). inside s (record { output = t.output; answers = a }) x.done tid x.in_slice false) taken
       ∙ ap (λ (d : List Slice). inside s t d tid x.in_slice false) (sym so_far.slices_are)
       ∙ ap (λ (n : ℕ). inside s t slices tid n false) empty in
-      let goes_on : next y.state w bounds (progress y) ≡ turn_of tid false None =
+      let goes_on : next_step y.state w bounds (progress y) ≡ turn_of tid false None =
       same_next s w bounds (progress y) tid
       (record { alive = opened.is_open.alive; some = ready_some s w tid opened.is_open.ready; few = omega (arith, opened.some, so_far.sum, so_far.turns_are); little = opened.is_open.little; little_read = opened.is_open.little_read })
       refl refl opened.is_open.ready refl (omega (arith, bounds.some_slice)) in

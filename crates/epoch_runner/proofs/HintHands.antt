@@ -15,7 +15,7 @@ use Rattle.epoch_runner.specs.Answering.{can_step}
 use Rattle.epoch_runner.specs.declared.bounds.Bounds.{Bounds}
 use Rattle.epoch_runner.specs.declared.hint_stage.HintTurn.{HintTurn}
 use Rattle.epoch_runner.specs.Hinted.{Following, any_left, at_entry, is_thread, lefts}
-use Rattle.epoch_runner.specs.HintRun.{HasFollowed, HintedSoFar, IsHand, IsInHand, AreHintsOver, begins_by, hand_steps, hand_thread, with_hand, without_hand}
+use Rattle.epoch_runner.specs.HintRun.{HasFollowed, HintedSoFar, IsOpenSlice, IsInHand, AreHintsOver, begins_by, hand_steps, hand_thread, with_hand, without_hand}
 use Rattle.epoch_runner.specs.Schedule.{Course, closed, closed_by, starting}
 use Rattle.epoch_runner.specs.SliceRun.{Traced}
 use Rattle.epoch_runner.proofs.Epochs.{all-push, none_went, untraced}
@@ -140,11 +140,11 @@ hand_over start hints w bounds s slices t left (Some x) f so_far =
       sum = omega (arith, sum_by_push (λ (y : Slice). y.steps) slices x, so_far.turns_are);
     }
 
-pub hand_last : (hand : Option Slice) (here : Course) → IsHand hand here → hand_thread hand ≡ here.last
+pub hand_last : (hand : Option Slice) (here : Course) → IsOpenSlice hand here → hand_thread hand ≡ here.last
 hand_last None here is = sym is.0
 hand_last (Some x) here is = sym is.0
 
-pub hand_count : (hand : Option Slice) (here : Course) → IsHand hand here → here.in_slice ≡ hand_steps hand
+pub hand_count : (hand : Option Slice) (here : Course) → IsOpenSlice hand here → here.in_slice ≡ hand_steps hand
 hand_count None here is = is.1
 hand_count (Some x) here is = is.1.0
 
@@ -178,7 +178,7 @@ in_hand start hints w bounds s slices t left hand f so_far turn false begins_is 
         never : hand_thread None ≡ Some turn.tid → ⊥
         never e = absurd cc
     by_hand (Some x) hand_so same =
-        let mine : IsHand (Some x) so_far.here = subst (λ o. IsHand o so_far.here) hand_so so_far.hand_is in
+        let mine : IsOpenSlice (Some x) so_far.here = subst (λ o. IsOpenSlice o so_far.here) hand_so so_far.hand_is in
         let tid_is : x.tid ≡ turn.tid = some_same x.tid turn.tid (sym (ap hand_thread hand_so) ∙ same) in
         record {
           held = x.steps;

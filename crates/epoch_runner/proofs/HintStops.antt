@@ -14,7 +14,7 @@ use Rattle.epoch_runner.specs.Answering.{can_step, is_ready}
 use Rattle.epoch_runner.specs.declared.bounds.Bounds.{Bounds}
 use Rattle.epoch_runner.specs.Hinted.{Following, any_left, hinted}
 use Rattle.epoch_runner.specs.HintRun.{HintedSoFar, AreHintsOver, hand_thread, with_hand, without_hand}
-use Rattle.epoch_runner.specs.Schedule.{Course, after_last, begins_from, begins_with, ends, ends_epoch, next, progress}
+use Rattle.epoch_runner.specs.Schedule.{Course, after_last, begins_from, begins_with, ends, ends_epoch, next_step, progress}
 use Rattle.epoch_runner.specs.SliceRun.{EpochSoFar, Traced, next_slice}
 use Rattle.guest_kernel.proofs.Dropping.{without_reservation-steps}
 use Rattle.epoch_runner.proofs.HintHands.{hand_count, hand_last, hand_over}
@@ -94,6 +94,6 @@ hinted_stop start hints w bounds s slices t left hand f following so_far used_up
     why any (inr (inl none)) = absurd (both_ways (any_left f.left) none any)
     why any (inr (inr none)) = inr (ap (λ (z : State). hinted z w f) (sym so_far.state_is) ∙ none)
 
-    by : (b : Bool) → any_left f.left ≡ b → next so_far.here.state w bounds (progress so_far.here) ≡ begins_with following
+    by : (b : Bool) → any_left f.left ≡ b → next_step so_far.here.state w bounds (progress so_far.here) ≡ begins_with following
     by true any = dropped_next so_far.here.state w bounds (progress so_far.here) f so_far.hints_are any (why any stops) ∙ as_code ∙ sym (dropped any)
     by false none = used_up_next so_far.here.state w bounds (progress so_far.here) f so_far.hints_are none ∙ sym (ap begins_with (used_up none))

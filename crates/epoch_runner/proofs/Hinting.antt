@@ -22,8 +22,8 @@ use Rattle.epoch_runner.specs.Answering.{answers_for, ready_at, ready_by}
 use Rattle.epoch_runner.specs.declared.bounds.Bounds.{Bounds}
 use Rattle.epoch_runner.specs.declared.hint_stage.HintTurn.{HintTurn}
 use Rattle.epoch_runner.specs.Hinted.{Following, HintedTurn, any_left, goes_plain, hinted, is_plain, is_thread, left_of, less, plain_turn}
-use Rattle.epoch_runner.specs.HintRun.{HasGonePlain, HasTakenHinted, HasTurned, HintedSoFar, IsAt, IsHand, IsInHand, IsNextTurn, begins_by, hand_steps, with_steps, without_hand}
-use Rattle.epoch_runner.specs.Schedule.{Course, course, followed, next, progress, starting, step, takes_turn, turn_of, turned}
+use Rattle.epoch_runner.specs.HintRun.{HasGonePlain, HasTakenHinted, HasTurned, HintedSoFar, IsAt, IsOpenSlice, IsInHand, IsNextTurn, begins_by, hand_steps, with_steps, without_hand}
+use Rattle.epoch_runner.specs.Schedule.{Course, course, followed, next_step, progress, starting, step, takes_turn, turn_of, turned}
 use Rattle.epoch_runner.specs.SliceRun.{EpochSoFar, Traced}
 use Rattle.dp_base.proofs.Lists.{all_append}
 use Rattle.epoch_runner.proofs.HintHands.{Held, base, hand_count, hand_last, in_hand}
@@ -102,7 +102,7 @@ pub record Goes (w : Supplied) (s : State) (t : Traced) (left : ℕ) (f : Follow
 module _ (laws : TurnLaws) (reserved : ReservationLaw) where
   -- where the next turn is by hints, it is taken in the slice that is in hand
   from_here : (w : Supplied) (bounds : Bounds) (here : Course) (begins : Bool) (tid : Tid) (count : ℕ) (s : State) (slices : List Slice) (hand : Option Slice) (t : Traced) (hints left : Option Following)
-      → (held : Held here begins tid count s slices hand) → t.output ≡ here.output → t.answers ≡ here.answers → next here.state w bounds (progress here) ≡ turn_of tid begins left
+      → (held : Held here begins tid count s slices hand) → t.output ≡ here.output → t.answers ≡ here.answers → next_step here.state w bounds (progress here) ≡ turn_of tid begins left
       → step w bounds here ≡ takes_turn w (inside_by s t slices tid held.held false hints) tid left
   from_here w bounds here begins tid count s slices hand t hints left held output_is answers_are goes =
       ap (followed w here) goes ∙ by begins ∙ overwrites (base here begins) ∙ ap (λ (c : Course). takes_turn w c tid left) same
@@ -149,7 +149,7 @@ module _ (laws : TurnLaws) (reserved : ReservationLaw) where
     are_answers : AllByRecursion IsAnswer before.answers → AllByRecursion IsAnswer behind.answers
 
   one_taken : (w : Supplied) (bounds : Bounds) (here : Course) (begins : Bool) (tid : Tid) (count : ℕ) (s : State) (slices : List Slice) (hand : Option Slice) (t : Traced) (f : Following)
-      → (held : Held here begins tid count s slices hand) → t.output ≡ here.output → t.answers ≡ here.answers → next here.state w bounds (progress here) ≡ turn_of tid begins (Some (record f { left = less f.left tid 1 }))
+      → (held : Held here begins tid count s slices hand) → t.output ≡ here.output → t.answers ≡ here.answers → next_step here.state w bounds (progress here) ≡ turn_of tid begins (Some (record f { left = less f.left tid 1 }))
       → (yielded : Bool) (after : State) (behind : Traced) → HasTurned w tid s t yielded after behind → Taken w bounds here tid s slices t held.held 1 f after behind
   one_taken w bounds here begins tid count s slices hand t f held output_is answers_are goes yielded after behind has =
       let left : Option Following = Some (record f { left = less f.left tid 1 }) in
@@ -172,7 +172,7 @@ module _ (laws : TurnLaws) (reserved : ReservationLaw) where
       }
 
   plain_taken : (w : Supplied) (bounds : Bounds) (here : Course) (begins : Bool) (tid : Tid) (count : ℕ) (s : State) (slices : List Slice) (hand : Option Slice) (t : Traced) (f : Following)
-      → (held : Held here begins tid count s slices hand) → t.output ≡ here.output → t.answers ≡ here.answers → next here.state w bounds (progress here) ≡ turn_of tid begins (Some (record f { left = less f.left tid 1 }))
+      → (held : Held here begins tid count s slices hand) → t.output ≡ here.output → t.answers ≡ here.answers → next_step here.state w bounds (progress here) ≡ turn_of tid begins (Some (record f { left = less f.left tid 1 }))
       → has_ended s.end ≡ false → ready_at s w tid ≡ true → IsAt f.stage tid
       → (steps : ℕ) (after : State) (behind : Traced) → HasLeft w bounds t slices f tid held.held steps → HasGonePlain tid s t steps after behind → Taken w bounds here tid s slices t held.held steps f after behind
   plain_taken w bounds here begins tid count s slices hand t f held output_is answers_are goes alive ready stands steps after behind has gone =
@@ -180,7 +180,7 @@ module _ (laws : TurnLaws) (reserved : ReservationLaw) where
       let hints = hints_at f tid n in
       let keeps = keeps_on w bounds s after t behind slices f tid n steps has stands gone in
       let left : Option Following = Some (record f { left = less f.left tid 1 }) in
-      let first : next s w bounds (progress (inside_by s t slices tid n false (hints n))) ≡ turn_of tid false left =
+      let first : next_step s w bounds (progress (inside_by s t slices tid n false (hints n))) ≡ turn_of tid false left =
       keeps 0 n (CommonAt s) gone.some (omega arith) (none_yet tid (CommonAt s)) alive ready ∙ ap (turn_of tid false) (hints_at-is f tid n (n + 1) 1 refl) in
       let alike : step w bounds here ≡ step w bounds (inside_by s t slices tid n false (hints n)) =
       from_here w bounds here begins tid count s slices hand t (hints n) left held output_is answers_are goes ∙ sym (ap (followed w (inside_by s t slices tid n false (hints n))) first) in
@@ -249,7 +249,7 @@ module _ (laws : TurnLaws) (reserved : ReservationLaw) where
         little_read = subst (λ (a : List Answer). length (bytes_read a) < EPOCH_END_BYTES) so_far.answers_are goes.little_read;
       } in
       let begins_is : (turn.fresh || not (is_thread here.last tid)) ≡ begins = ap (λ o. turn.fresh || not (is_thread o tid)) (sym (hand_last hand here so_far.hand_is)) in
-      let nexts : next here.state w bounds (progress here) ≡ turn_of tid begins (Some (record f1 { left = less f1.left tid 1 })) =
+      let nexts : next_step here.state w bounds (progress here) ≡ turn_of tid begins (Some (record f1 { left = less f1.left tid 1 })) =
       hinted_goes here.state w bounds (progress here) f named goes_on so_far.hints_are goes.any (ap (λ (z : State). hinted z w f) (sym so_far.state_is) ∙ next_is.is)
       ∙ ap (λ b. turn_of tid b (Some (record f1 { left = less f1.left tid 1 }))) begins_is in
       let room : HasLeft w bounds t over f1 tid in_slice.held steps = record { epoch = omega (arith, in_slice.sum, so_far.sum, within); own = own; little = goes.little; little_read = goes.little_read } in
@@ -267,7 +267,7 @@ module _ (laws : TurnLaws) (reserved : ReservationLaw) where
         output_is = taken.output_is;
         answers_are = taken.answers_are;
         hints_are = taken.hints_are;
-        hand_is = subst (λ o. IsHand (with_steps steps o) taken.there) (sym in_slice.hand_is) (
+        hand_is = subst (λ o. IsOpenSlice (with_steps steps o) taken.there) (sym in_slice.hand_is) (
           taken.last_is,
           (
             taken.held_is,

@@ -18,7 +18,7 @@ use Rattle.epoch_runner.specs.declared.hint_stage.HintStage.TheVariants.{Others,
 use Rattle.epoch_runner.specs.Answering.{can_step, is_ready, is_unanswered, ready_at, ready_by}
 use Rattle.epoch_runner.specs.Hinted.{Following, HintedTurn, any_left, by_last_rule, by_others, by_stage, entry_turn, goes_plain, hinted, is_plain, is_thread, last_rule, left_of, plain_turn, rule_1, rule_2, rule_3, rule_4}
 use Rattle.epoch_runner.specs.Lowest.{lowest_from}
-use Rattle.epoch_runner.specs.Schedule.{IsUsedUp, NextStep, EpochProgress, after_last, begins_from, begins_with, by_hinted, by_hints, by_last, ends, ends_epoch, next, slice_goes_on, turn_of}
+use Rattle.epoch_runner.specs.Schedule.{IsUsedUp, NextStep, EpochProgress, after_last, begins_from, begins_with, by_hinted, by_hints, by_last, ends, ends_epoch, next_step, slice_goes_on, turn_of}
 use Rattle.epoch_runner.proofs.LowestThreads.{lowest_of-none, lowest_passes}
 use Rattle.supply.specs.Supplied.{Supplied}
 use Rattle.sync_hints.specs.declared.hints.SyncHint.{SyncHint}
@@ -241,9 +241,9 @@ hints_next s w bounds p (Some f) tid begins hints e =
     ]
 
 -- where a turn is next the epoch goes on, its thread can step, and it goes on with its slice or begins one
-pub turn_next : (s : State) (w : Supplied) (bounds : Bounds) (p : EpochProgress) (tid : Tid) (begins : Bool) (hints : Option Following) → next s w bounds p ≡ turn_of tid begins hints
+pub turn_next : (s : State) (w : Supplied) (bounds : Bounds) (p : EpochProgress) (tid : Tid) (begins : Bool) (hints : Option Following) → next_step s w bounds p ≡ turn_of tid begins hints
     → GoesOn s w bounds p × ((ready_at s w tid ≡ true) × ((begins ≡ true) ⊎ (p.last ≡ Some tid)))
-unfolding next
+unfolding next_step
 turn_next s w bounds p tid begins hints e =
     elim (by_test (ends_epoch s w bounds p) ends (by_hints s w bounds p p.hints) (turn_of tid begins hints) e) [
       | inl (tested, is) ↦ absurd cc
@@ -263,8 +263,8 @@ last_no_hints s w bounds p (Some t) tid begins hints e =
       | inr (tested, is) ↦ begins_no_hints (option_or (lowest_from (ready_at s w) (t.0 + 1) s.threads) (lowest_from (ready_at s w) 1 s.threads)) tid begins hints is
     ]
 
-pub no_hints_next : (s : State) (w : Supplied) (bounds : Bounds) (p : EpochProgress) (tid : Tid) (begins : Bool) (hints : Option Following) → p.hints ≡ None → next s w bounds p ≡ turn_of tid begins hints → hints ≡ None
-unfolding next
+pub no_hints_next : (s : State) (w : Supplied) (bounds : Bounds) (p : EpochProgress) (tid : Tid) (begins : Bool) (hints : Option Following) → p.hints ≡ None → next_step s w bounds p ≡ turn_of tid begins hints → hints ≡ None
+unfolding next_step
 no_hints_next s w bounds p tid begins hints none e =
     elim (by_test (ends_epoch s w bounds p) ends (by_hints s w bounds p p.hints) (turn_of tid begins hints) e) [
       | inl (tested, is) ↦ absurd cc
@@ -272,14 +272,14 @@ no_hints_next s w bounds p tid begins hints none e =
     ]
 
 -- without hints the thread that ran last tells what is next
-pub next_by_last : (s : State) (w : Supplied) (bounds : Bounds) (p : EpochProgress) → p.hints ≡ None → next s w bounds p ≡ cond (ends_epoch s w bounds p) ends (by_last s w bounds p p.last)
-unfolding next
+pub next_by_last : (s : State) (w : Supplied) (bounds : Bounds) (p : EpochProgress) → p.hints ≡ None → next_step s w bounds p ≡ cond (ends_epoch s w bounds p) ends (by_last s w bounds p p.last)
+unfolding next_step
 next_by_last s w bounds p none = ap (λ o. cond (ends_epoch s w bounds p) ends (by_hints s w bounds p o)) none
 
 -- where a slice goes on by round robin
 pub same_next : (s : State) (w : Supplied) (bounds : Bounds) (p : EpochProgress) (tid : Tid) → GoesOn s w bounds p → p.hints ≡ None → p.last ≡ Some tid → ready_at s w tid ≡ true → p.yielded ≡ false → p.in_slice < bounds.slice
-    → next s w bounds p ≡ turn_of tid false None
-unfolding next
+    → next_step s w bounds p ≡ turn_of tid false None
+unfolding next_step
 same_next s w bounds p tid is none last runs no_yield within =
     cond-false (ends_epoch s w bounds p) ends (by_hints s w bounds p p.hints) (by_goes_on s w bounds p is)
     ∙ ap (by_hints s w bounds p) none ∙ ap (by_last s w bounds p) last
@@ -288,28 +288,28 @@ same_next s w bounds p tid is none last runs no_yield within =
 
 -- where a slice is over
 pub over_next : (s : State) (w : Supplied) (bounds : Bounds) (p : EpochProgress) (tid : Tid) → p.hints ≡ None → p.last ≡ Some tid → slice_goes_on s w bounds p tid ≡ false
-    → next s w bounds p ≡ cond (ends_epoch s w bounds p) ends (begins_from s w (tid.0 + 1))
-unfolding next
+    → next_step s w bounds p ≡ cond (ends_epoch s w bounds p) ends (begins_from s w (tid.0 + 1))
+unfolding next_step
 over_next s w bounds p tid none last over =
     ap (λ n. cond (ends_epoch s w bounds p) ends n)
     (ap (by_hints s w bounds p) none ∙ ap (by_last s w bounds p) last ∙ cond-false (slice_goes_on s w bounds p tid) (turn_of tid false None) (begins_from s w (tid.0 + 1)) over)
 
-pub at_start_next : (s : State) (w : Supplied) (bounds : Bounds) (p : EpochProgress) → p.hints ≡ None → p.last ≡ None → next s w bounds p ≡ cond (ends_epoch s w bounds p) ends (begins_from s w bounds.first)
-unfolding next
+pub at_start_next : (s : State) (w : Supplied) (bounds : Bounds) (p : EpochProgress) → p.hints ≡ None → p.last ≡ None → next_step s w bounds p ≡ cond (ends_epoch s w bounds p) ends (begins_from s w bounds.first)
+unfolding next_step
 at_start_next s w bounds p none last = ap (λ n. cond (ends_epoch s w bounds p) ends n) (ap (by_hints s w bounds p) none ∙ ap (by_last s w bounds p) last)
 
 -- where the next turn is by hints
 pub hinted_goes : (s : State) (w : Supplied) (bounds : Bounds) (p : EpochProgress) (f : Following) (t : HintedTurn) → GoesOn s w bounds p → p.hints ≡ Some f → any_left f.left ≡ true → hinted s w f ≡ Some t
-    → next s w bounds p ≡ turn_of t.tid (t.fresh || not (is_thread p.last t.tid)) (Some t.behind)
-unfolding next
+    → next_step s w bounds p ≡ turn_of t.tid (t.fresh || not (is_thread p.last t.tid)) (Some t.behind)
+unfolding next_step
 hinted_goes s w bounds p f t is hints some turn =
     cond-false (ends_epoch s w bounds p) ends (by_hints s w bounds p p.hints) (by_goes_on s w bounds p is)
     ∙ ap (by_hints s w bounds p) hints ∙ cond-true (any_left f.left) (by_hinted s w bounds p (hinted s w f)) ends some ∙ ap (by_hinted s w bounds p) turn
 
 -- where hints are dropped a slice of the round robin begins
 pub dropped_next : (s : State) (w : Supplied) (bounds : Bounds) (p : EpochProgress) (f : Following) → p.hints ≡ Some f → any_left f.left ≡ true → (ends_epoch s w bounds p ≡ true) ⊎ (hinted s w f ≡ None)
-    → next s w bounds p ≡ cond (ends_epoch s w bounds p) ends (begins_from s w (after_last bounds p.last))
-unfolding next
+    → next_step s w bounds p ≡ cond (ends_epoch s w bounds p) ends (begins_from s w (after_last bounds p.last))
+unfolding next_step
 dropped_next s w bounds p f hints some (inl ended) =
     cond-true (ends_epoch s w bounds p) ends (by_hints s w bounds p p.hints) ended ∙ sym (cond-true (ends_epoch s w bounds p) ends (begins_from s w (after_last bounds p.last)) ended)
 dropped_next s w bounds p f hints some (inr none) =
@@ -317,8 +317,8 @@ dropped_next s w bounds p f hints some (inr none) =
     (ap (by_hints s w bounds p) hints ∙ cond-true (any_left f.left) (by_hinted s w bounds p (hinted s w f)) ends some ∙ ap (by_hinted s w bounds p) none)
 
 -- an epoch ends where its hints are used up
-pub used_up_next : (s : State) (w : Supplied) (bounds : Bounds) (p : EpochProgress) (f : Following) → p.hints ≡ Some f → any_left f.left ≡ false → next s w bounds p ≡ ends
-unfolding next
+pub used_up_next : (s : State) (w : Supplied) (bounds : Bounds) (p : EpochProgress) (f : Following) → p.hints ≡ Some f → any_left f.left ≡ false → next_step s w bounds p ≡ ends
+unfolding next_step
 used_up_next s w bounds p f hints none =
     ap (λ n. cond (ends_epoch s w bounds p) ends n) (ap (by_hints s w bounds p) hints ∙ cond-false (any_left f.left) (by_hinted s w bounds p (hinted s w f)) ends none)
     ∙ either_end (ends_epoch s w bounds p)
@@ -329,8 +329,8 @@ used_up_next s w bounds p f hints none =
 
 -- ---- the rules
 
-pub ends_now : (s : State) (w : Supplied) (bounds : Bounds) (p : EpochProgress) → ends_epoch s w bounds p ≡ true → next s w bounds p ≡ ends
-unfolding next
+pub ends_now : (s : State) (w : Supplied) (bounds : Bounds) (p : EpochProgress) → ends_epoch s w bounds p ≡ true → next_step s w bounds p ≡ ends
+unfolding next_step
 ends_now s w bounds p ended = cond-true (ends_epoch s w bounds p) ends (by_hints s w bounds p p.hints) ended
 
 last_some : (s : State) (w : Supplied) (bounds : Bounds) (p : EpochProgress) (last : Option Tid) → list_any (is_ready s w) s.threads ≡ true → by_last s w bounds p last ≡ ends → ⊥
@@ -354,8 +354,8 @@ hints_some s w bounds p (Some f) some e =
     ]
 
 -- where an epoch ends, it is by a rule, or its hints are used up
-pub ends_next : (s : State) (w : Supplied) (bounds : Bounds) (p : EpochProgress) → next s w bounds p ≡ ends → (ends_epoch s w bounds p ≡ true) ⊎ IsUsedUp p.hints
-unfolding next
+pub ends_next : (s : State) (w : Supplied) (bounds : Bounds) (p : EpochProgress) → next_step s w bounds p ≡ ends → (ends_epoch s w bounds p ≡ true) ⊎ IsUsedUp p.hints
+unfolding next_step
 ends_next s w bounds p e =
     elim (by_test (ends_epoch s w bounds p) ends (by_hints s w bounds p p.hints) ends e) [
       | inl (tested, is) ↦ inl tested

@@ -12,7 +12,7 @@ use Rattle.guest_kernel.specs.Answers.{bytes_read}
 use Rattle.guest_kernel.specs.State.{has_ended}
 use Rattle.epoch_runner.specs.Answering.{can_step, is_ready, ready_at}
 use Rattle.epoch_runner.specs.declared.bounds.Bounds.{Bounds}
-use Rattle.epoch_runner.specs.Schedule.{EpochProgress, begins_from, course, ends, ends_epoch, next, progress}
+use Rattle.epoch_runner.specs.Schedule.{EpochProgress, begins_from, course, ends, ends_epoch, next_step, progress}
 use Rattle.epoch_runner.specs.SliceRun.{IsMoved, IsSliceRun, Traced, can_take, inside, next_slice}
 use Rattle.epoch_runner.proofs.Courses.{course-from}
 use Rattle.epoch_runner.specs.KernelLaws.{TurnLaws}
@@ -151,7 +151,7 @@ slice_over w bounds tid left most s before steps yielded after behind some withi
   where
     by_cases : (p : EpochProgress) → p.hints ≡ None → p.last ≡ Some tid → ends_epoch after w bounds p ≡ (not (can_step after w) || (left - steps == 0) || nat_le EPOCH_END_BYTES p.output || nat_le EPOCH_END_BYTES p.read)
         → ((ready_at after w tid && not p.yielded && nat_lt p.in_slice bounds.slice) ≡ false) ⊎ (ends_epoch after w bounds p ≡ true)
-        → next after w bounds p ≡ next_slice after w p.output p.read (left - steps) (tid.0 + 1)
+        → next_step after w bounds p ≡ next_slice after w p.output p.read (left - steps) (tid.0 + 1)
     by_cases p none last tested (inl over) =
         over_next after w bounds p tid none last over ∙ ap (λ b. cond b ends (begins_from after w (tid.0 + 1))) tested
     by_cases p none last tested (inr ended) =

@@ -20,7 +20,7 @@ use Rattle.epoch_runner.specs.declared.bounds.Bounds.{Bounds}
 use Rattle.epoch_runner.specs.Answering.{answers_for, ready_at}
 use Rattle.epoch_runner.specs.Hinted.{Following}
 use Rattle.epoch_runner.specs.HintRun.{HasTurned}
-use Rattle.epoch_runner.specs.Schedule.{Course, course, followed, next, progress, step, turn_of, turned}
+use Rattle.epoch_runner.specs.Schedule.{Course, course, followed, next_step, progress, step, turn_of, turned}
 use Rattle.epoch_runner.specs.SliceRun.{IsMoved, Traced, inside}
 use Rattle.dp_base.proofs.Lists.{all_append}
 use Rattle.epoch_runner.proofs.Courses.{course-step, one_course}
@@ -84,7 +84,7 @@ inside_by s t done tid in_slice yielded hints =
 
 -- one turn within a slice
 pub step_by : (w : Supplied) (bounds : Bounds) (s : State) (t : Traced) (done : List Slice) (tid : Tid) (before : ℕ) (hints left : Option Following) (after : After)
-    → next s w bounds (progress (inside_by s t done tid before false hints)) ≡ turn_of tid false left → turn s tid (answers_for s w tid) ≡ Ok after
+    → next_step s w bounds (progress (inside_by s t done tid before false hints)) ≡ turn_of tid false left → turn s tid (answers_for s w tid) ≡ Ok after
     → step w bounds (inside_by s t done tid before false hints) ≡ Some (inside_by after.state (traced_more t after.output (answers_for s w tid)) done tid (before + 1) (yields s tid) left)
 step_by w bounds s t done tid before hints left after goes is =
     let c = inside_by s t done tid before false hints in
@@ -94,7 +94,7 @@ step_by w bounds s t done tid before hints left after goes is =
 abbrev pub KeepsOn : Supplied → Bounds → State → Traced → List Slice → Tid → (before n : ℕ) → (hints : ℕ → Option Following) → Type 0
 KeepsOn w bounds s t done tid before n hints =
     (j m : ℕ) (mid : After) → j < n → m ≡ before + j → turns 0 j tid (at s [] []) ≡ Ok mid → has_ended mid.state.end ≡ false → ready_at mid.state w tid ≡ true
-    → next mid.state w bounds (progress (inside_by mid.state t done tid m false (hints m))) ≡ turn_of tid false (hints (m + 1))
+    → next_step mid.state w bounds (progress (inside_by mid.state t done tid m false (hints m))) ≡ turn_of tid false (hints (m + 1))
 
 module _ (laws : TurnLaws) where
   -- turns that write nothing and take nothing, of which none is a yield

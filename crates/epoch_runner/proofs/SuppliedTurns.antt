@@ -18,7 +18,7 @@ use Rattle.guest_kernel.specs.Turn.{turn, yields}
 use Rattle.epoch_runner.specs.declared.bounds.Bounds.{Bounds}
 use Rattle.epoch_runner.specs.Answering.{answer_to, answers_for, is_unanswered, read_of, ready_at}
 use Rattle.epoch_runner.specs.KernelLaws.{ReadLaw, ReservationLaw, RunLaws, TurnLaws}
-use Rattle.epoch_runner.specs.Schedule.{Course, IsScheduled, NextStep, closed, closed_by, course, ends, followed, next, progress, starting, step, turn_of, turned}
+use Rattle.epoch_runner.specs.Schedule.{Course, IsScheduled, NextStep, closed, closed_by, course, ends, followed, next_step, progress, starting, step, turn_of, turned}
 use Rattle.epoch_runner.specs.Supplying.{StateClaim, EachSlice, EachTurn, IsSuppliedRun, IsSuppliedTurn}
 use Rattle.epoch_runner.proofs.Nexts.{turn_next}
 use Rattle.epoch_runner.proofs.Readiness.{peeked_alive, ready_answered, ready_rest}
@@ -165,7 +165,7 @@ module _ (turn_laws : TurnLaws) (run_laws : RunLaws) (reserved : ReservationLaw)
   closed_empty c None unstarted = unstarted refl
   closed_empty c (Some tid) unstarted = refl
 
-  next_holds : (bounds : Bounds) (c d : Course) (x : NextStep) → Holds c → next c.state w bounds (progress c) ≡ x → followed w c x ≡ Some d → Holds d
+  next_holds : (bounds : Bounds) (c d : Course) (x : NextStep) → Holds c → next_step c.state w bounds (progress c) ≡ x → followed w c x ≡ Some d → Holds d
   next_holds bounds c d ends so_far is went = absurd cc
   next_holds bounds c d (turn_of tid false left) so_far is went =
       let there = turn_next c.state w bounds (progress c) tid false left is in
@@ -185,7 +185,7 @@ module _ (turn_laws : TurnLaws) (run_laws : RunLaws) (reserved : ReservationLaw)
 
   step_holds : (bounds : Bounds) (d : Course) (o : Option Course) → ((c : Course) → o ≡ Some c → Holds c) → (o >>= step w bounds) ≡ Some d → Holds d
   step_holds bounds d None so_far went = absurd cc
-  step_holds bounds d (Some c) so_far went = next_holds bounds c d (next c.state w bounds (progress c)) (so_far c refl) refl went
+  step_holds bounds d (Some c) so_far went = next_holds bounds c d (next_step c.state w bounds (progress c)) (so_far c refl) refl went
 
   course_holds : w.place ≤ start.input → (bounds : Bounds) (n : ℕ) (d : Course) → course n w bounds (starting start hints) ≡ Some d → Holds d
   unfolding course

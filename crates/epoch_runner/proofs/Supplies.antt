@@ -22,7 +22,7 @@ use Rattle.guest_kernel.specs.Threads.{thread_at}
 use Rattle.guest_kernel.specs.Turn.{turn, yields}
 use Rattle.epoch_runner.specs.declared.bounds.Bounds.{Bounds}
 use Rattle.epoch_runner.specs.Answering.{answer_to, answers_for, is_unanswered, read_of, ready_at}
-use Rattle.epoch_runner.specs.Schedule.{Course, IsScheduled, NextStep, closed, course, ends, followed, next, progress, starting, step, turn_of, turned}
+use Rattle.epoch_runner.specs.Schedule.{Course, IsScheduled, NextStep, closed, course, ends, followed, next_step, progress, starting, step, turn_of, turned}
 use Rattle.epoch_runner.specs.Supplying.{IsSuppliedBy}
 use Rattle.dp_base.proofs.Lists.{all_append}
 use Rattle.epoch_runner.proofs.AnswerLists.{clocks_append, read_append}
@@ -198,7 +198,7 @@ module _ (turn_laws : TurnLaws) (reserved : ReservationLaw) (read_law : ReadLaw)
       subst (λ (y : Course). IsSuppliedBy w place y.state.input y.answers) same
       (answer_more w place s.input after.state.input c.answers (peeked s tid) from so_far (λ at max e. thread_read s.pages s.input at max (thread_at s.threads tid) (sym peek_is ∙ e)) answered moved)
 
-  supplied_next : (w : Supplied) (bounds : Bounds) (place : ℕ) (c d : Course) (x : NextStep) → w.place ≤ place → IsSuppliedBy w place c.state.input c.answers → next c.state w bounds (progress c) ≡ x → followed w c x ≡ Some d
+  supplied_next : (w : Supplied) (bounds : Bounds) (place : ℕ) (c d : Course) (x : NextStep) → w.place ≤ place → IsSuppliedBy w place c.state.input c.answers → next_step c.state w bounds (progress c) ≡ x → followed w c x ≡ Some d
       → IsSuppliedBy w place d.state.input d.answers
   supplied_next w bounds place c d ends from so_far is went = absurd cc
   supplied_next w bounds place c d (turn_of tid false hints) from so_far is went =
@@ -216,7 +216,7 @@ module _ (turn_laws : TurnLaws) (reserved : ReservationLaw) (read_law : ReadLaw)
   supplied_step : (w : Supplied) (bounds : Bounds) (place : ℕ) (d : Course) (o : Option Course) → w.place ≤ place → ((c : Course) → o ≡ Some c → IsSuppliedBy w place c.state.input c.answers) → (o >>= step w bounds) ≡ Some d
       → IsSuppliedBy w place d.state.input d.answers
   supplied_step w bounds place d None from so_far went = absurd cc
-  supplied_step w bounds place d (Some c) from so_far went = supplied_next w bounds place c d (next c.state w bounds (progress c)) from (so_far c refl) refl went
+  supplied_step w bounds place d (Some c) from so_far went = supplied_next w bounds place c d (next_step c.state w bounds (progress c)) from (so_far c refl) refl went
 
   course_supplied : (start : State) (hints : Hints) (w : Supplied) (bounds : Bounds) (n : ℕ) (d : Course) → w.place ≤ start.input → start.input ≤ end_of w → course n w bounds (starting start hints) ≡ Some d → IsSuppliedBy w start.input d.state.input d.answers
   unfolding course

@@ -12,7 +12,7 @@ use Rattle.epoch_runner.specs.declared.bounds.Bounds.{Bounds}
 use Rattle.epoch_runner.specs.Answering.{ready_at}
 use Rattle.epoch_runner.specs.Hinted.{lefts}
 use Rattle.epoch_runner.specs.KernelLaws.{ReservationLaw}
-use Rattle.epoch_runner.specs.Schedule.{Course, NextStep, begins_from, by_last, ends, ends_epoch, next, progress, starting, turn_of}
+use Rattle.epoch_runner.specs.Schedule.{Course, NextStep, begins_from, by_last, ends, ends_epoch, next_step, progress, starting, turn_of}
 use Rattle.epoch_runner.specs.SliceRun.{Traced}
 use Rattle.epoch_runner.specs.Walking.{opened}
 use Rattle.epoch_runner.proofs.Epochs.{untraced}
@@ -31,7 +31,7 @@ fresh_starts s t done nothing none = ap (λ x. fresh s x done) nothing ∙ ap (f
 
 -- what is next where an epoch goes on without hints, by the thread that ran last
 pub goes_by : (w : Supplied) (bounds : Bounds) (known c : Course) (last : Option Tid) (x : NextStep) → known ≡ c → known.hints ≡ None → known.last ≡ last → ends_epoch c.state w bounds (progress c) ≡ false
-    → x ≡ by_last c.state w bounds (progress c) last → x ≡ next c.state w bounds (progress c)
+    → x ≡ by_last c.state w bounds (progress c) last → x ≡ next_step c.state w bounds (progress c)
 goes_by w bounds known c last x same none last_is goes is =
     is ∙ ap (by_last c.state w bounds (progress c)) (sym last_is ∙ ap (λ (y : Course). y.last) same)
     ∙ sym (cond-false (ends_epoch c.state w bounds (progress c)) ends (by_last c.state w bounds (progress c) c.last) goes)
@@ -39,7 +39,7 @@ goes_by w bounds known c last x same none last_is goes is =
 
 -- before the first turn a slice begins
 pub goes_first : (w : Supplied) (bounds : Bounds) (known c : Course) (x : NextStep) → known ≡ c → known.hints ≡ None → known.last ≡ None → ends_epoch c.state w bounds (progress c) ≡ false → x ≡ begins_from known.state w bounds.first
-    → x ≡ next c.state w bounds (progress c)
+    → x ≡ next_step c.state w bounds (progress c)
 goes_first w bounds known c x same none last_is goes is = goes_by w bounds known c None x same none last_is goes (is ∙ ap (λ (y : Course). begins_from y.state w bounds.first) same)
 
 -- a turn of a thread can be taken in its slice
@@ -50,7 +50,7 @@ pub record CanTurn (c : Course) (w : Supplied) (tid : Tid) : Type 0 where
   pub few : steps_of c.done + c.in_slice + 1 < 2 ^ 32
 
 -- what the end of a slice leaves for a turn that is next
-pub can_turn : ReservationLaw → (c : Course) (w : Supplied) (bounds : Bounds) (tid : Tid) (begins : Bool) → next c.state w bounds (progress c) ≡ turn_of tid begins None → CanTurn (opened begins c) w tid
+pub can_turn : ReservationLaw → (c : Course) (w : Supplied) (bounds : Bounds) (tid : Tid) (begins : Bool) → next_step c.state w bounds (progress c) ≡ turn_of tid begins None → CanTurn (opened begins c) w tid
 can_turn reserved c w bounds tid false is =
     let there = turn_next c.state w bounds (progress c) tid false None is in
     record {

@@ -106,9 +106,9 @@ HasTakenHinted w tid plain s before steps after behind =
 -- ---- an epoch that follows hints
 
 -- the slice in hand is the course's
-abbrev pub IsHand : Option Slice → Course → Type 0
-IsHand None c = (c.last ≡ None) × (c.in_slice ≡ 0)
-IsHand (Some x) c = (c.last ≡ Some x.tid) × ((c.in_slice ≡ x.steps) × IsSlice x)
+abbrev pub IsOpenSlice : Option Slice → Course → Type 0
+IsOpenSlice None c = (c.last ≡ None) × (c.in_slice ≡ 0)
+IsOpenSlice (Some x) c = (c.last ≡ Some x.tid) × ((c.in_slice ≡ x.steps) × IsSlice x)
 
 pub record HintedSoFar (start : State) (hints : Hints) (w : Supplied) (bounds : Bounds) (s : State) (slices : List Slice) (t : Traced) (left : ℕ) (hand : Option Slice) (f : Following) : Type 0 where
   pub count : ℕ
@@ -119,7 +119,7 @@ pub record HintedSoFar (start : State) (hints : Hints) (w : Supplied) (bounds : 
   pub output_is : t.output ≡ here.output
   pub answers_are : t.answers ≡ here.answers
   pub hints_are : here.hints ≡ Some f
-  pub hand_is : IsHand hand here
+  pub hand_is : IsOpenSlice hand here
   pub sum : count + left ≡ bounds.steps
   pub counted : s.steps ≡ start.steps + count
   pub turns_are : steps_of slices + hand_steps hand ≡ count

@@ -91,8 +91,8 @@ abbrev pub by_hints : State → Supplied → Bounds → EpochProgress → Option
 by_hints s w bounds p None = by_last s w bounds p p.last
 by_hints s w bounds p (Some f) = if any_left f.left then by_hinted s w bounds p (hinted s w f) else ends
 
-unfoldable pub next : State → Supplied → Bounds → EpochProgress → NextStep
-next s w bounds p = if ends_epoch s w bounds p then ends else by_hints s w bounds p p.hints
+unfoldable pub next_step : State → Supplied → Bounds → EpochProgress → NextStep
+next_step s w bounds p = if ends_epoch s w bounds p then ends else by_hints s w bounds p p.hints
 
 -- ---- a run by it
 
@@ -161,7 +161,7 @@ followed w c ends = None
 
 -- the turn that is next
 abbrev pub step : Supplied → Bounds → Course → Option Course
-step w bounds c = followed w c (next c.state w bounds (progress c))
+step w bounds c = followed w c (next_step c.state w bounds (progress c))
 
 -- this many turns, each the one that is next
 unfoldable pub course : ℕ → Supplied → Bounds → Course → Option Course
@@ -173,7 +173,7 @@ pub record IsScheduled (start : State) (hints : Hints) (w : Supplied) (bounds : 
   pub turns : ℕ
   pub last : Course
   pub went : course turns w bounds (starting start hints) ≡ Some last
-  pub stops : next last.state w bounds (progress last) ≡ ends
+  pub stops : next_step last.state w bounds (progress last) ≡ ends
   pub slices_are : e.slices ≡ (closed last).done
   pub answers_are : e.answers ≡ last.answers
   pub output_is : output ≡ last.output

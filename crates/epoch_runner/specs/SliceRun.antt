@@ -10,7 +10,7 @@ use Rattle.guest_kernel.specs.Answers.{bytes_read}
 use Rattle.guest_kernel.specs.declared.state.State.{State}
 use Rattle.epoch_runner.specs.declared.bounds.Bounds.{Bounds}
 use Rattle.epoch_runner.specs.Answering.{can_step, is_unanswered}
-use Rattle.epoch_runner.specs.Schedule.{Course, NextStep, begins_from, begins_with, closed, course, ends, next, progress, starting}
+use Rattle.epoch_runner.specs.Schedule.{Course, NextStep, begins_from, begins_with, closed, course, ends, next_step, progress, starting}
 use Rattle.supply.specs.Supplied.{Supplied}
 use Rattle.sync_hints.specs.declared.hints.Hints.{Hints}
 use Rattle.turn_peek.specs.declared.peek.Peek.{Peek}
@@ -65,7 +65,7 @@ pub record IsSliceRun (w : Supplied) (bounds : Bounds) (tid : Tid) (left : ℕ) 
   pub went : (done : List Slice) → steps_of done + left ≡ bounds.steps
       → course steps w bounds (inside s before done tid 0 false) ≡ Some (inside after behind done tid steps yielded)
   pub over : (done : List Slice) → steps_of done + left ≡ bounds.steps
-      → next after w bounds (progress (inside after behind done tid steps yielded))
+      → next_step after w bounds (progress (inside after behind done tid steps yielded))
       ≡ next_slice after w (length behind.output) (length (bytes_read behind.answers)) (left - steps) (tid.0 + 1)
 
 -- An epoch so far, whose slices are all over, and the thread of the next one.
@@ -73,7 +73,7 @@ pub record EpochSoFar (start : State) (hints : Hints) (w : Supplied) (bounds : B
   pub count : ℕ
   pub here : Course
   pub went : course count w bounds (starting start hints) ≡ Some here
-  pub next_is : next here.state w bounds (progress here) ≡ begins_with following
+  pub next_is : next_step here.state w bounds (progress here) ≡ begins_with following
   pub state_is : s ≡ (closed here).state
   pub slices_are : slices ≡ (closed here).done
   pub output_is : t.output ≡ here.output

@@ -14,7 +14,7 @@ ghost use Rattle.guest_kernel.specs.Threads.{is_running};
 ghost use Rattle.epoch_runner.specs.Answering.{can_step, input_due, ready_at};
 ghost use Rattle.epoch_runner.specs.declared.bounds.Bounds.{Bounds};
 ghost use Rattle.epoch_runner.specs.Hinted.{Following, any_left, lefts};
-ghost use Rattle.epoch_runner.specs.Schedule.{Course, IsScheduled, IsUsedUp, EpochProgress, by_last, course, ends, ends_epoch, next, starting, turn_of};
+ghost use Rattle.epoch_runner.specs.Schedule.{Course, IsScheduled, IsUsedUp, EpochProgress, by_last, course, ends, ends_epoch, next_step, starting, turn_of};
 ghost use Rattle.epoch_runner.specs.Supplying.{IsSuppliedBy, IsSuppliedRun};
 ghost use Rattle.sync_hints.specs.declared.hints.Hints.{Hints};
 ghost use Rattle.supply.specs.Supplied.{IsSupply, Supplied, end_of, refilled};
@@ -41,7 +41,7 @@ pub fn a_scheduled_run_is_a_run()
 /// The thread whose turn is next can step, and the guest hasn't ended.
 pub fn the_next_thread_can_step()
     ensures { (s : State) (w : Supplied) (bounds : Bounds) (p : EpochProgress) (tid : Tid) (begins : Bool) (left : Option Following) →
-        next s w bounds p ≡ turn_of tid begins left → (has_ended s.end ≡ false) × (ready_at s w tid ≡ true) }
+        next_step s w bounds p ≡ turn_of tid begins left → (has_ended s.end ≡ false) × (ready_at s w tid ≡ true) }
 {}
 
 /// Without hints an epoch goes by round robin alone: the hints are none at each turn, and the turn that is next is
@@ -49,8 +49,8 @@ pub fn the_next_thread_can_step()
 pub fn without_hints_an_epoch_goes_by_round_robin()
     ensures none { (start : State) (hints : Hints) (w : Supplied) (bounds : Bounds) (turns : ℕ) (c : Course) → any_left (lefts hints.counts) ≡ false →
         course turns w bounds (starting start hints) ≡ Some c → c.hints ≡ None }
-    ensures next { (s : State) (w : Supplied) (bounds : Bounds) (p : EpochProgress) → p.hints ≡ None →
-        next s w bounds p ≡ (if ends_epoch s w bounds p then ends else by_last s w bounds p p.last) }
+    ensures next_step { (s : State) (w : Supplied) (bounds : Bounds) (p : EpochProgress) → p.hints ≡ None →
+        next_step s w bounds p ≡ (if ends_epoch s w bounds p then ends else by_last s w bounds p p.last) }
     ensures same { (start : State) (hints other : Hints) (w : Supplied) (bounds : Bounds) (e : Epoch) (output : List ℕ) (end : State) →
         any_left (lefts hints.counts) ≡ false → any_left (lefts other.counts) ≡ false →
         IsScheduled start hints w bounds e output end → IsScheduled start other w bounds e output end }

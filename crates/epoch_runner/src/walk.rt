@@ -4,7 +4,7 @@ ghost use Rattle.dp_base.specs.declared.limits.TheConstants.{EPOCH_END_BYTES};
 ghost use Rattle.guest_kernel.specs.Answers.{bytes_read};
 ghost use Rattle.guest_kernel.specs.State.{has_ended};
 ghost use Rattle.epoch_runner.specs.Answering.{ready_at};
-ghost use Rattle.epoch_runner.specs.Schedule.{begins_from, begins_with, by_last, closed, ends_epoch, followed, next, progress, slice_goes_on, starting, takes_turn, turn_of};
+ghost use Rattle.epoch_runner.specs.Schedule.{begins_from, begins_with, by_last, closed, ends_epoch, followed, next_step, progress, slice_goes_on, starting, takes_turn, turn_of};
 ghost use Rattle.epoch_runner.specs.Lowest.{lowest_from};
 ghost use Rattle.epoch_runner.specs.Syncing.{sync_of};
 ghost use Rattle.epoch_runner.specs.Walking.{next_step_of, opened};
@@ -79,7 +79,7 @@ impl Walk {
 
     /// Returns the turn that is next, or `None` if the epoch is over.
     pub fn next(&self, supply: &Supply, bounds: Bounds) -> Option<NextTurn>
-        ensures next { next_step_of result ≡ next self.now.state supply.now bounds (progress self.now) }
+        ensures next_step { next_step_of result ≡ next_step self.now.state supply.now bounds (progress self.now) }
         ensures few { IfSome result (λ turn. (progress self.now).turns < bounds.steps) }
     {
         if self.is_over(supply, bounds) {
@@ -100,7 +100,7 @@ impl Walk {
         bounds: Bounds,
         turn: NextTurn,
     ) -> Result<Option<Sc>, OutOfMemory>
-        requires next { next self.old.state supply.now bounds (progress self.old) ≡ turn_of turn.tid turn.begins None }
+        requires next_step { next_step self.old.state supply.now bounds (progress self.old) ≡ turn_of turn.tid turn.begins None }
         requires countable { self.old.state.steps + 1 < 2 ^ 64 }
         ensures sync { IfOk result (λ sync. sync ≡ sync_of (opened turn.begins self.old).state turn.tid) }
         ensures took { OnOk result (followed supply.now self.old (turn_of turn.tid turn.begins None) ≡ Some self.new) }

@@ -4,7 +4,7 @@ use Rattle.std.specs.Prelude.{◌+◌, ◌-◌, ◌*◌, ◌%◌, ◌^◌, ℕ, 
 use Rattle.byteorder.specs.Endian.{little_bytes}
 use Rattle.guest_gen.specs.declared.instruction.Instruction.{Instruction}
 use Rattle.guest_gen.specs.declared.instruction.Instruction.TheVariants as listed
-use Rattle.guest_gen.specs.Register.{number_of}
+use Rattle.guest_gen.specs.Register.{register_number}
 use Rattle.rv_step.specs.declared.instr.Instr.{Instr}
 use Rattle.rv_step.specs.declared.instr.Instr.TheVariants as instrs
 use Rattle.rv_step.specs.Encoding.{encoded}
@@ -15,22 +15,22 @@ offset target index = (4 * target + (2 ^ 32 - 4 * index)) % 2 ^ 32
 
 -- an instruction where it is
 abbrev pub placed : (index : ℕ) → Instruction → Instr
-placed index (listed.Lui rd imm) = instrs.Lui (number_of rd) imm
-placed index (listed.Jal rd target) = instrs.Jal (number_of rd) (offset target index)
-placed index (listed.Jalr rd rs1 imm) = instrs.Jalr (number_of rd) (number_of rs1) imm
-placed index (listed.Beq rs1 rs2 target) = instrs.Beq (number_of rs1) (number_of rs2) (offset target index)
-placed index (listed.Bne rs1 rs2 target) = instrs.Bne (number_of rs1) (number_of rs2) (offset target index)
-placed index (listed.Blt rs1 rs2 target) = instrs.Blt (number_of rs1) (number_of rs2) (offset target index)
-placed index (listed.Bge rs1 rs2 target) = instrs.Bge (number_of rs1) (number_of rs2) (offset target index)
-placed index (listed.Lw rd rs1 imm) = instrs.Lw (number_of rd) (number_of rs1) imm
-placed index (listed.Sb rs1 rs2 imm) = instrs.Sb (number_of rs1) (number_of rs2) imm
-placed index (listed.Sw rs1 rs2 imm) = instrs.Sw (number_of rs1) (number_of rs2) imm
-placed index (listed.Addi rd rs1 imm) = instrs.Addi (number_of rd) (number_of rs1) imm
-placed index (listed.Andi rd rs1 imm) = instrs.Andi (number_of rd) (number_of rs1) imm
-placed index (listed.Srl rd rs1 rs2) = instrs.Srl (number_of rd) (number_of rs1) (number_of rs2)
+placed index (listed.Lui rd imm) = instrs.Lui (register_number rd) imm
+placed index (listed.Jal rd target) = instrs.Jal (register_number rd) (offset target index)
+placed index (listed.Jalr rd rs1 imm) = instrs.Jalr (register_number rd) (register_number rs1) imm
+placed index (listed.Beq rs1 rs2 target) = instrs.Beq (register_number rs1) (register_number rs2) (offset target index)
+placed index (listed.Bne rs1 rs2 target) = instrs.Bne (register_number rs1) (register_number rs2) (offset target index)
+placed index (listed.Blt rs1 rs2 target) = instrs.Blt (register_number rs1) (register_number rs2) (offset target index)
+placed index (listed.Bge rs1 rs2 target) = instrs.Bge (register_number rs1) (register_number rs2) (offset target index)
+placed index (listed.Lw rd rs1 imm) = instrs.Lw (register_number rd) (register_number rs1) imm
+placed index (listed.Sb rs1 rs2 imm) = instrs.Sb (register_number rs1) (register_number rs2) imm
+placed index (listed.Sw rs1 rs2 imm) = instrs.Sw (register_number rs1) (register_number rs2) imm
+placed index (listed.Addi rd rs1 imm) = instrs.Addi (register_number rd) (register_number rs1) imm
+placed index (listed.Andi rd rs1 imm) = instrs.Andi (register_number rd) (register_number rs1) imm
+placed index (listed.Srl rd rs1 rs2) = instrs.Srl (register_number rd) (register_number rs1) (register_number rs2)
 placed index listed.Ecall = instrs.Ecall
-placed index (listed.LrW rd rs1) = instrs.LrW (number_of rd) (number_of rs1)
-placed index (listed.ScW rd rs1 rs2) = instrs.ScW (number_of rd) (number_of rs1) (number_of rs2)
+placed index (listed.LrW rd rs1) = instrs.LrW (register_number rd) (register_number rs1)
+placed index (listed.ScW rd rs1 rs2) = instrs.ScW (register_number rd) (register_number rs1) (register_number rs2)
 
 abbrev pub word_at : (index : ℕ) → Instruction → ℕ
 word_at index i = encoded (placed index i)

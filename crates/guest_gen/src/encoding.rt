@@ -1,7 +1,7 @@
 // The word of an instruction, by its form (RISC-V Unprivileged ISA 20191213, 2.2 and 2.3).
 ghost use Rattle.std.specs.Prelude.{◌≡◌, ◌<◌};
 ghost use Rattle.guest_gen.specs.Listing.{offset, word_at};
-ghost use Rattle.guest_gen.specs.Register.{number_of};
+ghost use Rattle.guest_gen.specs.Register.{register_number};
 ghost use Rattle.rv_step.specs.Encoding.{form_b, form_i, form_j, form_r, form_s, form_u};
 
 use crate::instruction::Instruction;
@@ -66,7 +66,7 @@ fn form_r(opcode: u32, funct3: u32, funct7: u32, rd: Register, rs1: Register, rs
     requires opcode { opcode < 128 }
     requires funct3 { funct3 < 8 }
     requires funct7 { funct7 < 128 }
-    ensures { result ≡ form_r opcode funct3 funct7 (number_of rd) (number_of rs1) (number_of rs2) }
+    ensures { result ≡ form_r opcode funct3 funct7 (register_number rd) (register_number rs1) (register_number rs2) }
 {
     opcode
         + (rd.number() << 7)
@@ -79,7 +79,7 @@ fn form_r(opcode: u32, funct3: u32, funct7: u32, rd: Register, rs1: Register, rs
 fn form_i(opcode: u32, funct3: u32, rd: Register, rs1: Register, imm: u32) -> u32
     requires opcode { opcode < 128 }
     requires funct3 { funct3 < 8 }
-    ensures { result ≡ form_i opcode funct3 (number_of rd) (number_of rs1) imm }
+    ensures { result ≡ form_i opcode funct3 (register_number rd) (register_number rs1) imm }
 {
     opcode + (rd.number() << 7) + (funct3 << 12) + (rs1.number() << 15) + ((imm & 0xfff) << 20)
 }
@@ -87,7 +87,7 @@ fn form_i(opcode: u32, funct3: u32, rd: Register, rs1: Register, imm: u32) -> u3
 fn form_s(opcode: u32, funct3: u32, rs1: Register, rs2: Register, imm: u32) -> u32
     requires opcode { opcode < 128 }
     requires funct3 { funct3 < 8 }
-    ensures { result ≡ form_s opcode funct3 (number_of rs1) (number_of rs2) imm }
+    ensures { result ≡ form_s opcode funct3 (register_number rs1) (register_number rs2) imm }
 {
     opcode
         + ((imm & 0x1f) << 7)
@@ -100,7 +100,7 @@ fn form_s(opcode: u32, funct3: u32, rs1: Register, rs2: Register, imm: u32) -> u
 fn form_b(opcode: u32, funct3: u32, rs1: Register, rs2: Register, imm: u32) -> u32
     requires opcode { opcode < 128 }
     requires funct3 { funct3 < 8 }
-    ensures { result ≡ form_b opcode funct3 (number_of rs1) (number_of rs2) imm }
+    ensures { result ≡ form_b opcode funct3 (register_number rs1) (register_number rs2) imm }
 {
     opcode
         + (((imm >> 11) & 1) << 7)
@@ -114,14 +114,14 @@ fn form_b(opcode: u32, funct3: u32, rs1: Register, rs2: Register, imm: u32) -> u
 
 fn form_u(opcode: u32, rd: Register, imm: u32) -> u32
     requires { opcode < 128 }
-    ensures { result ≡ form_u opcode (number_of rd) imm }
+    ensures { result ≡ form_u opcode (register_number rd) imm }
 {
     opcode + (rd.number() << 7) + ((imm >> 12) << 12)
 }
 
 fn form_j(opcode: u32, rd: Register, imm: u32) -> u32
     requires { opcode < 128 }
-    ensures { result ≡ form_j opcode (number_of rd) imm }
+    ensures { result ≡ form_j opcode (register_number rd) imm }
 {
     opcode
         + (rd.number() << 7)

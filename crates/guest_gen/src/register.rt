@@ -1,6 +1,6 @@
 // Registers of a hart, by the names of the calling convention (RISC-V ABI, "Register Convention").
 ghost use Rattle.std.specs.Prelude.{◌≡◌, ◌<◌};
-ghost use Rattle.guest_gen.specs.Register.{number_of};
+ghost use Rattle.guest_gen.specs.Register.{register_number};
 
 /// A register that made guests use.
 #[derive(Clone, Copy)]
@@ -24,7 +24,7 @@ pub(crate) enum Register {
 impl Register {
     /// Returns its number.
     pub fn number(self) -> u32
-        ensures number { result ≡ number_of self }
+        ensures number { result ≡ register_number self }
         ensures small { result < 32 }
     {
         match self {

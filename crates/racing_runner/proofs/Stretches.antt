@@ -6,7 +6,7 @@ use Rattle.dp_base.specs.declared.tid.Tid.{Tid}
 use Rattle.dp_base.proofs.Lists.{all_append, all_set}
 use Rattle.epoch_runner.specs.declared.bounds.Bounds.{Bounds}
 use Rattle.epoch_runner.specs.declared.walk.NextTurn.{NextTurn}
-use Rattle.epoch_runner.specs.Schedule.{Course, followed, next, progress, turn_of}
+use Rattle.epoch_runner.specs.Schedule.{Course, followed, next_step, progress, turn_of}
 use Rattle.epoch_runner.specs.Syncing.{sync_of}
 use Rattle.epoch_runner.specs.Walking.{next_step_of, opened}
 use Rattle.racing_runner.specs.Racing.{Raced, with_turn_counted, counted_at, is_count_of, ordered, or_else, race_turn, raced, raced_by, raced_so_far, steps_in, with_note}
@@ -43,7 +43,7 @@ few_small step (count ∷ counts) small few = (omega (arith, few.0, small), few_
 -- ---- a turn more
 
 pub turn_more : (w : Supplied) (bounds : Bounds) (walk after : Course) (counts more : List (Tid × ℕ)) (order longer : List SyncHint) (turn : NextTurn) (sync : Option Sc)
-    → next_step_of (Some turn) ≡ next walk.state w bounds (progress walk)
+    → next_step_of (Some turn) ≡ next_step walk.state w bounds (progress walk)
     → sync ≡ sync_of (opened turn.begins walk).state turn.tid
     → followed w walk (turn_of turn.tid turn.begins None) ≡ Some after
     → more ≡ with_turn_counted turn.tid counts
@@ -81,7 +81,7 @@ so_far_more w bounds first step walk after counts more order longer turn sync so
 -- ---- the end
 
 pub ends_early : (w : Supplied) (bounds : Bounds) (first : Raced) (step : ℕ) (walk : Course) (counts : List (Tid × ℕ)) (order : List SyncHint)
-    → IsSoFar w bounds first step walk counts order → step ≤ bounds.steps → next_step_of None ≡ next walk.state w bounds (progress walk)
+    → IsSoFar w bounds first step walk counts order → step ≤ bounds.steps → next_step_of None ≡ next_step walk.state w bounds (progress walk)
     → raced_so_far walk counts order ≡ raced bounds.steps w bounds first
 ends_early w bounds first step walk counts order so within over =
     let r = raced_so_far walk counts order in

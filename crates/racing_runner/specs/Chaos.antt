@@ -49,8 +49,8 @@ spoilt_place n = 1 + (n / 4) % 8
 abbrev pub spoilt : (kind : ℕ) → (before after : State) → State
 spoilt kind before after = if kind == 1 then flipped after else if kind == 3 then before else after
 
-abbrev pub offered : (n place : ℕ) → (before after : State) → State
-offered n place before after = if place == spoilt_place n then spoilt (n % 4) before after else after
+abbrev pub offered_at : (n place : ℕ) → (before after : State) → State
+offered_at n place before after = if place == spoilt_place n then spoilt (n % 4) before after else after
 
 -- a stretch is an epoch that begins as the plan says, and takes no more steps than are left
 abbrev pub bounds_of : Plan → (left : ℕ) → Bounds
@@ -62,7 +62,7 @@ is_whole p r = raced_steps r == p.epoch && not (has_ended (raced_end r).end)
 
 abbrev pub made_by : (n place : ℕ) → Plan → (before : State) → Raced → Option Made
 made_by n place p before r =
-    if is_whole p r then Some (record { offer = record { hints = r.hints; next = offered n place before (raced_end r) }; end = raced_end r }) else None
+    if is_whole p r then Some (record { offer = record { hints = r.hints; next = offered_at n place before (raced_end r) }; end = raced_end r }) else None
 
 -- the offer with this number, after a stretch from a state with `left` steps left; and the state from which the run
 -- goes on

@@ -3,7 +3,7 @@
 use Rattle.std.specs.Prelude.{◌+◌, ◌==◌, ℕ, zero, suc, Bool, List, [], ◌∷◌, ◌++◌, position, slice_get, slice_set, Option, Some, None}
 use Rattle.dp_base.specs.declared.tid.Tid.{Tid}
 use Rattle.epoch_runner.specs.declared.bounds.Bounds.{Bounds}
-use Rattle.epoch_runner.specs.Schedule.{Course, NextStep, closed, ends, followed, next, progress, starting, turn_of}
+use Rattle.epoch_runner.specs.Schedule.{Course, NextStep, closed, ends, followed, next_step, progress, starting, turn_of}
 use Rattle.epoch_runner.specs.Syncing.{sync_of}
 use Rattle.epoch_runner.specs.Walking.{opened}
 use Rattle.guest_kernel.specs.declared.state.State.{State}
@@ -59,7 +59,7 @@ raced_by w r ends = None
 
 -- after the turn that is next; none if the epoch is over
 abbrev pub race_turn : Supplied → Bounds → Raced → Option Raced
-race_turn w bounds r = raced_by w r (next r.course.state w bounds (progress r.course))
+race_turn w bounds r = raced_by w r (next_step r.course.state w bounds (progress r.course))
 
 abbrev pub or_else : Raced → (Raced → Raced) → Option Raced → Raced
 or_else r f None = r

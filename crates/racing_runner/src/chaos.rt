@@ -1,7 +1,7 @@
 // A racing run by round robin that spoils an offer.
 ghost use Rattle.std.specs.Prelude.{◌≡◌, ◌+◌, ◌-◌, ◌<◌, ◌≤◌, ◌^◌, ◌==◌, ◌&&◌, not, IfOk, IfSome};
 ghost use Rattle.guest_kernel.specs.State.{has_ended};
-ghost use Rattle.racing_runner.specs.Chaos.{bounds_of, flipped, made, offered, offers};
+ghost use Rattle.racing_runner.specs.Chaos.{bounds_of, flipped, made, offered_at, offers};
 ghost use Rattle.racing_runner.specs.Offers.{HasOffered};
 
 use crate::flipped_state::flip;
@@ -70,7 +70,7 @@ impl ChaosRacer {
         before: State,
         after: &State,
     ) -> Result<State, OutOfMemory>
-        ensures { IfOk result (λ state. state ≡ offered self.number place before after.now) }
+        ensures { IfOk result (λ state. state ≡ offered_at self.number place before after.now) }
     {
         if place != 1 + (self.number / 4) % 8 {
             return after.share(alloc);

@@ -9,7 +9,7 @@ use Rattle.guest_kernel.specs.declared.state.State.{State}
 use Rattle.epoch_runner.specs.Answering.{can_step, ready_at}
 use Rattle.epoch_runner.specs.declared.bounds.Bounds.{Bounds}
 use Rattle.epoch_runner.specs.Hinted.{Following, HintedTurn, any_left, hinted}
-use Rattle.epoch_runner.specs.Schedule.{Course, IsScheduled, EpochProgress, after_last, begins_from, by_hinted, by_hints, by_last, course, ends, ends_epoch, turn_of, followed, next, progress, starting, step}
+use Rattle.epoch_runner.specs.Schedule.{Course, IsScheduled, EpochProgress, after_last, begins_from, by_hinted, by_hints, by_last, course, ends, ends_epoch, turn_of, followed, next_step, progress, starting, step}
 use Rattle.supply.specs.Supplied.{Supplied}
 use Rattle.sync_hints.specs.NoHints.{no_hints}
 use Rattle.sync_hints.specs.declared.hints.Hints.{Hints}
@@ -38,8 +38,8 @@ module _ (w : Supplied) (a b : Bounds) (alike : AreAlike a b) where
   by_hints_alike s p None = by_last_alike s p p.last
   by_hints_alike s p (Some f) = ap (λ x. cond (any_left f.left) x ends) (by_hinted_alike s p (hinted s w f))
 
-  next_alike : (s : State) (p : EpochProgress) → next s w a p ≡ next s w b p
-  unfolding next
+  next_alike : (s : State) (p : EpochProgress) → next_step s w a p ≡ next_step s w b p
+  unfolding next_step
   next_alike s p =
       ap (λ n. cond (not (can_step s w) || nat_le n p.turns || nat_le EPOCH_END_BYTES p.output || nat_le EPOCH_END_BYTES p.read) ends (by_hints s w a p p.hints)) alike.steps
       ∙ ap (λ x. cond (ends_epoch s w b p) ends x) (by_hints_alike s p p.hints)

@@ -45,7 +45,7 @@ use Rattle.journal_text.specs.Records.{Record, body_of}
 use Rattle.recorder.specs.declared.commit.CommitFault.{CommitFault}
 use Rattle.recorder.specs.declared.commit.CommitFault.TheVariants as commits
 use Rattle.recorder.specs.Committing.{CommitCalls, HasCommitted}
-use Rattle.recorder.specs.Machine.{MachineCall, CallLeaves, MachineEvent, Hand, RoundEvent, IsAtRest, IsNextOutput, IsReached, IsTakeable, Judges, Machine, Reaches, RecordFits, Step, after_machine_call, fails, frame_sync, frame_write, gate_sync, gate_write, holds, in_round, journal_end, makes, output_of_runs, record_of_run, send_fails, sends}
+use Rattle.recorder.specs.Machine.{MachineCall, CallLeaves, MachineEvent, HeldRecord, RoundEvent, IsAtRest, IsNextOutput, IsReached, IsTakeable, Judges, Machine, Reaches, RecordFits, Step, after_machine_call, fails, frame_sync, frame_write, gate_sync, gate_write, holds, in_round, journal_end, makes, output_of_runs, record_of_run, send_fails, sends}
 use Rattle.recorder.specs.CallEvents.{AppendEvents, AppendIsEvents, AppliedIsEvent, BegunIsFirst, CallFails, CommitEvents, CommitIsEvents, CommitIsInHand, DrawIsRound, IsAllowed, IsJournalOf, SendEvents, SendIsEvents, after_commit, calls_before, pieces_of, record_calls}
 
 -- ---- events after events
@@ -201,7 +201,7 @@ module _ (guest : List ℕ) (supplied : Bool) (m : Machine) (r : Record) (rs : L
   at call t = record m { world = t; hand = holds r rs call }
 
   start_is : at frame_write m.world ≡ m
-  start_is = ap (λ (h : Hand). record m { hand = h }) (sym in_hand)
+  start_is = ap (λ (h : HeldRecord). record m { hand = h }) (sym in_hand)
 
   abbrev From : List MachineEvent → Machine → Type 0
   From events n = Reaches guest supplied (at frame_write m.world) events n

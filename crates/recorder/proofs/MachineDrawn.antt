@@ -24,7 +24,7 @@ use Rattle.supply.specs.Supplied.{Supplied, empty, end_of}
 use Rattle.supply.specs.declared.TheConstants.{MAX_ROOM}
 use Rattle.std.proofs.lemmas.Grind.{flat_map-append}
 use Rattle.journal_text.specs.Records.{Record}
-use Rattle.recorder.specs.Machine.{MachineCall, MachineEvent, Hand, RoundEvent, IsAtRest, IsTakeable, Judges, Machine, Reaches, Step, after_machine_call, crash, fails, first_machine, frame_sync, frame_write, gate_sync, gate_write, holds, in_round, judged_runs, makes, marks, round, runs_in_hand, send_fails, sends}
+use Rattle.recorder.specs.Machine.{MachineCall, MachineEvent, HeldRecord, RoundEvent, IsAtRest, IsTakeable, Judges, Machine, Reaches, Step, after_machine_call, crash, fails, first_machine, frame_sync, frame_write, gate_sync, gate_write, holds, in_round, judged_runs, makes, marks, round, runs_in_hand, send_fails, sends}
 use Rattle.recorder.specs.MachineKept.{answers_of_runs, draws_in}
 use Rattle.recorder.proofs.MachineEvents.{All, step}
 use Rattle.recorder.proofs.MachineRound.{next_known}
@@ -61,7 +61,7 @@ module _ (laws : TakeLaws) (guest : List ℕ) (start : State) (before : History)
       let some : 0 < m.core.max_jobs = omega (arith, d.within, slice_get_within m.core.jobs m.core.judged (Taken (Epoch r)) next) in
       let answers : answers_of_runs (m.written ++ r ∷ []) ≡ answers_of_runs (judged_runs m) ++ (epoch_of r.epoch).answers =
       flat_map-append (λ (x : EpochRun). (epoch_of x.epoch).answers) m.written (r ∷ [])
-      ∙ ap (λ (l : List EpochRun). answers_of_runs l ++ answers_of_runs (r ∷ [])) (sym (ap (λ (h : Hand). m.written ++ runs_in_hand h) rest.1 ∙ append-nil m.written))
+      ∙ ap (λ (l : List EpochRun). answers_of_runs l ++ answers_of_runs (r ∷ [])) (sym (ap (λ (h : HeldRecord). m.written ++ runs_in_hand h) rest.1 ∙ append-nil m.written))
       ∙ ap (λ (l : List Answer). answers_of_runs (judged_runs m) ++ l) (append-nil (epoch_of r.epoch).answers) in
       let more = taken_more m.supply m.core.committed.input r.end.input draws (answers_of_runs (judged_runs m)) (epoch_of r.epoch).answers i m.input d.drawn j.1 supplied (d.last some) in
       subst (Drawn draws) (sym j.2) (record {
@@ -87,7 +87,7 @@ module _ (laws : TakeLaws) (guest : List ℕ) (start : State) (before : History)
 
   called_drawn : (draws : List Draw) (m : Machine) (r : Record) (rs : List EpochRun) (call : MachineCall) (t : History) → m.hand ≡ holds r rs call → Drawn draws m → Drawn draws (after_machine_call m r rs call t)
   called_drawn draws m r rs call t in_hand d =
-      by_call call (other_runs draws m (m.written ++ rs) d (ap (λ (h : Hand). m.written ++ runs_in_hand h) (sym in_hand)))
+      by_call call (other_runs draws m (m.written ++ rs) d (ap (λ (h : HeldRecord). m.written ++ runs_in_hand h) (sym in_hand)))
     where
       by_call : (call : MachineCall) → DrawnBy draws m.supply m.core.committed.input (length m.core.jobs) m.core.max_jobs (m.written ++ rs) m.input → Drawn draws (after_machine_call m r rs call t)
       by_call frame_write same = same
@@ -111,7 +111,7 @@ module _ (laws : TakeLaws) (guest : List ℕ) (start : State) (before : History)
   drawn_step draws m n marks events all d (none, s) = (
     [],
     subst (λ (l : List Draw). Drawn l n) (sym (append-nil draws))
-        (subst (Drawn draws) (sym s.3) (other_runs draws m (m.written ++ []) d (ap (λ (h : Hand). m.written ++ runs_in_hand h) (sym s.0.1)))),
+        (subst (Drawn draws) (sym s.3) (other_runs draws m (m.written ++ []) d (ap (λ (h : HeldRecord). m.written ++ runs_in_hand h) (sym s.0.1)))),
     refl,
   )
   drawn_step draws m n (makes call) events all d (none, s) = ([], subst (λ (l : List Draw). Drawn l n) (sym (append-nil draws)) (subst (Drawn draws) (sym s.6) (called_drawn draws m s.1 s.2 call s.4 s.3 d)), refl)

@@ -21,7 +21,7 @@ use Rattle.disk_model.specs.Input.{Input}
 use Rattle.dp_base.specs.declared.limits.TheConstants.{MAX_JOURNAL_BYTES}
 use Rattle.epoch_journal.specs.Standing.{Stands}
 use Rattle.journal_text.specs.Reading.{journal_of}
-use Rattle.recorder.specs.Machine.{MachineCall, MachineEvent, Hand, RoundEvent, IsAtRest, IsMachineResult, IsTakeable, Judges, Machine, Reaches, Step, after_machine_call, crash, fails, first_machine, frame_sync, frame_write, gate_sync, gate_write, holds, in_round, judged_runs, makes, marks, nothing, record_of_run, round, runs_in_hand, send_fails, sends}
+use Rattle.recorder.specs.Machine.{MachineCall, MachineEvent, HeldRecord, RoundEvent, IsAtRest, IsMachineResult, IsTakeable, Judges, Machine, Reaches, Step, after_machine_call, crash, fails, first_machine, frame_sync, frame_write, gate_sync, gate_write, holds, in_round, judged_runs, makes, marks, nothing, record_of_run, round, runs_in_hand, send_fails, sends}
 use Rattle.recorder.specs.Marking.{mark_of}
 use Rattle.recorder.specs.MachineKept.{IsKept, IsMachineRound, StandFor, WasTaken}
 use Rattle.recorder.proofs.MachineRuns.{Follows, IsRunHere, Linked, linked-append, linked-chain, linked-links, mark_follows, run_follows}
@@ -138,11 +138,11 @@ module _ (guest : List ℕ) (start : State) (before : History) (is-guest : IsGue
 
   -- ---- what it says
 
-  ended : (records : List Record) (written : List EpochRun) (base s : State) (hand : Hand) → ByHand guest start before is-guest records written base s hand → Linked start (written ++ runs_in_hand hand) s
+  ended : (records : List Record) (written : List EpochRun) (base s : State) (hand : HeldRecord) → ByHand guest start before is-guest records written base s hand → Linked start (written ++ runs_in_hand hand) s
   ended records written base s nothing is = subst (λ (l : List EpochRun). Linked start l s) (sym (append-nil written)) is.0
   ended records written base s (holds r rs call) is = linked-append start is.0 s written rs is.1.0 is.2.linked
 
-  stands_for : (records : List Record) (written : List EpochRun) (base s : State) (hand : Hand) → ByHand guest start before is-guest records written base s hand → (there : State) × StandFor start start records written base there
+  stands_for : (records : List Record) (written : List EpochRun) (base s : State) (hand : HeldRecord) → ByHand guest start before is-guest records written base s hand → (there : State) × StandFor start start records written base there
   stands_for records written base s nothing is = (s, is.1)
   stands_for records written base s (holds r rs call) is = (is.0, is.1.1)
 

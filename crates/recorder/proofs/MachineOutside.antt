@@ -19,7 +19,7 @@ use Rattle.epoch_runner.specs.declared.epoch_run.EpochRun.{EpochRun}
 use Rattle.guest_kernel.specs.declared.state.State.{State}
 use Rattle.journal_text.specs.Reading.{journal_of}
 use Rattle.journal_text.specs.Records.{IsRecord, Record, body_of}
-use Rattle.recorder.specs.Machine.{MachineCall, CallLeaves, Hand, IsNextOutput, Machine, after_machine_call, base_with, first_machine, frame_sync, frame_write, gate_sync, gate_write, holds, journal_end, nothing, output_of_runs}
+use Rattle.recorder.specs.Machine.{MachineCall, CallLeaves, HeldRecord, IsNextOutput, Machine, after_machine_call, base_with, first_machine, frame_sync, frame_write, gate_sync, gate_write, holds, journal_end, nothing, output_of_runs}
 use Rattle.recorder.specs.MachineKept.{ReadsWith, StandFor, in_question, record_in_hand, record_opened}
 use Rattle.std.proofs.lemmas.Grind.{flat_map-append}
 use Rattle.recorder.proofs.MachineRuns.{Follows, Linked, linked-append, stand-append}
@@ -54,7 +54,7 @@ module _ (guest : List ℕ) (start : State) (before : History) (is-guest : IsGue
   abbrev pub AtState : List Record → List EpochRun → (base t : State) → Type 0
   AtState records written base t = Linked start written t × StandFor start start records written base t
 
-  abbrev pub ByHand : List Record → List EpochRun → (base s : State) → Hand → Type 0
+  abbrev pub ByHand : List Record → List EpochRun → (base s : State) → HeldRecord → Type 0
   ByHand records written base s nothing = AtState records written base s
   ByHand records written base s (holds r rs call) = (t : State) × AtState records written base t × Follows base t r rs s
 
@@ -67,15 +67,15 @@ module _ (guest : List ℕ) (start : State) (before : History) (is-guest : IsGue
   IsWritten records r gate_write disk pending = IsBehind guest records r disk pending × RoomFor records r
   IsWritten records r gate_sync disk pending = IsOpened guest records r disk pending × RoomFor records r
 
-  abbrev pub Works : List Record → List ℕ → Pending → Hand → Type 0
+  abbrev pub Works : List Record → List ℕ → Pending → HeldRecord → Type 0
   Works records disk pending nothing = IsSettled (journal_of guest records) disk pending
   Works records disk pending (holds r rs call) = IsWritten records r call disk pending
 
-  abbrev pub OnDisk : Bool → List Record → List ℕ → Pending → Hand → Type 0
+  abbrev pub OnDisk : Bool → List Record → List ℕ → Pending → HeldRecord → Type 0
   OnDisk true records disk pending hand = (image : List ℕ) → IsImage pending image → ReadsWith guest records (record_in_hand hand) image
   OnDisk false records disk pending hand = Works records disk pending hand
 
-  pub record Inv (m : Machine) (hand : Hand) (stopped : Bool) : Type 0 where
+  pub record Inv (m : Machine) (hand : HeldRecord) (stopped : Bool) : Type 0 where
     pub by_hand : ByHand m.records m.written m.base m.core.committed hand
     pub are : AllByRecursion IsRecord m.records
     pub fits : length (journal_of guest m.records) ≤ MAX_JOURNAL_BYTES
@@ -127,14 +127,14 @@ module _ (guest : List ℕ) (start : State) (before : History) (is-guest : IsGue
     failed_images m gate_sync t same is call image may = torn_gate guest records r is-guest all is.1 image (subst (λ (x : Pending). IsImage x image) (synced_pending m.world t call ∙ is.0.pending_is) may)
 
   -- the record in question is the one in hand
-  else_in_hand : (hand : Hand) (records : List Record) (image : List ℕ) → ReadsWith guest records (record_opened hand) image → ReadsWith guest records (record_in_hand hand) image
+  else_in_hand : (hand : HeldRecord) (records : List Record) (image : List ℕ) → ReadsWith guest records (record_opened hand) image → ReadsWith guest records (record_in_hand hand) image
   else_in_hand nothing records image reads = reads
   else_in_hand (holds r rs frame_write) records image reads = inl reads
   else_in_hand (holds r rs frame_sync) records image reads = inl reads
   else_in_hand (holds r rs gate_write) records image reads = inl reads
   else_in_hand (holds r rs gate_sync) records image reads = reads
 
-  pub images_of : (m : Machine) (hand : Hand) (stopped : Bool) → Inv m hand stopped → (image : List ℕ) → IsImage m.world.pending image → ReadsWith guest m.records (in_question hand stopped) image
+  pub images_of : (m : Machine) (hand : HeldRecord) (stopped : Bool) → Inv m hand stopped → (image : List ℕ) → IsImage m.world.pending image → ReadsWith guest m.records (in_question hand stopped) image
   images_of m hand true inv image may = inv.disk image may
   images_of m nothing false inv image may = whole_journal guest m.records is-guest inv.are inv.fits image (subst (λ (x : Pending). IsImage x image) inv.disk.synced may)
   images_of m (holds r rs call) false inv image may = written_images m.records r inv.are inv.by_hand.2.is_record inv.fits rs call m.world.disk m.world.pending inv.disk image may
@@ -156,12 +156,12 @@ module _ (guest : List ℕ) (start : State) (before : History) (is-guest : IsGue
   working m e inv = subst (λ (b : Bool). Inv m m.hand b) e inv
 
   resting : (m : Machine) → m.stopped ≡ false → m.hand ≡ nothing → Holds m → Inv m nothing false
-  resting m e none inv = subst (λ (h : Hand). Inv m h false) none (working m e inv)
+  resting m e none inv = subst (λ (h : HeldRecord). Inv m h false) none (working m e inv)
 
   -- ---- the next call of a record
 
   -- what stays where only the disk and the hand change
-  moved : (m : Machine) (hand there : Hand) (t : History) → Inv m hand false → m.left ≡ None → t.sent ≡ m.world.sent
+  moved : (m : Machine) (hand there : HeldRecord) (t : History) → Inv m hand false → m.left ≡ None → t.sent ≡ m.world.sent
       → ByHand m.records m.written m.base m.core.committed there → Works m.records t.disk t.pending there → Inv (record m { world = t; hand = there }) there false
   moved m hand there t inv none same by_hand works = record {
     by_hand = by_hand;
@@ -210,7 +210,7 @@ module _ (guest : List ℕ) (start : State) (before : History) (is-guest : IsGue
     still gate_sync t = refl
 
     holding : (call : MachineCall) → m.stopped ≡ false → m.hand ≡ holds r rs call → Holds m → Inv m (holds r rs call) false
-    holding call works in_hand inv = subst (λ (h : Hand). Inv m h false) in_hand (working m works inv)
+    holding call works in_hand inv = subst (λ (h : HeldRecord). Inv m h false) in_hand (working m works inv)
 
     pub wrote : (call : MachineCall) (t : History) → Holds m → m.stopped ≡ false → m.hand ≡ holds r rs call → CallLeaves guest m r call true t → Holds (after_machine_call m r rs call t)
     wrote call t inv works in_hand leaves =
@@ -226,7 +226,7 @@ module _ (guest : List ℕ) (start : State) (before : History) (is-guest : IsGue
           are = inv.are;
           fits = inv.fits;
           disk = λ image may.
-              subst (λ (h : Hand). ReadsWith guest m.records (record_in_hand h) image) (sym in_hand) (failed_images m.records r inv.are held.by_hand.2.is_record inv.fits m call t refl held.disk leaves image may);
+              subst (λ (h : HeldRecord). ReadsWith guest m.records (record_in_hand h) image) (sym in_hand) (failed_images m.records r inv.are held.by_hand.2.is_record inv.fits m call t refl held.disk leaves image may);
           sent = call_sent call false t leaves ∙ inv.sent;
           prefix = inv.prefix;
           left = λ image e. absurd (gone m.left image none e);
@@ -281,11 +281,11 @@ module _ (guest : List ℕ) (start : State) (before : History) (is-guest : IsGue
   round_only m n inv none a b c d e f g h i = record {
     by_hand = subst (λ (s : State). ByHand n.records n.written n.base s n.hand) (sym a) (subst (λ (l : List Record). ByHand l n.written n.base m.core.committed n.hand) (sym c)
         (subst (λ (l : List EpochRun). ByHand m.records l n.base m.core.committed n.hand) (sym d) (subst (λ (s : State). ByHand m.records m.written s m.core.committed n.hand) (sym i)
-        (subst (λ (x : Hand). ByHand m.records m.written m.base m.core.committed x) (sym e) inv.by_hand))));
+        (subst (λ (x : HeldRecord). ByHand m.records m.written m.base m.core.committed x) (sym e) inv.by_hand))));
     are = subst (λ (l : List Record). AllByRecursion IsRecord l) (sym c) inv.are;
     fits = subst (λ (l : List Record). length (journal_of guest l) ≤ MAX_JOURNAL_BYTES) (sym c) inv.fits;
     disk = subst (λ (l : List Record). OnDisk n.stopped l n.world.disk n.world.pending n.hand) (sym c)
-        (subst (λ (x : Hand). OnDisk n.stopped m.records n.world.disk n.world.pending x) (sym e)
+        (subst (λ (x : HeldRecord). OnDisk n.stopped m.records n.world.disk n.world.pending x) (sym e)
         (subst (λ (x : Bool). OnDisk x m.records n.world.disk n.world.pending m.hand) (sym g)
         (subst (λ (x : History). OnDisk m.stopped m.records x.disk x.pending m.hand) (sym b) inv.disk)));
     sent = ap (λ (x : History). x.sent) b ∙ inv.sent ∙ ap (λ (l : List ℕ). before.sent ++ l) (sym f);

@@ -35,7 +35,7 @@ use Rattle.recorder.specs.declared.record_fault.RecordFault.TheVariants as fault
 use Rattle.recorder.specs.declared.tally.Tally.{Tally}
 use Rattle.recorder.specs.Drawing.{Draw, Drew, HasDrawn, Round, answers_in, draws_of, epochs_of_rounds, supply_behind, supply_of}
 use Rattle.recorder.specs.EpochLaws.{EpochLaws}
-use Rattle.recorder.specs.Faults.{MetNoOther, of_commit}
+use Rattle.recorder.specs.Faults.{RecordMetNoOther, of_commit}
 use Rattle.recorder.specs.Keeping.{InRound, IsOver, IsSince, IsStopped, Kept, Setting, SoFar, Within}
 use Rattle.recorder.specs.Machine.{epochs_of_runs}
 use Rattle.recorder.specs.Racing.{AreResults, IsRaced, job_bounds}
@@ -159,8 +159,8 @@ module _ (laws : StepLaws) (a : Setting) (there later : Option Input) (now : Opt
       begins a there later now racer after state w with_ j tally count so_far takes drawn_by going left can results whole raced core judged at_start
 
 -- the faults of a round's commits are those of the recording
-pub met_same : (A B : Type 0) (e : RecordFault) (disk d disk_after sink s sink_after other input input_after : ℕ) → d ≡ disk → s ≡ sink → input_after ≡ input → MetNoOther {A = A} (Err e) d disk_after s sink_after other other
-    → MetNoOther {A = B} (Err e) disk disk_after sink sink_after input input_after
+pub met_same : (A B : Type 0) (e : RecordFault) (disk d disk_after sink s sink_after other input input_after : ℕ) → d ≡ disk → s ≡ sink → input_after ≡ input → RecordMetNoOther {A = A} (Err e) d disk_after s sink_after other other
+    → RecordMetNoOther {A = B} (Err e) disk disk_after sink sink_after input input_after
 met_same A B faults.DiskFault disk d disk_after sink s sink_after other input input_after same_disk same_sink same_input met = (met.0 ∙ same_sink, same_input)
 met_same A B faults.OutputFault disk d disk_after sink s sink_after other input input_after same_disk same_sink same_input met = (met.0 ∙ same_disk, same_input)
 met_same A B faults.InputFault disk d disk_after sink s sink_after other input input_after same_disk same_sink same_input met = (met.0 ∙ same_disk, met.1 ∙ same_sink)

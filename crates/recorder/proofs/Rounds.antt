@@ -27,10 +27,10 @@ use Rattle.recorder.specs.declared.record_fault.RecordFault.{RecordFault}
 use Rattle.recorder.specs.declared.record_fault.RecordFault.TheVariants as faults
 use Rattle.recorder.specs.declared.tally.AfterJudging.{AfterJudging}
 use Rattle.recorder.specs.declared.tally.AfterJudging.TheVariants.{Committed, Over, Squashed}
-use Rattle.recorder.specs.Faults.{MetNoOther}
+use Rattle.recorder.specs.Faults.{RecordMetNoOther}
 use Rattle.recorder.specs.Keeping.{HasStopped, InRound, Setting, SoFar, StepSays, Within}
 use Rattle.recorder.specs.Racing.{AreResults, IsRaced, plan_of}
-use Rattle.recorder.specs.Taking.{HasTaken, Holding, more_after, outcome}
+use Rattle.recorder.specs.Taking.{HasTaken, Holding, more_after, taking_outcome}
 use Rattle.recorder.proofs.JobRuns.{of_jobs}
 use Rattle.recorder.proofs.Drawings.{TakeLaws}
 use Rattle.recorder.proofs.RoundRuns.{IsAll, RacedWith, Starts, StepLaws, begins_by, met_same, no_memory}
@@ -55,7 +55,7 @@ module _ {T : Type 0} (hold : T → Holding) (last_of : T → Result AfterJudgin
 
   -- what a committer leaves of its devices
   pub record Leaves (t u : T) : Type 0 where
-    pub others : (input : ℕ) → MetNoOther (last_of u) (hold t).disk (hold u).disk (hold t).sink (hold u).sink input input
+    pub others : (input : ℕ) → RecordMetNoOther (last_of u) (hold t).disk (hold u).disk (hold t).sink (hold u).sink input input
     pub no_input : last_of u ≡ Err faults.InputFault → ⊥
     pub disk_cause : last_of u ≡ Err faults.DiskFault → Rose (hold t).disk (hold u).disk
     pub sink_cause : last_of u ≡ Err faults.OutputFault → Rose (hold t).sink (hold u).sink
@@ -73,7 +73,7 @@ module _ {T : Type 0} (hold : T → Holding) (last_of : T → Result AfterJudgin
   one_still : (t m : T) (ran : Ran) → Takes t ran Yes m → IsStill t m
   one_still t m ran took =
       let last = yes_is_committed (last_of m) took.more_is in
-      let met = subst (λ (l : Result AfterJudging RecordFault). MetNoOther l (hold t).disk (hold m).disk (hold t).sink (hold m).sink 0 0) last (took.others 0) in
+      let met = subst (λ (l : Result AfterJudging RecordFault). RecordMetNoOther l (hold t).disk (hold m).disk (hold t).sink (hold m).sink 0 0) last (took.others 0) in
       record { disk = met.0; sink = met.1; every = took.every; last = last; judged = (took.count last).1 }
 
   then_still : (t m u : T) → IsStill t m → IsStill m u → IsStill t u
@@ -88,7 +88,7 @@ module _ {T : Type 0} (hold : T → Holding) (last_of : T → Result AfterJudgin
 
   pub went_leaves : (t u : T) → IsStill t u → Leaves t u
   went_leaves t u still = record {
-    others = λ input. subst (λ (l : Result AfterJudging RecordFault). MetNoOther l (hold t).disk (hold u).disk (hold t).sink (hold u).sink input input) (sym still.last) (still.disk, still.sink, refl);
+    others = λ input. subst (λ (l : Result AfterJudging RecordFault). RecordMetNoOther l (hold t).disk (hold u).disk (hold t).sink (hold u).sink input input) (sym still.last) (still.disk, still.sink, refl);
     no_input = λ is. (let bad = sym still.last ∙ is in absurd cc);
     disk_cause = λ is. (let bad = sym still.last ∙ is in absurd cc);
     sink_cause = λ is. (let bad = sym still.last ∙ is in absurd cc);
@@ -101,8 +101,8 @@ module _ {T : Type 0} (hold : T → Holding) (last_of : T → Result AfterJudgin
       let front = went_still t had.middle had.before still had.went_on in
       let took = had.took in
       record {
-        others = λ input. subst (λ (n : ℕ). MetNoOther (last_of u) n (hold u).disk (hold t).sink (hold u).sink input input) front.disk
-            (subst (λ (n : ℕ). MetNoOther (last_of u) (hold had.middle).disk (hold u).disk n (hold u).sink input input) front.sink (took.others input));
+        others = λ input. subst (λ (n : ℕ). RecordMetNoOther (last_of u) n (hold u).disk (hold t).sink (hold u).sink input input) front.disk
+            (subst (λ (n : ℕ). RecordMetNoOther (last_of u) (hold had.middle).disk (hold u).disk n (hold u).sink input input) front.sink (took.others input));
         no_input = took.no_input;
         disk_cause = λ is. subst (λ (n : ℕ). Rose n (hold u).disk) front.disk (took.disk_cause is);
         sink_cause = λ is. subst (λ (n : ℕ). Rose n (hold u).sink) front.sink (took.sink_cause is);
@@ -182,7 +182,7 @@ module _ {T : Type 0} (hold : T → Holding) (last_of : T → Result AfterJudgin
 
   module _ (begins : (whole : Bool) → (whole ≡ true → IsWhole offers jobs results) → Stands hold last_of (in_round whole) t) (still : IsStill hold last_of t t) (every : setting.options.mark ≡ (hold t).every) (none : length (hold t).core.jobs ≡ 0) where
     -- the committer had enough
-    by_last : (whole : Bool) (answer : Result (Unit {0}) OutOfMemory) (last : Result AfterJudging RecordFault) → Enough ≡ more_after last → StepSays (in_round whole) (hold u).history (hold u).core (hold u).journal (hold u).tally last → Came (outcome last answer)
+    by_last : (whole : Bool) (answer : Result (Unit {0}) OutOfMemory) (last : Result AfterJudging RecordFault) → Enough ≡ more_after last → StepSays (in_round whole) (hold u).history (hold u).core (hold u).journal (hold u).tally last → Came (taking_outcome last answer)
     by_last whole answer (Ok Committed) enough says = absurd cc
     by_last whole answer (Ok Squashed) enough says = says
     by_last whole answer (Ok Over) enough says =
@@ -192,7 +192,7 @@ module _ {T : Type 0} (hold : T → Holding) (last_of : T → Result AfterJudgin
     bad_whole : false ≡ true → IsWhole offers jobs results
     bad_whole bad = absurd cc
 
-    when_enough : (answer : Result (Unit {0}) OutOfMemory) → HadEnough (Takes hold last_of) t results u → Came (outcome (last_of u) answer)
+    when_enough : (answer : Result (Unit {0}) OutOfMemory) → HadEnough (Takes hold last_of) t results u → Came (taking_outcome (last_of u) answer)
     when_enough answer had =
         by_last false answer (last_of u) had.took.more_is (had_enough hold last_of (in_round false) t u results still (begins false bad_whole) every none refl had)
 
@@ -207,16 +207,16 @@ module _ {T : Type 0} (hold : T → Holding) (last_of : T → Result AfterJudgin
       all_judged : (hold u).core.judged ≡ length (hold u).core.jobs
       all_judged = (went_still hold last_of t u results still went).judged
 
-    pub ended_so : (answer : Result (Unit {0}) OutOfMemory) → HasEnded (Takes hold last_of) offers jobs results t u answer → Came (outcome (last_of u) answer)
+    pub ended_so : (answer : Result (Unit {0}) OutOfMemory) → HasEnded (Takes hold last_of) offers jobs results t u answer → Came (taking_outcome (last_of u) answer)
     ended_so (Ok done) (inl p) =
         let there = taken true (λ yes. p.1) p.0 in
         let over = all_over (in_round true) (hold u).history (hold u).core (hold u).journal (hold u).tally there.0 (all_judged true (λ yes. p.1) p.0) refl (let n = there.1 in omega (arith, n)) in
-        subst (λ (l : Result AfterJudging RecordFault). Came (outcome l (Ok tt))) (sym (last_is true (λ yes. p.1) p.0))
+        subst (λ (l : Result AfterJudging RecordFault). Came (taking_outcome l (Ok tt))) (sym (last_is true (λ yes. p.1) p.0))
         (subst (λ (n : ℕ). SoFar setting later (hold u).history after (hold u).core.committed w (hold u).journal (hold u).tally n × (s.steps < (hold u).core.committed.steps)) (omega arith) over)
     ended_so (Ok done) (inr had) = when_enough (Ok done) had
     ended_so (Err error) (inl went) =
         let there = taken false bad_whole went in
-        subst (λ (l : Result AfterJudging RecordFault). Came (outcome l (Err error))) (sym (last_is false bad_whole went))
+        subst (λ (l : Result AfterJudging RecordFault). Came (taking_outcome l (Err error))) (sym (last_is false bad_whole went))
         (no_memory (in_round false) (hold u).history (hold u).core (hold u).journal (hold u).tally there.0)
     ended_so (Err error) (inr had) = when_enough (Err error) had
 
@@ -228,7 +228,7 @@ module _ {T : Type 0} (hold : T → Holding) (last_of : T → Result AfterJudgin
   ended_leaves (Err error) (inr had) = enough_leaves hold last_of t u results still had
 
 -- by the round's outcome
-pub few_squashed : (last : Result AfterJudging RecordFault) (answer : Result (Unit {0}) OutOfMemory) (n : ℕ) → outcome last answer ≡ Ok n → n ≤ 1
+pub few_squashed : (last : Result AfterJudging RecordFault) (answer : Result (Unit {0}) OutOfMemory) (n : ℕ) → taking_outcome last answer ≡ Ok n → n ≤ 1
 few_squashed (Ok Committed) (Ok done) n is = let e : 0 ≡ n = cc in omega (arith, e)
 few_squashed (Ok Committed) (Err error) n is = absurd cc
 few_squashed (Ok Squashed) answer n is = let e : 1 ≡ n = cc in omega (arith, e)
@@ -236,22 +236,22 @@ few_squashed (Ok Over) answer n is = let e : 0 ≡ n = cc in omega (arith, e)
 few_squashed (Err fault) answer n is = absurd cc
 
 module _ (B : Type 0) (disk disk_after sink sink_after input input_after : ℕ) (same : input_after ≡ input) where
-  pub met_ok : (last : Result AfterJudging RecordFault) (answer : Result (Unit {0}) OutOfMemory) (n : ℕ) → outcome last answer ≡ Ok n → MetNoOther last disk disk_after sink sink_after 0 0 → (disk_after ≡ disk) × (sink_after ≡ sink) × (input_after ≡ input)
+  pub met_ok : (last : Result AfterJudging RecordFault) (answer : Result (Unit {0}) OutOfMemory) (n : ℕ) → taking_outcome last answer ≡ Ok n → RecordMetNoOther last disk disk_after sink sink_after 0 0 → (disk_after ≡ disk) × (sink_after ≡ sink) × (input_after ≡ input)
   met_ok (Ok next) answer n is met = (met.0, met.1, same)
   met_ok (Err fault) answer n is met = absurd cc
 
-  pub met_err : (last : Result AfterJudging RecordFault) (answer : Result (Unit {0}) OutOfMemory) (fault : RecordFault) → outcome last answer ≡ Err fault → MetNoOther last disk disk_after sink sink_after 0 0
-      → MetNoOther {A = B} (Err fault) disk disk_after sink sink_after input input_after
+  pub met_err : (last : Result AfterJudging RecordFault) (answer : Result (Unit {0}) OutOfMemory) (fault : RecordFault) → taking_outcome last answer ≡ Err fault → RecordMetNoOther last disk disk_after sink sink_after 0 0
+      → RecordMetNoOther {A = B} (Err fault) disk disk_after sink sink_after input input_after
   met_err (Ok Committed) (Ok done) fault is met = absurd cc
-  met_err (Ok Committed) (Err error) fault is met = let e : faults.OutOfMemory ≡ fault = cc in subst (λ (f : RecordFault). MetNoOther {A = B} (Err f) disk disk_after sink sink_after input input_after) e (met.0, met.1, same)
+  met_err (Ok Committed) (Err error) fault is met = let e : faults.OutOfMemory ≡ fault = cc in subst (λ (f : RecordFault). RecordMetNoOther {A = B} (Err f) disk disk_after sink sink_after input input_after) e (met.0, met.1, same)
   met_err (Ok Squashed) answer fault is met = absurd cc
   met_err (Ok Over) answer fault is met = absurd cc
   met_err (Err f) answer fault is met =
       let e : f ≡ fault = cc in
-      subst (λ (f : RecordFault). MetNoOther {A = B} (Err f) disk disk_after sink sink_after input input_after) e (met_same AfterJudging B f disk disk disk_after sink sink sink_after 0 input input_after refl refl same met)
+      subst (λ (f : RecordFault). RecordMetNoOther {A = B} (Err f) disk disk_after sink sink_after input input_after) e (met_same AfterJudging B f disk disk disk_after sink sink sink_after 0 input input_after refl refl same met)
 
 -- a fault that isn't `OutOfMemory` is that of the last result
-pub fault_of_last : (last : Result AfterJudging RecordFault) (answer : Result (Unit {0}) OutOfMemory) (fault : RecordFault) → outcome last answer ≡ Err fault → (fault ≡ faults.OutOfMemory) ⊎ (last ≡ Err fault)
+pub fault_of_last : (last : Result AfterJudging RecordFault) (answer : Result (Unit {0}) OutOfMemory) (fault : RecordFault) → taking_outcome last answer ≡ Err fault → (fault ≡ faults.OutOfMemory) ⊎ (last ≡ Err fault)
 fault_of_last (Ok Committed) (Ok done) fault is = absurd cc
 fault_of_last (Ok Committed) (Err error) fault is = inl (let e : faults.OutOfMemory ≡ fault = cc in sym e)
 fault_of_last (Ok Squashed) answer fault is = absurd cc
@@ -275,7 +275,7 @@ module _ {Q T : Type 0} (tells : Q → Tells) (hold : T → Holding) (last_of : 
   round_leaves = ended_leaves hold last_of streamed.offers streamed.jobs streamed.results t u still_there answer streamed.ended
 
   pub round_came : (so_far : SoFar a there (hold t).history (tells racer) state w (hold t).journal (hold t).tally count) → (d : Draw) × (d.due ≡ input_due state w) × (with_ ≡ supply_of w d) × IfKnown (Drew d) there later → IsSupply with_ → has_ended state.end ≡ false
-      → state.steps < a.options.limit → plan ≡ plan_of a.options (hold t).tally.first state → a.options.mark ≡ (hold t).every → Came hold last_of a later (tells racer_after) with_ state count [] [] [] t u (outcome (last_of u) answer)
+      → state.steps < a.options.limit → plan ≡ plan_of a.options (hold t).tally.first state → a.options.mark ≡ (hold t).every → Came hold last_of a later (tells racer_after) with_ state count [] [] [] t u (taking_outcome (last_of u) answer)
   round_came so_far drew is_supply going left plan_is every =
       let by = by_plan tells (Takes hold last_of) a.options (hold t).tally.first state with_ plan racer racer_after t u answer streamed plan_is left in
       ended_so hold last_of a later (tells racer_after) with_ state count by.offers by.jobs by.results t u

@@ -6,7 +6,7 @@ use Rattle.commit_core.specs.declared.stage.Stage.{Stage}
 use Rattle.commit_core.specs.declared.stage.Stage.TheVariants.{Offered, Claimed, Done, Taken}
 use Rattle.commit_core.specs.declared.verdict.Verdict.{Verdict}
 use Rattle.commit_core.specs.declared.verdict.Verdict.TheVariants.{Double, Noted, Stranger}
-use Rattle.commit_core.specs.Judging.{Core, claimed, finished, offered, stage_at, taken, with_job, with_stage}
+use Rattle.commit_core.specs.Judging.{Core, on_claim, on_done, on_offer, stage_at, on_take, with_job, with_stage}
 use Rattle.epoch_runner.specs.declared.epoch_run.Ran.{Ran}
 
 pick : (b : Bool) (x y : Verdict × Core) → b ≡ true → (if b then x else y) ≡ x
@@ -46,17 +46,17 @@ module _ (c : Core) (i : ℕ) (next : i ≡ length c.jobs + 1) where
       let place : i - 1 ≡ length c.jobs = omega (arith, next) in
       ap (λ (l : List Stage). record c { jobs = l }) (ap (λ (n : ℕ). slice_set (c.jobs ++ x ∷ []) n y) place ∙ set_last c.jobs x y)
 
-  offer : i ≤ c.max_jobs → offered c i ≡ (Noted, ending_in Offered)
+  offer : i ≤ c.max_jobs → on_offer c i ≡ (Noted, ending_in Offered)
   offer room =
       let late : nat_le i (length c.jobs) ≡ false = lt-leb i (length c.jobs) (omega (arith, next)) in
       pick_else (nat_lt 0 i && nat_le i (length c.jobs)) (Double i, c) (if nat_eq i (length c.jobs + 1) && nat_le i c.max_jobs then (Noted, with_job c) else (Stranger i, c)) (not_both (nat_lt 0 i) (nat_le i (length c.jobs)) late)
       ∙ pick (nat_eq i (length c.jobs + 1) && nat_le i c.max_jobs) (Noted, with_job c) (Stranger i, c) (joint (nat_eq i (length c.jobs + 1)) (nat_le i c.max_jobs) (eq-eqb i (length c.jobs + 1) next) (le-leb i c.max_jobs room))
 
-  pub all_four : (ran : Ran) (c1 c2 c3 c4 : Core) (v1 v2 v3 v4 : Verdict) → i ≤ c.max_jobs → ◌≡◌ {A = Verdict × Core} (v1, c1) (offered c i) → ◌≡◌ {A = Verdict × Core} (v2, c2) (claimed c1 i (stage_at c1.jobs i))
-      → ◌≡◌ {A = Verdict × Core} (v3, c3) (finished c2 i (stage_at c2.jobs i)) → ◌≡◌ {A = Verdict × Core} (v4, c4) (taken c3 i ran (stage_at c3.jobs i)) → c4 ≡ ending_in (Taken ran)
+  pub all_four : (ran : Ran) (c1 c2 c3 c4 : Core) (v1 v2 v3 v4 : Verdict) → i ≤ c.max_jobs → ◌≡◌ {A = Verdict × Core} (v1, c1) (on_offer c i) → ◌≡◌ {A = Verdict × Core} (v2, c2) (on_claim c1 i (stage_at c1.jobs i))
+      → ◌≡◌ {A = Verdict × Core} (v3, c3) (on_done c2 i (stage_at c2.jobs i)) → ◌≡◌ {A = Verdict × Core} (v4, c4) (on_take c3 i ran (stage_at c3.jobs i)) → c4 ≡ ending_in (Taken ran)
   all_four ran c1 c2 c3 c4 v1 v2 v3 v4 room e1 e2 e3 e4 =
       let second : Verdict × Core → Core = λ x. x.1 in
       let is1 : c1 ≡ ending_in Offered = ap second (e1 ∙ offer room) in
-      let is2 : c2 ≡ ending_in Claimed = ap second (e2 ∙ ap (λ (x : Core). claimed x i (stage_at x.jobs i)) is1 ∙ ap (claimed (ending_in Offered) i) (at Offered)) ∙ goes_on Offered Claimed in
-      let is3 : c3 ≡ ending_in Done = ap second (e3 ∙ ap (λ (x : Core). finished x i (stage_at x.jobs i)) is2 ∙ ap (finished (ending_in Claimed) i) (at Claimed)) ∙ goes_on Claimed Done in
-      ap second (e4 ∙ ap (λ (x : Core). taken x i ran (stage_at x.jobs i)) is3 ∙ ap (taken (ending_in Done) i ran) (at Done)) ∙ goes_on Done (Taken ran)
+      let is2 : c2 ≡ ending_in Claimed = ap second (e2 ∙ ap (λ (x : Core). on_claim x i (stage_at x.jobs i)) is1 ∙ ap (on_claim (ending_in Offered) i) (at Offered)) ∙ goes_on Offered Claimed in
+      let is3 : c3 ≡ ending_in Done = ap second (e3 ∙ ap (λ (x : Core). on_done x i (stage_at x.jobs i)) is2 ∙ ap (on_done (ending_in Claimed) i) (at Claimed)) ∙ goes_on Claimed Done in
+      ap second (e4 ∙ ap (λ (x : Core). on_take x i ran (stage_at x.jobs i)) is3 ∙ ap (on_take (ending_in Done) i ran) (at Done)) ∙ goes_on Done (Taken ran)

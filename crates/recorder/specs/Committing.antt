@@ -48,12 +48,12 @@ HasCommitted j size after (Err commits.DiskFault) = HasAppended j size after (Er
 
 -- No device has failed but the one that the answer names: the counts of the disk's faults and of the sink's, before and
 -- after.
-abbrev pub MetNoOther : Result (Unit {0}) CommitFault → (disk disk_after sink sink_after : ℕ) → Type 0
-MetNoOther (Ok done) disk disk_after sink sink_after = (disk_after ≡ disk) × (sink_after ≡ sink)
-MetNoOther (Err commits.OutputFault) disk disk_after sink sink_after = disk_after ≡ disk
-MetNoOther (Err (commits.Full end need)) disk disk_after sink sink_after = (disk_after ≡ disk) × (sink_after ≡ sink)
-MetNoOther (Err (commits.Failed last)) disk disk_after sink sink_after = (disk_after ≡ disk) × (sink_after ≡ sink)
-MetNoOther (Err commits.DiskFault) disk disk_after sink sink_after = sink_after ≡ sink
+abbrev pub CommitMetNoOther : Result (Unit {0}) CommitFault → (disk disk_after sink sink_after : ℕ) → Type 0
+CommitMetNoOther (Ok done) disk disk_after sink sink_after = (disk_after ≡ disk) × (sink_after ≡ sink)
+CommitMetNoOther (Err commits.OutputFault) disk disk_after sink sink_after = disk_after ≡ disk
+CommitMetNoOther (Err (commits.Full end need)) disk disk_after sink sink_after = (disk_after ≡ disk) × (sink_after ≡ sink)
+CommitMetNoOther (Err (commits.Failed last)) disk disk_after sink sink_after = (disk_after ≡ disk) × (sink_after ≡ sink)
+CommitMetNoOther (Err commits.DiskFault) disk disk_after sink sink_after = sink_after ≡ sink
 
 -- the calls that it makes of the world: those of the append, and after them those that send the output
 abbrev pub CommitCalls : Journal → (added output : List ℕ) → Result (Unit {0}) CommitFault → History → History → Type 0

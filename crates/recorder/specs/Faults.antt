@@ -21,16 +21,16 @@ of_commit commits.OutputFault = faults.OutputFault
 
 -- No device has failed but the one that the answer names: the counts of the disk's faults, of the sink's and of the
 -- input's, before and after.
-abbrev pub MetNoOther : {A : Type 0} → Result A RecordFault → (disk disk_after sink sink_after input input_after : ℕ) → Type 0
-MetNoOther (Ok done) disk disk_after sink sink_after input input_after = (disk_after ≡ disk) × (sink_after ≡ sink) × (input_after ≡ input)
-MetNoOther (Err faults.DiskFault) disk disk_after sink sink_after input input_after = (sink_after ≡ sink) × (input_after ≡ input)
-MetNoOther (Err faults.OutputFault) disk disk_after sink sink_after input input_after = (disk_after ≡ disk) × (input_after ≡ input)
-MetNoOther (Err faults.InputFault) disk disk_after sink sink_after input input_after = (disk_after ≡ disk) × (sink_after ≡ sink)
-MetNoOther (Err (faults.JournalInUse len)) disk disk_after sink sink_after input input_after =
+abbrev pub RecordMetNoOther : {A : Type 0} → Result A RecordFault → (disk disk_after sink sink_after input input_after : ℕ) → Type 0
+RecordMetNoOther (Ok done) disk disk_after sink sink_after input input_after = (disk_after ≡ disk) × (sink_after ≡ sink) × (input_after ≡ input)
+RecordMetNoOther (Err faults.DiskFault) disk disk_after sink sink_after input input_after = (sink_after ≡ sink) × (input_after ≡ input)
+RecordMetNoOther (Err faults.OutputFault) disk disk_after sink sink_after input input_after = (disk_after ≡ disk) × (input_after ≡ input)
+RecordMetNoOther (Err faults.InputFault) disk disk_after sink sink_after input input_after = (disk_after ≡ disk) × (sink_after ≡ sink)
+RecordMetNoOther (Err (faults.JournalInUse len)) disk disk_after sink sink_after input input_after =
     (disk_after ≡ disk) × (sink_after ≡ sink) × (input_after ≡ input)
-MetNoOther (Err (faults.StepLimit steps)) disk disk_after sink sink_after input input_after =
+RecordMetNoOther (Err (faults.StepLimit steps)) disk disk_after sink sink_after input input_after =
     (disk_after ≡ disk) × (sink_after ≡ sink) × (input_after ≡ input)
-MetNoOther (Err (faults.JournalFull end need)) disk disk_after sink sink_after input input_after =
+RecordMetNoOther (Err (faults.JournalFull end need)) disk disk_after sink sink_after input input_after =
     (disk_after ≡ disk) × (sink_after ≡ sink) × (input_after ≡ input)
-MetNoOther (Err faults.OutOfMemory) disk disk_after sink sink_after input input_after =
+RecordMetNoOther (Err faults.OutOfMemory) disk disk_after sink sink_after input input_after =
     (disk_after ≡ disk) × (sink_after ≡ sink) × (input_after ≡ input)

@@ -40,9 +40,9 @@ pub data MachineCall : Type 0 where
 
 -- What is written: nothing, or a record, which is that of these epochs (one, or none if it is a mark). The call is the
 -- next one.
-pub data Hand : Type 0 where
-  nothing : Hand
-  holds : Record → List EpochRun → MachineCall → Hand
+pub data HeldRecord : Type 0 where
+  nothing : HeldRecord
+  holds : Record → List EpochRun → MachineCall → HeldRecord
 
 -- a result that was taken, and the number of its job
 pub record TakenResult : Type 0 where
@@ -63,7 +63,7 @@ pub record Machine : Type 0 where
   -- the records that are acknowledged, the epochs of which they are, and the record in hand
   pub records : List Record
   pub written : List EpochRun
-  pub hand : Hand
+  pub hand : HeldRecord
   -- the state of the last acknowledged mark, or the start: the base of the next mark
   pub base : State
   -- the output that was sent
@@ -92,7 +92,7 @@ first_machine s h i = record {
   left = None;
 }
 
-abbrev pub runs_in_hand : Hand → List EpochRun
+abbrev pub runs_in_hand : HeldRecord → List EpochRun
 runs_in_hand nothing = []
 runs_in_hand (holds r rs call) = rs
 

@@ -15,7 +15,7 @@ use Rattle.guest_kernel.specs.Slices.{chain}
 use Rattle.journal_text.specs.Records.{IsRecord, Record, epoch, mark, partial}
 use Rattle.partial_mark.specs.Base.{applied}
 use Rattle.recorder.specs.Drawing.{Draw}
-use Rattle.recorder.specs.Machine.{MachineEvent, Hand, Machine, TakenResult, crash, epochs_of_runs, fails, frame_sync, frame_write, gate_sync, gate_write, holds, in_round, judged_runs, makes, marks, nothing, output_of_runs, round, send_fails, sends}
+use Rattle.recorder.specs.Machine.{MachineEvent, HeldRecord, Machine, TakenResult, crash, epochs_of_runs, fails, frame_sync, frame_write, gate_sync, gate_write, holds, in_round, judged_runs, makes, marks, nothing, output_of_runs, round, send_fails, sends}
 
 -- ---- the journal
 
@@ -30,12 +30,12 @@ StandFor base s (partial m ∷ records) rs then_ t = (applied (checkpoint_of bas
 StandFor base s (epoch e ∷ records) [] then_ t = ⊥
 StandFor base s [] (r ∷ rs) then_ t = ⊥
 
-abbrev pub record_in_hand : Hand → Option Record
+abbrev pub record_in_hand : HeldRecord → Option Record
 record_in_hand nothing = None
 record_in_hand (holds r rs call) = Some r
 
 -- the record in hand once its gate is written
-abbrev pub record_opened : Hand → Option Record
+abbrev pub record_opened : HeldRecord → Option Record
 record_opened nothing = None
 record_opened (holds r rs frame_write) = None
 record_opened (holds r rs frame_sync) = None
@@ -44,7 +44,7 @@ record_opened (holds r rs gate_sync) = Some r
 
 -- The record that an image may have after those that are acknowledged: the one in hand if its gate was written, or if a
 -- device failed.
-abbrev pub in_question : Hand → (stopped : Bool) → Option Record
+abbrev pub in_question : HeldRecord → (stopped : Bool) → Option Record
 in_question hand true = record_in_hand hand
 in_question hand false = record_opened hand
 

@@ -14,7 +14,7 @@ use Rattle.recorder.specs.declared.record_fault.RecordFault.TheVariants as fault
 use Rattle.recorder.specs.declared.tally.AfterJudging.{AfterJudging}
 use Rattle.recorder.specs.declared.tally.AfterJudging.TheVariants.{Committed, Squashed, Over}
 use Rattle.recorder.specs.declared.tally.Tally.{Tally}
-use Rattle.recorder.specs.Faults.{MetNoOther}
+use Rattle.recorder.specs.Faults.{RecordMetNoOther}
 use Rattle.recorder.specs.Keeping.{InRound, StepSays, Within}
 
 -- what a committer holds: what is known of the world, the faults of its disk and of its sink, and what was committed; a
@@ -42,7 +42,7 @@ pub record HasTaken (h : Holding) (ran : Ran) (more : More) (there : Holding) (l
   pub count : last ≡ Ok Committed → (length there.core.jobs ≡ length h.core.jobs + 1) × (there.core.judged ≡ length there.core.jobs)
   pub every : there.every ≡ h.every
   pub more_is : more ≡ more_after last
-  pub others : (input : ℕ) → MetNoOther last h.disk there.disk h.sink there.sink input input
+  pub others : (input : ℕ) → RecordMetNoOther last h.disk there.disk h.sink there.sink input input
   pub no_input : last ≡ Err faults.InputFault → ⊥
   pub disk_cause : last ≡ Err faults.DiskFault → Rose h.disk there.disk
   pub sink_cause : last ≡ Err faults.OutputFault → Rose h.sink there.sink
@@ -50,9 +50,9 @@ pub record HasTaken (h : Holding) (ran : Ran) (more : More) (there : Holding) (l
   pub sink_count : h.sink ≤ there.sink
 
 -- how many results a round has squashed, or why the recording stops
-abbrev pub outcome : Result AfterJudging RecordFault → Result (Unit {0}) OutOfMemory → Result ℕ RecordFault
-outcome (Ok Committed) (Ok done) = Ok 0
-outcome (Ok Committed) (Err error) = Err faults.OutOfMemory
-outcome (Ok Squashed) answer = Ok 1
-outcome (Ok Over) answer = Ok 0
-outcome (Err fault) answer = Err fault
+abbrev pub taking_outcome : Result AfterJudging RecordFault → Result (Unit {0}) OutOfMemory → Result ℕ RecordFault
+taking_outcome (Ok Committed) (Ok done) = Ok 0
+taking_outcome (Ok Committed) (Err error) = Err faults.OutOfMemory
+taking_outcome (Ok Squashed) answer = Ok 1
+taking_outcome (Ok Over) answer = Ok 0
+taking_outcome (Err fault) answer = Err fault

@@ -2,7 +2,7 @@
 ghost use Rattle.std.specs.Prelude.{◌≡◌, ◌≤◌, IsErrOf, length};
 ghost use Rattle.dp_base.specs.Counts.{Rose};
 ghost use Rattle.disk_model.specs.Known.{IfKnown};
-ghost use Rattle.recorder.specs.Committing.{CommitCalls, Committed, HasCommitted, MetNoOther};
+ghost use Rattle.recorder.specs.Committing.{CommitCalls, Committed, HasCommitted, CommitMetNoOther};
 
 use crate::ready::Ready;
 use device::send_all;
@@ -37,7 +37,7 @@ pub fn commit_epoch<W: World>(
     ensures calls { IfKnown (CommitCalls journal.old ready.now.frame ready.now.out result)
         (W.history world.old) (W.history world.new) }
     ensures numbers { HasCommitted journal.old (length ready.now.frame) journal.new result }
-    ensures others { MetNoOther result (W.disk_faults world.old) (W.disk_faults world.new)
+    ensures others { CommitMetNoOther result (W.disk_faults world.old) (W.disk_faults world.new)
         (W.sink_faults world.old) (W.sink_faults world.new) }
     ensures disk_cause { IsErrOf result CommitFault.DiskFault →
         Rose (W.disk_faults world.old) (W.disk_faults world.new) }

@@ -1,6 +1,6 @@
 // How a guest is recorded.
 ghost use Rattle.std.specs.Prelude.{◌≡◌, ◌≤◌, ◌<◌, ◌^◌};
-ghost use Rattle.dp_base.specs.declared.limits.TheConstants.{MAX_EPOCH_STEPS, MAX_JOBS, MAX_JOURNAL_BYTES, MAX_WORKERS};
+ghost use Rattle.dp_base.specs.declared.limits.TheConstants.{MAX_EPOCH_STEPS, MAX_JOBS, MAX_JOURNAL_BYTES, MAX_MARK_EPOCHS, MAX_RECORDING_STEPS, MAX_SLICE_STEPS, MAX_WORKERS};
 
 /// How a guest is recorded. Each field is in the range that its type keeps.
 #[derive(Clone, Copy)]
@@ -21,9 +21,9 @@ pub struct Options {
     pub room: u64,
     ghost workers_range: { (0 < workers) × (workers ≤ MAX_WORKERS) },
     ghost epoch_range: { (0 < epoch) × (epoch ≤ MAX_EPOCH_STEPS) },
-    ghost slice_range: { (0 < slice) × (slice ≤ 100000) },
+    ghost slice_range: { (0 < slice) × (slice ≤ MAX_SLICE_STEPS) },
     ghost ahead_range: { (0 < ahead) × (ahead ≤ MAX_JOBS) },
-    ghost mark_range: { mark ≤ 1000 },
-    ghost limit_range: { (0 < limit) × (limit ≤ 1000000000000) },
+    ghost mark_range: { mark ≤ MAX_MARK_EPOCHS },
+    ghost limit_range: { (0 < limit) × (limit ≤ MAX_RECORDING_STEPS) },
     ghost room_range: { room ≤ MAX_JOURNAL_BYTES },
 }

@@ -7,11 +7,11 @@ ghost use Rattle.dp_base.specs.Counts.{Rose};
 ghost use Rattle.dp_base.specs.declared.limits.TheConstants.{MAX_JOBS};
 ghost use Rattle.guest_kernel.specs.Start.{IsGuestFile, start_state};
 ghost use Rattle.guest_kernel.specs.State.{has_ended};
-ghost use Rattle.recorder.specs.Faults.{MetNoOther};
+ghost use Rattle.recorder.specs.Faults.{RecordMetNoOther};
 ghost use Rattle.recorder.specs.Keeping.{HasStopped, Setting, SoFar};
 ghost use Rattle.recorder.specs.Moments.{EachMoment};
 ghost use Rattle.recorder.specs.Recording.{Recorded};
-ghost use Rattle.recorder.specs.Taking.{outcome};
+ghost use Rattle.recorder.specs.Taking.{taking_outcome};
 ghost use Rattle.recorder.specs.declared.record_fault.RecordFault.TheVariants as faults;
 
 use crate::committer::Committer;
@@ -70,7 +70,7 @@ pub fn record_<
         (W.history world) (W.history result.0) result.1 }
     ensures moments { EachMoment guest.now options.mark start (I.input inlet.old) (I.input inlet.new)
         (W.history world) (W.history result.0) }
-    ensures others { MetNoOther result.1 (W.disk_faults world) (W.disk_faults result.0) (W.sink_faults world) (W.sink_faults result.0)
+    ensures others { RecordMetNoOther result.1 (W.disk_faults world) (W.disk_faults result.0) (W.sink_faults world) (W.sink_faults result.0)
         (I.input_faults inlet.old) (I.input_faults inlet.new) }
     ensures input_cause { result.1 ≡ Err faults.InputFault → Rose (I.input_faults inlet.old) (I.input_faults inlet.new) }
     ensures disk_cause { result.1 ≡ Err faults.DiskFault → Rose (W.disk_faults world) (W.disk_faults result.0) }
@@ -155,7 +155,7 @@ fn begin<W: World>(
     ensures stopped { (tells : Tells) (given : Option Input) → IfErr result (λ fault. HasStopped
         (record { guest = guest.now; tells = tells; options = options.now; start = start.now; given = given; before = W.history world.old })
         given (W.history world.new) fault) }
-    ensures others { (input : ℕ) → MetNoOther result (W.disk_faults world.old) (W.disk_faults world.new)
+    ensures others { (input : ℕ) → RecordMetNoOther result (W.disk_faults world.old) (W.disk_faults world.new)
         (W.sink_faults world.old) (W.sink_faults world.new) input input }
     ensures no_input { IsErrOf result RecordFault.InputFault → ⊥ }
     ensures no_sink { IsErrOf result RecordFault.OutputFault → ⊥ }
@@ -203,7 +203,7 @@ fn round<
     ensures stopped { (a : Setting) → a.options ≡ options.now →
         SoFar a (I.input inlet.old) (W.history world) (Q.tells recording.racer) recording.state supply.old recording.journal recording.tally recording.squashes →
         IfErr result.1 (λ fault. HasStopped a (I.input inlet.new) (W.history result.0) fault) }
-    ensures others { MetNoOther result.1 (W.disk_faults world) (W.disk_faults result.0) (W.sink_faults world) (W.sink_faults result.0)
+    ensures others { RecordMetNoOther result.1 (W.disk_faults world) (W.disk_faults result.0) (W.sink_faults world) (W.sink_faults result.0)
         (I.input_faults inlet.old) (I.input_faults inlet.new) }
     ensures input_cause { IsErrOf result.1 RecordFault.InputFault → Rose (I.input_faults inlet.old) (I.input_faults inlet.new) }
     ensures disk_cause { IsErrOf result.1 RecordFault.DiskFault → Rose (W.disk_faults world) (W.disk_faults result.0) }
@@ -283,7 +283,7 @@ fn outcome(
     last: Result<AfterJudging, RecordFault>,
     answer: Result<(), OutOfMemory>,
 ) -> Result<u32, RecordFault>
-    ensures { result ≡ outcome last answer }
+    ensures { result ≡ taking_outcome last answer }
 {
     match last {
         Ok(AfterJudging::Committed) => match answer {

@@ -3,7 +3,7 @@ ghost use Rattle.std.specs.Prelude.{◌≡◌, ◌≤◌, ℕ, IsErrOf};
 ghost use Rattle.checkpoint.specs.State.{IsEncodable};
 ghost use Rattle.dp_base.specs.Counts.{Rose};
 ghost use Rattle.disk_model.specs.Known.{IfKnown};
-ghost use Rattle.recorder.specs.Faults.{MetNoOther};
+ghost use Rattle.recorder.specs.Faults.{RecordMetNoOther};
 ghost use Rattle.recorder.specs.Report.{HasSentReport, IsReportSent, report_at};
 
 use crate::record_fault::RecordFault;
@@ -27,7 +27,7 @@ pub(crate) fn send_report<W: World>(
     requires { IsEncodable state.now }
     ensures told { IsReportSent (report_at epochs squashes sent state.now) result }
     ensures history { IfKnown (HasSentReport (report_at epochs squashes sent state.now) result) (W.history world.old) (W.history world.new) }
-    ensures others { (input : ℕ) → MetNoOther result (W.disk_faults world.old) (W.disk_faults world.new)
+    ensures others { (input : ℕ) → RecordMetNoOther result (W.disk_faults world.old) (W.disk_faults world.new)
         (W.sink_faults world.old) (W.sink_faults world.new) input input }
     ensures cause { IsErrOf result RecordFault.OutputFault →
         Rose (W.sink_faults world.old) (W.sink_faults world.new) }

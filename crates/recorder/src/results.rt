@@ -6,7 +6,7 @@ ghost use Rattle.dp_base.specs.declared.limits.TheConstants.{MAX_JOBS};
 ghost use Rattle.dp_base.specs.Journal.{IsBody, IsEpoch, epoch_body, frame};
 ghost use Rattle.epoch_record.specs.Epoch.{epoch_of};
 ghost use Rattle.recorder.specs.EpochLaws.{EpochLaws};
-ghost use Rattle.recorder.specs.Faults.{MetNoOther};
+ghost use Rattle.recorder.specs.Faults.{RecordMetNoOther};
 ghost use Rattle.checkpoint.specs.State.{IsEncodable};
 ghost use Rattle.commit_core.specs.Judging.{Core, HasApplied};
 ghost use Rattle.epoch_runner.specs.declared.epoch_run.EpochRun.{EpochRun};
@@ -63,7 +63,7 @@ pub(crate) fn commit_next<W: World>(
     ensures says { (a : InRound) → a.setting.options.mark ≡ every → Within true a (W.history world.old) core.old journal.old tally.old →
         slice_get a.results (length core.old.jobs) ≡ Some ran → StepSays a (W.history world.new) core.new journal.new tally.new result }
     ensures goes { IfOk result (λ next. next ≡ AfterJudging.Committed → CanCommit core.new journal.new × (length core.new.jobs ≡ number) × IsEncodable tally.new.base) }
-    ensures others { (input : ℕ) → MetNoOther result (W.disk_faults world.old) (W.disk_faults world.new)
+    ensures others { (input : ℕ) → RecordMetNoOther result (W.disk_faults world.old) (W.disk_faults world.new)
         (W.sink_faults world.old) (W.sink_faults world.new) input input }
     ensures no_input { IsErrOf result RecordFault.InputFault → ⊥ }
     ensures disk_cause { IsErrOf result RecordFault.DiskFault →
@@ -141,7 +141,7 @@ fn append_mark<W: World>(
     ensures base { OnOk result (tally.new.base ≡ next_base mark tally.old.base) }
     ensures says { (a : InRound) (core : Core) → Within false a (W.history world.old) core journal.old tally.old →
         IsDueMark a.setting.options.mark tally.old.since tally.old.base core.committed mark → MarkSays a (W.history world.new) core journal.new tally.new result }
-    ensures others { (input : ℕ) → MetNoOther result (W.disk_faults world.old) (W.disk_faults world.new)
+    ensures others { (input : ℕ) → RecordMetNoOther result (W.disk_faults world.old) (W.disk_faults world.new)
         (W.sink_faults world.old) (W.sink_faults world.new) input input }
     ensures no_input { IsErrOf result RecordFault.InputFault → ⊥ }
     ensures no_sink { IsErrOf result RecordFault.OutputFault → ⊥ }

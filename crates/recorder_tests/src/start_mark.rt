@@ -1,7 +1,7 @@
 // The mark of a guest's start.
 ghost use Rattle.std.specs.Prelude.{◌≡◌, ◌⊎◌, ◌∷◌, IfErr, IfOk};
 ghost use Rattle.dp_base.specs.declared.journal.TheConstants.{MARK_KIND};
-ghost use Rattle.elf_image.specs.Faults.{image_fault, number_of};
+ghost use Rattle.elf_image.specs.Faults.{image_fault, fault_number};
 ghost use Rattle.guest_kernel.specs.Start.{IsGuestFile, start_state};
 ghost use Rattle.checkpoint.specs.State.{state_bytes};
 
@@ -19,7 +19,7 @@ use std::alloc::Global;
 pub fn mark_of_start(alloc: Global, guest: &[u8]) -> Result<Vec<u8>, ImageFault>
     ensures body { IfOk result (λ body. body.items ≡ MARK_KIND ∷ state_bytes (start_state guest.now)) }
     ensures accepted { IfOk result (λ body. IsGuestFile guest.now) }
-    ensures refused { IfErr result (λ fault. (fault ≡ ImageFault.OutOfMemory) ⊎ (image_fault guest.now ≡ number_of fault)) }
+    ensures refused { IfErr result (λ fault. (fault ≡ ImageFault.OutOfMemory) ⊎ (image_fault guest.now ≡ fault_number fault)) }
 {
     checkpoint::laws::a_start_state_is_encodable();
     let state = start_from_file(alloc, guest)?;

@@ -113,8 +113,8 @@ abbrev pub load_reserved : ℕ → Option Instr
 load_reserved word = if rs2 word == 0 then Some (instrs.LrW (rd word) (rs1 word)) else None
 
 -- AMO with the width of a word; aq and rl only order
-abbrev pub amo_word : ℕ → Option Instr
-amo_word word =
+abbrev pub decoded_amo : ℕ → Option Instr
+decoded_amo word =
     if funct5 word == 0x00 then with_r instrs.AmoaddW word
     else if funct5 word == 0x01 then with_r instrs.AmoswapW word
     else if funct5 word == 0x02 then load_reserved word
@@ -130,7 +130,7 @@ amo_word word =
 
 -- AMO
 abbrev pub amo : ℕ → Option Instr
-amo word = if funct3 word == 2 then amo_word word else None
+amo word = if funct3 word == 2 then decoded_amo word else None
 
 -- none: an illegal instruction
 abbrev pub decoded : ℕ → Option Instr

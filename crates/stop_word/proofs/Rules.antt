@@ -6,7 +6,7 @@ use mathlib.Core.Option.{some, some-injective, some-ne-none}
 use lib.ListN.{get_elem?}
 use Rattle.atomic_table.specs.Table.{State, Step, Allows, Splits, Joins, opening, keeps}
 use Rattle.atomic_table.proofs.Lists.{at_set, at_snoc}
-use Rattle.stop_word.specs.Stops.{first_view, watcher_view, after_stop, after_load, joined, word_of, Stops}
+use Rattle.stop_word.specs.Stops.{first_view, watcher_view, after_stop, after_load, view_of_both, word_of, Stops}
 use Rattle.stop_word.specs.declared.rule.View.{View}
 
 begins_at : (k : ℕ) (v : View) → get_elem? (first_view ∷ []) k ≡ some v → (k ≡ 0) × (v ≡ first_view)
@@ -100,8 +100,8 @@ either_seen : (b c : Bool) (A : Type 0) → (b ≡ true → A) → (c ≡ true �
 either_seen true c A x y k = x refl
 either_seen false c A x y k = y k
 
-pub joins : {S : Type 0} (id : ℕ) (v : View) (other : ℕ) (w : View) → Joins {S = S} {V = View} (λ s. Stops s.words s.views) id v other w (joined v w) watcher_view
-joins id v other w s o at ne at' = let both = joined v w in
+pub joins : {S : Type 0} (id : ℕ) (v : View) (other : ℕ) (w : View) → Joins {S = S} {V = View} (λ s. Stops s.words s.views) id v other w (view_of_both v w) watcher_view
+joins id v other w s o at ne at' = let both = view_of_both v w in
     let was : get_elem? s.views other ≡ some w = ⊎_elim (λ (x : (other ≡ id) × (both ≡ w)). absurd (ne x.0)) (λ (x : (other ≢ id) × (get_elem? s.views other ≡ some w)). x.1) (at_set s.views id other both w at') in
     let one = stays s.words s.words s.views o id v both at refl refl refl refl (λ k. either_seen v.seen w.seen (o.stopped ≡ true) (λ h. o.seen id v at h) (λ h. o.seen other w was h) k) in record {
       seat = one.seat;

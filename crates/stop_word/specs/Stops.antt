@@ -21,8 +21,8 @@ abbrev pub after_load : View → ℕ → View
 after_load v n = new_view v.stopper v.stopped (if n == 0 then v.seen else true)
 
 -- the stopper's view, with what a watcher saw
-abbrev pub joined : View → View → View
-joined v w = new_view v.stopper v.stopped (if v.seen then true else w.seen)
+abbrev pub view_of_both : View → View → View
+view_of_both v w = new_view v.stopper v.stopped (if v.seen then true else w.seen)
 
 abbrev pub word_of : Bool → ℕ
 word_of stopped = if stopped then 1 else 0

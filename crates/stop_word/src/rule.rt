@@ -34,9 +34,9 @@ impl Split<View> for Watches {
 }
 
 impl Join<View> for Watches {
-    ghost use Rattle.stop_word.specs.Stops.{joined, watcher_view};
+    ghost use Rattle.stop_word.specs.Stops.{view_of_both, watcher_view};
 
-    ghost both = { joined };
+    ghost both = { view_of_both };
 
     ghost spent = { watcher_view };
 }

@@ -1,5 +1,5 @@
 use Rattle.std.proofs.Common.{refl}
-use Rattle.elf_image.specs.Faults.{number_of}
+use Rattle.elf_image.specs.Faults.{fault_number}
 use Rattle.dp_top.proofs.Statuses.{came_by, came_refused, why_refused}
 use Rattle.dp_top.proofs.commands.record_named.Goals as goal
 
@@ -11,6 +11,6 @@ returns-clause-came g c =
 
 pub returns-in-Err-clause-came : goal.returns-in-Err-clause-came
 returns-in-Err-clause-came g c =
-    came_refused (g.Q.Racer.tells c.args.racer) c.args.name.now c.args.options _ _ _ _ _ c.in-Ok.guest.items c.deref.result.now (number_of c.in-Err.fault) _
+    came_refused (g.Q.Racer.tells c.args.racer) c.args.name.now c.args.options _ _ _ _ _ c.in-Ok.guest.items c.deref.result.now (fault_number c.in-Err.fault) _
     c.in-Ok.ensures.bytes c.deref.ensures.value c.status_of_fault.ensures
     (why_refused c.in-Err.fault c.deref.result.now c.in-Err.ensures.refused) refl refl

@@ -1,5 +1,6 @@
 use Rattle.std.proofs.Common.{◌∙◌, codes}
 use Rattle.std.proofs.lemmas.Result.{IfOk-weaker}
+use Rattle.dp_base.specs.declared.limits.TheConstants.{}
 use Rattle.clap.specs.Words.{App, new_app, with_rule}
 use Rattle.dp_words.specs.CommandLine.{number, text}
 use Rattle.dp_words.proofs.LineLemmas.{longer}

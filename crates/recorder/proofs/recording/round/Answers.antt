@@ -9,7 +9,7 @@ use Rattle.recorder.specs.declared.recording.Recording.{Recording}
 use Rattle.recorder.specs.declared.tally.AfterJudging.{AfterJudging}
 use Rattle.recorder.specs.Keeping.{SoFar}
 use Rattle.recorder.specs.Racing.{plan_of}
-use Rattle.recorder.specs.Taking.{Holding, outcome}
+use Rattle.recorder.specs.Taking.{Holding, taking_outcome}
 use Rattle.recorder.proofs.Drawings.{take_laws}
 use Rattle.recorder.proofs.Rounds.{Came, fault_of_last, few_squashed, met_err, met_ok, round_came, round_leaves}
 use Rattle.recorder.proofs.RoundRuns.{StepLaws, drawn_by, squashes_fit}
@@ -63,7 +63,7 @@ returns-in-Err-clause-stopped g c = λ a is so_far.
 
 pub overflow_add-squashes : goal.overflow_add-squashes
 overflow_add-squashes g c =
-    let out : outcome c.stream-committer.result.0.last c.stream-committer.result.2 ≡ Ok c.in-Ok-outcome.squashed = sym c.outcome.ensures ∙ c.in-Ok-outcome.is in
+    let out : taking_outcome c.stream-committer.result.0.last c.stream-committer.result.2 ≡ Ok c.in-Ok-outcome.squashed = sym c.outcome.ensures ∙ c.in-Ok-outcome.is in
     let few = few_squashed c.stream-committer.result.0.last c.stream-committer.result.2 c.in-Ok-outcome.squashed out in
     let fit = squashes_fit c.requires.so_far.0 (g.I.Inlet.input c.args.inlet.now) (g.W.World.history c.args.world) (g.Q.Racer.tells c.args.recording.racer) c.args.recording.state c.args.supply.now c.args.recording.journal c.args.recording.tally c.args.recording.squashes c.requires.so_far.2 in
     omega (arith, few, fit)
@@ -79,7 +79,7 @@ returns-in-Ok-outcome-clause-went g c = λ a is so_far.
     let came = round_came g.Q.Racer.tells hold last_of steps takes c.a_round_commits_what_joins_on.ensures.starts a (g.I.Inlet.input c.args.inlet.now) (g.I.Inlet.input c.draw.new.inlet) c.args.recording.racer c.stream-committer.result.1 c.args.recording.state c.args.supply.now c.draw.new.supply c.args.recording.squashes c.plan_of-plan.result c.stream-committer.result.2 _ c.stream-committer.result.0 c.stream-committer.ensures refl c.in-Ok.ensures
     so_far (ok_of c.draw.result _ went c.draw.ensures.drew) (ok_of c.draw.result _ went c.draw.ensures.is_supply) c.requires.going left
     (subst (λ (o : Options). c.plan_of-plan.result ≡ plan_of o c.args.recording.tally.first c.args.recording.state) (sym is) c.plan_of-plan.ensures) (ap (λ (o : Options). o.mark) is) in
-    let out : outcome c.stream-committer.result.0.last c.stream-committer.result.2 ≡ Ok c.in-Ok-outcome.squashed = sym c.outcome.ensures ∙ c.in-Ok-outcome.is in
+    let out : taking_outcome c.stream-committer.result.0.last c.stream-committer.result.2 ≡ Ok c.in-Ok-outcome.squashed = sym c.outcome.ensures ∙ c.in-Ok-outcome.is in
     let there = subst (λ (r : Result ℕ RecordFault). Came hold last_of a (g.I.Inlet.input c.draw.new.inlet) (g.Q.Racer.tells c.stream-committer.result.1) c.draw.new.supply c.args.recording.state c.args.recording.squashes [] [] [] c.stream-committer.result.0 c.stream-committer.result.0 r) out came in
     subst (λ (s : State). SoFar a (g.I.Inlet.input c.draw.new.inlet) (g.W.World.history c.stream-committer.result.0.world) (g.Q.Racer.tells c.stream-committer.result.1) s c.draw.new.supply c.stream-committer.result.0.journal c.stream-committer.result.0.tally (c.args.recording.squashes + c.in-Ok-outcome.squashed) × (c.args.recording.state.steps < s.steps))
     (sym c.into_committed-state.ensures) there
@@ -92,7 +92,7 @@ returns-in-Ok-outcome-clause-others g c =
     let steps : StepLaws = record { ready = c.a_supply_lets_a_guest_step.ensures.ready; used_up = c.a_supply_lets_a_guest_step.ensures.used_up; refilled_ = c.a_supply_lets_a_guest_step.ensures.refilled; stamped = c.a_supply_lets_a_guest_step.ensures.stamped } in
     let went : is_err c.draw.result ≡ false = sym c.is_err.ensures.value ∙ c.if-is_err.false in
     let leaves = round_leaves g.Q.Racer.tells hold last_of steps takes c.a_round_commits_what_joins_on.ensures.starts c.requires.so_far.0 (g.I.Inlet.input c.args.inlet.now) (g.I.Inlet.input c.draw.new.inlet) c.args.recording.racer c.stream-committer.result.1 c.args.recording.state c.args.supply.now c.draw.new.supply c.args.recording.squashes c.plan_of-plan.result c.stream-committer.result.2 _ c.stream-committer.result.0 c.stream-committer.ensures refl c.in-Ok.ensures in
-    let out : outcome c.stream-committer.result.0.last c.stream-committer.result.2 ≡ Ok c.in-Ok-outcome.squashed = sym c.outcome.ensures ∙ c.in-Ok-outcome.is in
+    let out : taking_outcome c.stream-committer.result.0.last c.stream-committer.result.2 ≡ Ok c.in-Ok-outcome.squashed = sym c.outcome.ensures ∙ c.in-Ok-outcome.is in
     met_ok ℕ _ _ _ _ _ _ (ok_of c.draw.result _ went c.draw.ensures.none) c.stream-committer.result.0.last c.stream-committer.result.2 c.in-Ok-outcome.squashed out (leaves.others 0)
 
 pub returns-in-Ok-outcome-clause-disk_count : goal.returns-in-Ok-outcome-clause-disk_count
@@ -124,7 +124,7 @@ returns-in-Err-outcome-clause-stopped g c = λ a is so_far.
     let came = round_came g.Q.Racer.tells hold last_of steps takes c.a_round_commits_what_joins_on.ensures.starts a (g.I.Inlet.input c.args.inlet.now) (g.I.Inlet.input c.draw.new.inlet) c.args.recording.racer c.stream-committer.result.1 c.args.recording.state c.args.supply.now c.draw.new.supply c.args.recording.squashes c.plan_of-plan.result c.stream-committer.result.2 _ c.stream-committer.result.0 c.stream-committer.ensures refl c.in-Ok.ensures
     so_far (ok_of c.draw.result _ went c.draw.ensures.drew) (ok_of c.draw.result _ went c.draw.ensures.is_supply) c.requires.going left
     (subst (λ (o : Options). c.plan_of-plan.result ≡ plan_of o c.args.recording.tally.first c.args.recording.state) (sym is) c.plan_of-plan.ensures) (ap (λ (o : Options). o.mark) is) in
-    let out : outcome c.stream-committer.result.0.last c.stream-committer.result.2 ≡ Err c.in-Err-outcome.fault = sym c.outcome.ensures ∙ c.in-Err-outcome.is in
+    let out : taking_outcome c.stream-committer.result.0.last c.stream-committer.result.2 ≡ Err c.in-Err-outcome.fault = sym c.outcome.ensures ∙ c.in-Err-outcome.is in
     subst (λ (r : Result ℕ RecordFault). Came hold last_of a (g.I.Inlet.input c.draw.new.inlet) (g.Q.Racer.tells c.stream-committer.result.1) c.draw.new.supply c.args.recording.state c.args.recording.squashes [] [] [] c.stream-committer.result.0 c.stream-committer.result.0 r) out came
 
 pub returns-in-Err-outcome-clause-others : goal.returns-in-Err-outcome-clause-others
@@ -135,7 +135,7 @@ returns-in-Err-outcome-clause-others g c =
     let steps : StepLaws = record { ready = c.a_supply_lets_a_guest_step.ensures.ready; used_up = c.a_supply_lets_a_guest_step.ensures.used_up; refilled_ = c.a_supply_lets_a_guest_step.ensures.refilled; stamped = c.a_supply_lets_a_guest_step.ensures.stamped } in
     let went : is_err c.draw.result ≡ false = sym c.is_err.ensures.value ∙ c.if-is_err.false in
     let leaves = round_leaves g.Q.Racer.tells hold last_of steps takes c.a_round_commits_what_joins_on.ensures.starts c.requires.so_far.0 (g.I.Inlet.input c.args.inlet.now) (g.I.Inlet.input c.draw.new.inlet) c.args.recording.racer c.stream-committer.result.1 c.args.recording.state c.args.supply.now c.draw.new.supply c.args.recording.squashes c.plan_of-plan.result c.stream-committer.result.2 _ c.stream-committer.result.0 c.stream-committer.ensures refl c.in-Ok.ensures in
-    let out : outcome c.stream-committer.result.0.last c.stream-committer.result.2 ≡ Err c.in-Err-outcome.fault = sym c.outcome.ensures ∙ c.in-Err-outcome.is in
+    let out : taking_outcome c.stream-committer.result.0.last c.stream-committer.result.2 ≡ Err c.in-Err-outcome.fault = sym c.outcome.ensures ∙ c.in-Err-outcome.is in
     met_err (Recording g.row.Q.Denot) _ _ _ _ _ _ (ok_of c.draw.result _ went c.draw.ensures.none) c.stream-committer.result.0.last c.stream-committer.result.2 c.in-Err-outcome.fault out (leaves.others 0)
 
 pub returns-in-Err-outcome-clause-input_cause : goal.returns-in-Err-outcome-clause-input_cause
@@ -145,7 +145,7 @@ returns-in-Err-outcome-clause-input_cause g c = λ bad.
     let takes = take_laws c.an_answer_is_of_the_input.ensures.refill c.the_windows_are_the_input.ensures.left c.the_windows_are_the_input.ensures.end in
     let steps : StepLaws = record { ready = c.a_supply_lets_a_guest_step.ensures.ready; used_up = c.a_supply_lets_a_guest_step.ensures.used_up; refilled_ = c.a_supply_lets_a_guest_step.ensures.refilled; stamped = c.a_supply_lets_a_guest_step.ensures.stamped } in
     let leaves = round_leaves g.Q.Racer.tells hold last_of steps takes c.a_round_commits_what_joins_on.ensures.starts c.requires.so_far.0 (g.I.Inlet.input c.args.inlet.now) (g.I.Inlet.input c.draw.new.inlet) c.args.recording.racer c.stream-committer.result.1 c.args.recording.state c.args.supply.now c.draw.new.supply c.args.recording.squashes c.plan_of-plan.result c.stream-committer.result.2 _ c.stream-committer.result.0 c.stream-committer.ensures refl c.in-Ok.ensures in
-    let out : outcome c.stream-committer.result.0.last c.stream-committer.result.2 ≡ Err c.in-Err-outcome.fault = sym c.outcome.ensures ∙ c.in-Err-outcome.is in
+    let out : taking_outcome c.stream-committer.result.0.last c.stream-committer.result.2 ≡ Err c.in-Err-outcome.fault = sym c.outcome.ensures ∙ c.in-Err-outcome.is in
     let fault : c.in-Err-outcome.fault ≡ faults.InputFault = same_fault c.in-Err-outcome.fault faults.InputFault bad in
     absurd (by_input (fault_of_last c.stream-committer.result.0.last c.stream-committer.result.2 c.in-Err-outcome.fault out) fault leaves.no_input)
 
@@ -156,7 +156,7 @@ returns-in-Err-outcome-clause-disk_cause g c = λ bad.
     let takes = take_laws c.an_answer_is_of_the_input.ensures.refill c.the_windows_are_the_input.ensures.left c.the_windows_are_the_input.ensures.end in
     let steps : StepLaws = record { ready = c.a_supply_lets_a_guest_step.ensures.ready; used_up = c.a_supply_lets_a_guest_step.ensures.used_up; refilled_ = c.a_supply_lets_a_guest_step.ensures.refilled; stamped = c.a_supply_lets_a_guest_step.ensures.stamped } in
     let leaves = round_leaves g.Q.Racer.tells hold last_of steps takes c.a_round_commits_what_joins_on.ensures.starts c.requires.so_far.0 (g.I.Inlet.input c.args.inlet.now) (g.I.Inlet.input c.draw.new.inlet) c.args.recording.racer c.stream-committer.result.1 c.args.recording.state c.args.supply.now c.draw.new.supply c.args.recording.squashes c.plan_of-plan.result c.stream-committer.result.2 _ c.stream-committer.result.0 c.stream-committer.ensures refl c.in-Ok.ensures in
-    let out : outcome c.stream-committer.result.0.last c.stream-committer.result.2 ≡ Err c.in-Err-outcome.fault = sym c.outcome.ensures ∙ c.in-Err-outcome.is in
+    let out : taking_outcome c.stream-committer.result.0.last c.stream-committer.result.2 ≡ Err c.in-Err-outcome.fault = sym c.outcome.ensures ∙ c.in-Err-outcome.is in
     let fault : c.in-Err-outcome.fault ≡ faults.DiskFault = same_fault c.in-Err-outcome.fault faults.DiskFault bad in
     by_disk (fault_of_last c.stream-committer.result.0.last c.stream-committer.result.2 c.in-Err-outcome.fault out) fault leaves.disk_cause
 
@@ -167,7 +167,7 @@ returns-in-Err-outcome-clause-sink_cause g c = λ bad.
     let takes = take_laws c.an_answer_is_of_the_input.ensures.refill c.the_windows_are_the_input.ensures.left c.the_windows_are_the_input.ensures.end in
     let steps : StepLaws = record { ready = c.a_supply_lets_a_guest_step.ensures.ready; used_up = c.a_supply_lets_a_guest_step.ensures.used_up; refilled_ = c.a_supply_lets_a_guest_step.ensures.refilled; stamped = c.a_supply_lets_a_guest_step.ensures.stamped } in
     let leaves = round_leaves g.Q.Racer.tells hold last_of steps takes c.a_round_commits_what_joins_on.ensures.starts c.requires.so_far.0 (g.I.Inlet.input c.args.inlet.now) (g.I.Inlet.input c.draw.new.inlet) c.args.recording.racer c.stream-committer.result.1 c.args.recording.state c.args.supply.now c.draw.new.supply c.args.recording.squashes c.plan_of-plan.result c.stream-committer.result.2 _ c.stream-committer.result.0 c.stream-committer.ensures refl c.in-Ok.ensures in
-    let out : outcome c.stream-committer.result.0.last c.stream-committer.result.2 ≡ Err c.in-Err-outcome.fault = sym c.outcome.ensures ∙ c.in-Err-outcome.is in
+    let out : taking_outcome c.stream-committer.result.0.last c.stream-committer.result.2 ≡ Err c.in-Err-outcome.fault = sym c.outcome.ensures ∙ c.in-Err-outcome.is in
     let fault : c.in-Err-outcome.fault ≡ faults.OutputFault = same_fault c.in-Err-outcome.fault faults.OutputFault bad in
     by_sink (fault_of_last c.stream-committer.result.0.last c.stream-committer.result.2 c.in-Err-outcome.fault out) fault leaves.sink_cause
 

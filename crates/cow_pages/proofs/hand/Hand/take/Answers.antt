@@ -1,6 +1,6 @@
 use Rattle.std.proofs.Common.{◌∙◌, ap, arith}
 use Rattle.std.specs.Prelude.{slice_set}
-use Rattle.cow_pages.specs.Table.{entry_of, found, held}
+use Rattle.cow_pages.specs.Table.{hand_entry, found, held}
 use Rattle.cow_pages.specs.Tree.{Nodes, Slots}
 use Rattle.cow_pages.proofs.Hands.{taken_held, taken_numbered, taken_same, taken_unheld}
 use Rattle.cow_pages.proofs.hand.Hand.take.Goals as goal
@@ -13,7 +13,7 @@ returns-clause-same c =
     let page = c.in_ok-page.page in
     let numbered = taken_numbered hand c.args.root.now mid number page c.put_back.ensures.same c.requires c.in_ok-put_back.ensures.back c.in_ok-page.ensures.page in
     λ n. ap (λ (h : Slots). found h c.take.new.self n) c.set.ensures.entry
-    ∙ ap (λ (m : Nodes). found (slice_set hand (entry_of number) page) m n) c.in_ok-page.ensures.ok
+    ∙ ap (λ (m : Nodes). found (slice_set hand (hand_entry number) page) m n) c.in_ok-page.ensures.ok
     ∙ taken_same hand mid number page (omega (arith, c.set.ensures.count)) c.in_ok-page.ensures.page numbered c.in_ok-put_back.ensures.back n
     ∙ c.put_back.ensures.same n
 

@@ -1,5 +1,5 @@
 use Rattle.std.proofs.Common.{◌≡◌, ◌∙◌, ℕ, List, length, refl, ap, subst, sym, arith, rules}
-use Rattle.disk_mem.specs.Counted.{counted}
+use Rattle.disk_mem.specs.Counted.{counted_up}
 use Rattle.disk_model.specs.Input.{IsNoted}
 use Rattle.disk_mem.specs.MemoryInput.{MemoryInput, first_readings, noted, reading_at}
 use Rattle.disk_mem.proofs.Readings.{did-read, is-noted, length-readings, noted-next}
@@ -20,7 +20,7 @@ returns-clause-after c =
     let clocks = c.self.inside.clocks.items in
     let reads = c.self.inside.reads in
     let here : reading ≡ reading_at clocks reads = c.reading_with_number-reading.ensures ∙ ap (λ (l : List ℕ). reading_at l reads) c.deref.ensures.value in
-    let more : c.saturating_add-self-inside.result ≡ counted reads = search rules in
+    let more : c.saturating_add-self-inside.result ≡ counted_up reads = search rules in
     did-read _ _ _ reading c.self.view_is (noted-next clocks reads _ reading (omega arith) more here)
 
 pub returns-clause-reading : goal.returns-clause-reading

@@ -1,7 +1,7 @@
 use Rattle.std.proofs.Common.{◌∙◌, ap, sym}
 use Rattle.std.specs.Prelude.{slice_get}
 use Rattle.cow_pages.proofs.Tables.{place_none, place_some}
-use Rattle.cow_pages.proofs.pages.Pages.frame_at.Goals as goal
+use Rattle.cow_pages.proofs.pages.Pages.page_at_place.Goals as goal
 use Rattle.dp_base.specs.Memory.{Memory, page_at}
 
 pub returns-in-Some-clause-page : goal.returns-in-Some-clause-page

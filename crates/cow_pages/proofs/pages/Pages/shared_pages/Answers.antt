@@ -1,6 +1,6 @@
 use Rattle.std.proofs.Common.{Some, [], ◌∷◌, ◌++◌, ◌∙◌, ap, sym}
 use Rattle.cow_pages.proofs.Places.{take_next}
-use Rattle.cow_pages.proofs.pages.Pages.frames.Goals as goal
+use Rattle.cow_pages.proofs.pages.Pages.shared_pages.Goals as goal
 use Rattle.dp_base.specs.Memory.{Memory}
 
 pub pages-preserved : goal.pages-preserved
