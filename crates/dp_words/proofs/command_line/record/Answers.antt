@@ -1,6 +1,6 @@
 use Rattle.std.proofs.Common.{◌∙◌, codes}
 use Rattle.std.proofs.lemmas.Result.{IfOk-weaker}
-use Rattle.dp_base.specs.declared.limits.TheConstants.{}
+use Rattle.dp_base.specs.declared.limits.TheConstants.{MAX_EPOCH_STEPS, MAX_JOBS, MAX_SLICE_STEPS, MAX_WORKERS}
 use Rattle.clap.specs.Words.{App, new_app, with_rule}
 use Rattle.dp_words.specs.CommandLine.{number, text}
 use Rattle.dp_words.proofs.LineLemmas.{longer}
@@ -10,10 +10,10 @@ abbrev texts : App
 texts = with_rule (with_rule (new_app (codes "record")) (text (codes "guest"))) (text (codes "journal"))
 
 abbrev to_epoch : App
-to_epoch = with_rule (with_rule texts (number (codes "workers") 1 64 (codes "4"))) (number (codes "epoch") 1 1000000 (codes "20000"))
+to_epoch = with_rule (with_rule texts (number (codes "workers") 1 MAX_WORKERS (codes "4"))) (number (codes "epoch") 1 MAX_EPOCH_STEPS (codes "20000"))
 
 abbrev to_ahead : App
-to_ahead = with_rule (with_rule to_epoch (number (codes "slice") 1 100000 (codes "1000"))) (number (codes "ahead") 1 64 (codes "16"))
+to_ahead = with_rule (with_rule to_epoch (number (codes "slice") 1 MAX_SLICE_STEPS (codes "1000"))) (number (codes "ahead") 1 MAX_JOBS (codes "16"))
 
 pub returns : goal.returns
 returns c =
