@@ -9,7 +9,7 @@ use Rattle.disk_model.specs.declared.world.Stream.TheVariants.{Out}
 use Rattle.disk_model.specs.History.{History}
 use Rattle.disk_model.specs.Input.{Input}
 use Rattle.disk_model.specs.Known.{IfKnown}
-use Rattle.dp_base.specs.declared.limits.TheConstants.{MAX_JOURNAL_BYTES}
+use Rattle.dp_base.specs.declared.limits.TheConstants.{MAX_EPOCH_STEPS, MAX_JOBS, MAX_JOURNAL_BYTES, MAX_MARK_EPOCHS, MAX_RECORDING_STEPS, MAX_SLICE_STEPS, MAX_WORKERS}
 use Rattle.dp_report.specs.declared.report.Report.{Report}
 use Rattle.dp_report.specs.declared.status.Status.{Status}
 use Rattle.dp_report.specs.declared.status.Status.TheVariants as statuses
@@ -40,12 +40,12 @@ default_options = record {
   mark = 16;
   limit = 1000000000;
   room = MAX_JOURNAL_BYTES;
-  workers_range = (ltb-true 0 4 refl, leb-true 4 64 refl);
-  epoch_range = (ltb-true 0 20000 refl, leb-true 20000 1000000 refl);
-  slice_range = (ltb-true 0 1000 refl, leb-true 1000 100000 refl);
-  ahead_range = (ltb-true 0 16 refl, leb-true 16 64 refl);
-  mark_range = leb-true 16 1000 refl;
-  limit_range = (ltb-true 0 1000000000 refl, leb-true 1000000000 1000000000000 refl);
+  workers_range = (ltb-true 0 4 refl, leb-true 4 MAX_WORKERS refl);
+  epoch_range = (ltb-true 0 20000 refl, leb-true 20000 MAX_EPOCH_STEPS refl);
+  slice_range = (ltb-true 0 1000 refl, leb-true 1000 MAX_SLICE_STEPS refl);
+  ahead_range = (ltb-true 0 16 refl, leb-true 16 MAX_JOBS refl);
+  mark_range = leb-true 16 MAX_MARK_EPOCHS refl;
+  limit_range = (ltb-true 0 1000000000 refl, leb-true 1000000000 MAX_RECORDING_STEPS refl);
   room_range = leb-true MAX_JOURNAL_BYTES MAX_JOURNAL_BYTES refl;
 }
 

@@ -1,6 +1,6 @@
 -- What a round is given, and what it leaves. This project's own.
 use Rattle.std.specs.Prelude.{◌≡◌, ◌⊎◌, ◌+◌, ℕ, suc, ◌≤◌, ◌<◌, false, List, [], Option, Some, length, slice_get, None, vec_capacity, Result, Ok, Err}
-use Rattle.dp_base.specs.declared.limits.TheConstants.{MAX_JOBS}
+use Rattle.dp_base.specs.declared.limits.TheConstants.{MAX_JOBS, MAX_WORKERS}
 use Rattle.dp_base.specs.declared.out_of_memory.OutOfMemory.{OutOfMemory}
 use Rattle.job_board.specs.declared.board.Board.{Board}
 use Rattle.job_board.specs.Passes.{IsCollectorOf, IsPublisherOf, collected, published}
@@ -35,7 +35,7 @@ pub record AreRoundParts (b : Board Job Deposit) (s : StopWord) (r : RoundParts)
   pub nothing : collected r.tray.collector ≡ []
   pub uncounted : r.tray.count ≡ None
   pub passes : ArePasses b s 1 r.passes.items
-  pub few : length r.passes.items ≤ 64
+  pub few : length r.passes.items ≤ MAX_WORKERS
   pub all : length r.passes.items ≡ b.workers
   pub started : r.started.items ≡ []
   pub started_room : length r.passes.items ≤ vec_capacity r.started

@@ -1,6 +1,6 @@
 // What a round's threads need, made before any of them starts.
 ghost use Rattle.std.specs.Prelude.{◌≡◌, ◌≤◌, ◌<◌, [], IfOk, None, length, vec_capacity};
-ghost use Rattle.dp_base.specs.declared.limits.TheConstants.{MAX_JOBS};
+ghost use Rattle.dp_base.specs.declared.limits.TheConstants.{MAX_JOBS, MAX_WORKERS};
 ghost use Rattle.job_board.specs.Passes.{AreIdle, AreWorkersOf};
 ghost use Rattle.stop_word.specs.Seats.{IsStopperOf, IsWatcherOf, has_stopped};
 ghost use Rattle.epoch_stream.specs.Rounds.{ArePasses};
@@ -86,7 +86,7 @@ pub(crate) fn set_up(
     first: &State,
 ) -> Result<SetUp, OutOfMemory>
     requires some { 0 < workers }
-    requires few { workers ≤ 64 }
+    requires few { workers ≤ MAX_WORKERS }
     requires few_jobs { jobs ≤ MAX_JOBS }
     ensures { IfOk result (λ s. IsSetUp first.now jobs s) }
 {

@@ -1,5 +1,6 @@
 // How a round's workers are started and joined.
 ghost use Rattle.std.specs.Prelude.{◌≡◌, ◌≤◌, [], length, vec_capacity};
+ghost use Rattle.dp_base.specs.declared.limits.TheConstants.{MAX_WORKERS};
 ghost use Rattle.epoch_stream.specs.Rounds.{AreDone, ArePasses, AreStarted, IsPass, IsReturned, IsStarted};
 
 use super::{Started, WorkerPromise};
@@ -74,7 +75,7 @@ pub(crate) fn start_all<'s, E, R: Threads + Wait + Sync, G: Gate + Sync>(
     mut passes: Vec<Pass>,
     mut started: Vec<Started>,
 ) -> Vec<Started>
-    requires passes { ArePasses board.now stop.now 1 passes.items × (length passes.items ≤ 64) }
+    requires passes { ArePasses board.now stop.now 1 passes.items × (length passes.items ≤ MAX_WORKERS) }
     requires started { (started.items ≡ []) × (length passes.items ≤ vec_capacity started) }
     ensures { AreStarted board.now supply.now 1 result.items × (length result.items ≡ length passes.items) }
 {
@@ -130,7 +131,7 @@ pub(crate) fn join_all<R: Threads>(
     mut started: Vec<Started>,
     mut workers: Vec<Worker<Job, Deposit>>,
 ) -> Vec<Worker<Job, Deposit>>
-    requires started { AreStarted board.now supply.now 1 started.items × (length started.items ≤ 64) }
+    requires started { AreStarted board.now supply.now 1 started.items × (length started.items ≤ MAX_WORKERS) }
     requires workers { (workers.items ≡ []) × (length started.items ≤ vec_capacity workers) }
     ensures { AreDone board.now supply.now 1 result.items × (length result.items ≡ length started.items) }
 {
