@@ -7,20 +7,20 @@ use Rattle.job_board.specs.declared.answer.Claim.{Claim}
 use Rattle.job_board.specs.declared.answer.Collected.{Collected}
 use Rattle.job_board.specs.declared.answer.Claim.TheVariants as claims
 use Rattle.job_board.specs.declared.answer.Collected.TheVariants as collects
-use Rattle.job_board.specs.Queue.{part, items_of, IsPartOf}
+use Rattle.job_board.specs.Queue.{part, items_of}
 use Rattle.job_board.specs.Passes.{claimed, deposited, collected, counts, stops}
 
 module _ {J R : Type 0} where
   abbrev pub Claims : Worker J R → Claim J → Worker J R → Type 0
   Claims old (claims.Job index job) new = (claimed new ≡ claimed old ++ (index, job) ∷ []) × (deposited new ≡ deposited old) × (new.held ≡ Some index) × (stops new ≡ stops old)
   Claims old claims.Stop new = (claimed new ≡ claimed old) × (deposited new ≡ deposited old) × (new.held ≡ None) × (stops new ≡ stops old + 1)
-  Claims old claims.Empty new = (view new.jobs ≡ view old.jobs) × (view new.results ≡ view old.results) × (new.held ≡ None) × IsPartOf (view old.jobs) []
+  Claims old claims.Empty new = (view new.jobs ≡ view old.jobs) × (view new.results ≡ view old.results) × (new.held ≡ None)
 
 module _ {R : Type 0} where
   abbrev pub Collects : Collector R → Collected R → Collector R → Type 0
   Collects old (collects.Result index result) new = (collected new ≡ collected old ++ (index, result) ∷ []) × (counts new ≡ counts old)
   Collects old (collects.Count n) new = (collected new ≡ collected old) × (counts new ≡ counts old ++ n ∷ [])
-  Collects old collects.Empty new = (view new.results ≡ view old.results) × IsPartOf (view old.results) []
+  Collects old collects.Empty new = (view new.results ≡ view old.results)
 
 module _ {A : Type 0} where
   -- the list is an interleaving of the parts: each item is one of the next part's, of which worker k has the one at k -

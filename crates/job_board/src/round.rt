@@ -26,8 +26,8 @@ impl<J: Drop, R: Drop> Board<J, R> {
         }
     }
 
-    /// Claims the next job. Returns `Stop` if there are no more, and `Empty` only if at a moment of the call the board
-    /// had neither.
+    /// Claims the next job. Returns `Stop` if there are no more, and `Empty` if the board has neither now. No clause
+    /// says that it doesn't answer `Empty` at other times.
     pub fn claim(&self, rt: &impl Wait, worker: &mut Worker<J, R>) -> Claim<J>
         requires pass { IsWorkerOf self.now (number worker.old) worker.old }
         requires free { worker.old.held ≡ None }
@@ -68,8 +68,8 @@ impl<J: Drop, R: Drop> Board<J, R> {
         }
     }
 
-    /// Collects the next result, or the count of jobs. Returns `Empty` only if at a moment of the call the board had
-    /// neither.
+    /// Collects the next result, or the count of jobs. Returns `Empty` if the board has neither now. No clause says that
+    /// it doesn't answer `Empty` at other times.
     pub fn collect(&self, rt: &impl Wait, collector: &mut Collector<R>) -> Collected<R>
         requires pass { IsCollectorOf self.now collector.old }
         ensures pass { IsCollectorOf self.now collector.new }
