@@ -21,10 +21,10 @@ use Rattle.disk_model.specs.Input.{Input}
 use Rattle.dp_base.specs.declared.limits.TheConstants.{MAX_JOURNAL_BYTES}
 use Rattle.epoch_journal.specs.Standing.{Stands}
 use Rattle.journal_text.specs.Reading.{journal_of}
-use Rattle.recorder.specs.Machine.{MachineCall, MachineEvent, HeldRecord, RoundEvent, IsAtRest, IsMachineResult, IsTakeable, Judges, Machine, Reaches, Step, after_machine_call, crash, fails, first_machine, frame_sync, frame_write, gate_sync, gate_write, holds, in_round, judged_runs, makes, marks, nothing, record_of_run, round, runs_in_hand, send_fails, sends}
+use Rattle.recorder.specs.Machine.{MachineCall, MachineEvent, HeldRecord, RoundEvent, IsAtRest, IsMachineResult, IsTakeable, Judges, Machine, Reaches, Step, after_machine_call, crash, fails, first_machine, frame_sync, frame_write, gate_sync, gate_write, holds, in_round, judged_runs, makes, marks, nothing, record_of_run, round, runs_in_hand, send_fails, sends, base_with}
 use Rattle.recorder.specs.Marking.{mark_of}
-use Rattle.recorder.specs.MachineKept.{IsKept, IsMachineRound, StandFor, WasTaken}
-use Rattle.recorder.proofs.MachineRuns.{Follows, IsRunHere, Linked, linked-append, linked-chain, linked-links, mark_follows, run_follows}
+use Rattle.recorder.specs.MachineKept.{IsKept, IsMachineRound, StandFor, WasTaken, with_held}
+use Rattle.recorder.proofs.MachineRuns.{Follows, IsRunHere, Linked, linked-append, linked-chain, linked-links, mark_follows, run_follows, stand-append}
 use Rattle.recorder.proofs.MachineOutside.{ByHand, Holds, crashed, images_of, round_only, send_failed, sent, starts, taken_up, write_failed, wrote}
 use Rattle.recorder.proofs.MachineRound.{RoundInv, committed_round, fresh_round, gone_on, judged_last, judged_open, judged_shut, next_known, offered_round, shut_round, taken_last, taken_round, taken_runs}
 use Rattle.recorder.proofs.JobStages.{stage_within}
@@ -146,6 +146,14 @@ module _ (guest : List ℕ) (start : State) (before : History) (is-guest : IsGue
   stands_for records written base s nothing is = (s, is.1)
   stands_for records written base s (holds r rs call) is = (is.0, is.1.1)
 
+  held_stands : (records : List Record) (written : List EpochRun) (base s : State) (hand : HeldRecord) → ByHand guest start before is-guest records written base s hand
+      → (base_after : State) × StandFor start start (with_held records hand) (written ++ runs_in_hand hand) base_after s
+  held_stands records written base s nothing is = (base, subst (λ (l : List EpochRun). StandFor start start records l base s) (sym (append-nil written)) is.1)
+  held_stands records written base s (holds r rs call) is = (
+    base_with r base s,
+    stand-append start start base is.0 (base_with r base s) s records (r ∷ []) written rs is.1.1 is.2.stands,
+  )
+
   offered : (m : Machine) → RoundInv supplied m.supply m.began m.round_runs m.core m.results → (i : ℕ) (a : Ran) → WasTaken m.results i a → i ≤ length m.core.jobs
   offered m inv i a is = elim (inv.kept i a is) [
     | inl t ↦ stage_within m.core.jobs i (Taken a) t
@@ -187,6 +195,7 @@ module _ (guest : List ℕ) (start : State) (before : History) (is-guest : IsGue
       record {
         linked = linked-links start m.core.committed (judged_runs m) (ended m.records m.written m.base m.core.committed m.hand out.by_hand);
         chained = linked-chain start m.core.committed (judged_runs m) (ended m.records m.written m.base m.core.committed m.hand out.by_hand);
+        held = held_stands m.records m.written m.base m.core.committed m.hand out.by_hand;
         journal = stands_for m.records m.written m.base m.core.committed m.hand out.by_hand;
         are_records = out.are;
         images = λ image said may. (images_of guest start before is-guest m m.hand m.stopped out image may.on_disk, may.got ∙ got-nothing m.world.sent may.taken ∙ out.sent);

@@ -48,6 +48,11 @@ abbrev pub in_question : HeldRecord → (stopped : Bool) → Option Record
 in_question hand true = record_in_hand hand
 in_question hand false = record_opened hand
 
+-- these records, and the one in hand after them
+abbrev pub with_held : List Record → HeldRecord → List Record
+with_held records nothing = records
+with_held records (holds r rs call) = records ++ r ∷ []
+
 -- an image reads as the journal of these records, or as the one with this record more
 abbrev pub ReadsWith : (guest : List ℕ) → List Record → Option Record → (image : List ℕ) → Type 0
 ReadsWith guest records None image = Reads guest records image
@@ -85,7 +90,9 @@ pub record IsKept (guest : List ℕ) (start : State) (before : History) (m : Mac
   -- the committed epochs are one run of the guest, each from where the one before ended, to the committed state
   pub linked : AreLinked start (judged_runs m) m.core.committed
   pub chained : chain start (epochs_of_runs (judged_runs m)) ≡ Ok (m.core.committed, output_of_runs (judged_runs m))
-  -- the acknowledged records are those of all of them, but the one in hand, with right marks between
+  -- the acknowledged records and the one in hand are those of all of them, with right marks between
+  pub held : (base_after : State) × StandFor start start (with_held m.records m.hand) (judged_runs m) base_after m.core.committed
+  -- the acknowledged records alone are those of the epochs that are written, with right marks between
   pub journal : (there : State) × StandFor start start m.records m.written m.base there
   pub are_records : AllByRecursion IsRecord m.records
   -- what a crash may leave now, and what one has left
