@@ -16,10 +16,10 @@
 #![tactic(auto)]
 
 mod amo;
+mod disordered_words;
 mod ordering;
 mod search;
-mod turns;
-mod words;
+mod turn_check;
 
 pub use amo::{Amo, PLACES, Placed};
 pub use ordering::order_amos;

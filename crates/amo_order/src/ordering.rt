@@ -9,9 +9,9 @@ ghost use Rattle.amo_order.specs.Places.{IsBetween, IsDisordered, IsInTurn, Keep
 ghost use Rattle.amo_order.specs.Replacing.{IsStep, Replaces};
 
 use crate::amo::{Amo, Placed};
+use crate::disordered_words::disordered_words;
 use crate::search::places_of;
-use crate::turns::{is_disordered, is_in_turn};
-use crate::words::disordered_words;
+use crate::turn_check::{is_disordered, is_in_turn};
 use dp_base::OutOfMemory;
 use std::alloc::Global;
 

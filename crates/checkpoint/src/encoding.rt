@@ -3,8 +3,8 @@ ghost use Rattle.std.specs.Prelude.{◌≡◌, ◌++◌, true, IfOk};
 ghost use Rattle.checkpoint.specs.Sink.{Adds};
 ghost use Rattle.checkpoint.specs.State.{IsEncodable, state_bytes};
 
+use crate::encoding_parts::write_state;
 use crate::sink::Sink;
-use crate::writer::write_state;
 use dp_base::OutOfMemory;
 use dp_base::field::write_bytes;
 use guest_kernel::State;

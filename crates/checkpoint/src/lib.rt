@@ -22,12 +22,12 @@
 mod base_page;
 mod decoding;
 mod encoding;
+mod encoding_parts;
 pub mod laws;
 mod partial_decoding;
 mod partial_encoding;
 mod sink;
 mod state_digest;
-mod writer;
 
 pub use decoding::decode;
 pub use encoding::encode;

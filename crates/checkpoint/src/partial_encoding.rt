@@ -11,8 +11,8 @@ ghost use Rattle.checkpoint.specs.State.{IsEncodable, checkpoint_of};
 
 use crate::base_page::look_up;
 use crate::encoding::Buffer;
+use crate::encoding_parts::{write_counted_threads, write_end, write_numbers, write_word};
 use crate::sink::Sink;
-use crate::writer::{write_counted_threads, write_end, write_numbers, write_word};
 use byte_lanes::equal_bytes;
 use dp_base::{OutOfMemory, PageView};
 use guest_kernel::State;

@@ -3,8 +3,8 @@ ghost use Rattle.std.specs.Prelude.{◌≡◌, false};
 ghost use Rattle.sha2.specs.Hashers.{Holds256};
 ghost use Rattle.checkpoint.specs.State.{IsEncodable, digest_of};
 
+use crate::encoding_parts::write_state;
 use crate::sink::Sink;
-use crate::writer::write_state;
 use dp_base::OutOfMemory;
 use guest_kernel::State;
 use sha2::{Digest, Sha256};

@@ -9,7 +9,7 @@ ghost use Rattle.cow_pages.specs.InPage.{is_writable, with_bytes, written};
 ghost use Rattle.cow_pages.specs.Table.{IsAside, changed_if, hand_entry, found, found_changed, held, held_changed, if_numbered};
 ghost use Rattle.cow_pages.specs.Tree.{entry_at, leaf, leaf_put, leaf_without};
 
-use crate::entries::grow;
+use crate::level_entries::grow;
 use crate::node::shared;
 use crate::root::Root;
 use crate::shared_page::SharedPage;
@@ -40,7 +40,7 @@ impl Model for Hand {
 
 // The entry of a page, by its number. The high bits are mixed in, so that a heap and a stack have entries of their own.
 #[inline(always)]
-fn entry_of(number: u32) -> usize
+fn hand_entry(number: u32) -> usize
     ensures entry { result ≡ hand_entry number }
     ensures inside { result < ENTRIES }
 {
@@ -120,7 +120,7 @@ impl Hand {
     pub fn at(&self, number: u32) -> Option<&SharedPage>
         ensures { option_copied result ≡ held self.now number }
     {
-        match &self.entries[entry_of(number)] {
+        match &self.entries[hand_entry(number)] {
             Some(page) if page.number() == number => Some(page),
             _ => None,
         }
@@ -138,7 +138,7 @@ impl Hand {
         ensures page { option_copied result ≡ entry_at self.now (hand_entry number) }
         ensures own { IfSome result (λ p. hand_entry p.now.number ≡ hand_entry number) }
     {
-        self.entries[entry_of(number)].as_ref()
+        self.entries[hand_entry(number)].as_ref()
     }
 
     // Gives the entry of a number to its page, or to none.
@@ -147,7 +147,7 @@ impl Hand {
         ensures entry { self.new ≡ slice_set self.old (hand_entry number) page }
         ensures count { length self.old ≡ ENTRIES }
     {
-        self.entries[entry_of(number)] = page;
+        self.entries[hand_entry(number)] = page;
     }
 
     // Writes the low bytes of a value to the page with a number, if it is in hand and may be written. Returns whether
@@ -166,7 +166,7 @@ impl Hand {
         ensures ok { OnOk result (self.new ≡ held_changed number (written offset (little_bytes (width_bytes width) value)) self.old) }
         ensures err { OnErr result (self.new ≡ self.old) }
     {
-        let entry = &mut self.entries[entry_of(number)];
+        let entry = &mut self.entries[hand_entry(number)];
         write_entry(entry, alloc, number, offset, width, value)
     }
 
@@ -181,7 +181,7 @@ impl Hand {
         ensures ok { OnOk result (self.new ≡ held_changed number (with_bytes offset part.now) self.old) }
         ensures err { OnErr result (self.new ≡ self.old) }
     {
-        let entry = &mut self.entries[entry_of(number)];
+        let entry = &mut self.entries[hand_entry(number)];
         put_part_entry(entry, alloc, number, offset, part)
     }
 

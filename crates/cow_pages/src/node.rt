@@ -3,7 +3,7 @@ ghost use Rattle.std.specs.Prelude.{◌≡◌, ◌<◌, [], IfOk, OnErr, OnOk};
 ghost use Rattle.std.specs.Option.{option_copied};
 ghost use Rattle.cow_pages.specs.Tree.{entry_at, entry_put, slots_without};
 
-use crate::entries::grow;
+use crate::level_entries::grow;
 use crate::shared_page::SharedPage;
 use dp_base::OutOfMemory;
 use std::alloc::Global;

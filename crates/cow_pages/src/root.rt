@@ -4,7 +4,7 @@ ghost use Rattle.std.specs.Prelude.{◌≡◌, ◌<◌, ◌^◌, [], IfOk, OnErr
 ghost use Rattle.std.specs.Option.{option_copied, option_map};
 ghost use Rattle.cow_pages.specs.Tree.{entry_put, leaf, leaf_of, leaf_put, leaf_without, slots_of, slots_without};
 
-use crate::entries::grow;
+use crate::level_entries::grow;
 use crate::node::Node;
 use crate::shared_page::SharedPage;
 use dp_base::OutOfMemory;

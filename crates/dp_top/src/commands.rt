@@ -208,7 +208,7 @@ fn do_command<
                 limit,
                 room: MAX_JOURNAL_BYTES,
             };
-            record_named(
+            do_record(
                 rt,
                 alloc,
                 files,
@@ -232,7 +232,7 @@ fn do_command<
 }
 
 // Records the guest whose file has this name.
-fn record_named<
+fn do_record<
     R: Threads + Wait + Sync,
     F: Files,
     I: Inlet,

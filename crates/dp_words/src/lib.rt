@@ -18,7 +18,7 @@
 
 mod command;
 mod command_line;
-mod command_values;
+mod found_values;
 mod parsing;
 mod text;
 

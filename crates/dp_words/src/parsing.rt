@@ -8,7 +8,7 @@ ghost use Rattle.dp_words.specs.declared.parsing.WordsFault.TheVariants as fault
 
 use crate::command::Command;
 use crate::command_line::command_line;
-use crate::command_values;
+use crate::found_values;
 use clap::ArgMatches;
 use clap::error::ErrorKind;
 use std::alloc::{AllocError, Global};
@@ -55,10 +55,10 @@ fn found(alloc: Global, matches: &ArgMatches<'_>) -> Result<Command, AllocError>
     ensures ranges { IfOk result IsInRange }
 {
     match matches.subcommand().unwrap() {
-        ("record", matches) => command_values::record(alloc, matches),
-        ("replay", matches) => command_values::replay(alloc, matches),
-        ("inspect", matches) => command_values::inspect(alloc, matches),
-        ("selftest", matches) => Ok(command_values::selftest(matches)),
+        ("record", matches) => found_values::record(alloc, matches),
+        ("replay", matches) => found_values::replay(alloc, matches),
+        ("inspect", matches) => found_values::inspect(alloc, matches),
+        ("selftest", matches) => Ok(found_values::selftest(matches)),
         _ => unreachable!(),
     }
 }

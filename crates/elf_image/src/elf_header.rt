@@ -3,7 +3,7 @@ ghost use Rattle.std.specs.Prelude.{◌≡◌, ◌+◌, ◌*◌, ◌≤◌, fals
 ghost use Rattle.elf_image.specs.File.{e_phnum, e_phoff};
 ghost use Rattle.elf_image.specs.Faults.{has_bad_table, is_not_elf};
 
-use crate::field::{byte_at, half_at, word_at};
+use crate::little_endian::{byte_at, half_at, word_at};
 
 const HEADER_BYTES: usize = 52;
 

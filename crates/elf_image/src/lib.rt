@@ -17,15 +17,15 @@
 #![tactic(auto)]
 
 mod elf_header;
-mod field;
 mod image;
 mod image_fault;
 pub mod laws;
-mod layout;
+mod little_endian;
 mod loading;
-mod page;
 mod program_header;
 mod span;
+mod span_pages;
+mod start_pages;
 
 pub use image::{Image, Segment, Segments};
 pub use image_fault::ImageFault;

@@ -7,14 +7,14 @@ ghost use Rattle.elf_image.specs.Image.{IsImageOf, has_bytes, segment_of, segmen
 ghost use Rattle.elf_image.specs.Segment.{MEMORY_END, spans_of, start_pages};
 
 use crate::elf_header::{E_ENTRY, E_MACHINE, E_TYPE, EI_CLASS, EI_DATA, has_bad_table, is_not_elf};
-use crate::field::{byte_at, half_at, word_at};
 use crate::image::{Image, Segment, Segments};
 use crate::image_fault::ImageFault;
-use crate::layout::{first_pages, heap_start, overlap};
+use crate::little_endian::{byte_at, half_at, word_at};
 use crate::program_header::{
     ProgramHeader, has_bad_entry, has_interpreter, loaded, program_headers, spans,
 };
 use crate::span::Span;
+use crate::span_pages::{first_pages, heap_start, overlap};
 use dp_base::limits::{MAX_GUEST_BYTES, MAX_PAGES};
 use dp_base::{Bytes, OutOfMemory};
 use std::alloc::Global;

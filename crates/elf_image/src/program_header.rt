@@ -6,7 +6,7 @@ ghost use Rattle.elf_image.specs.Faults.{is_bad_entry};
 ghost use Rattle.elf_image.specs.Image.{entry_span, has_bytes};
 
 use crate::elf_header::{E_PHNUM, E_PHOFF};
-use crate::field::{half_at, word_at};
+use crate::little_endian::{half_at, word_at};
 use crate::span::{STACK, Span};
 use dp_base::OutOfMemory;
 use dp_base::limits::{PAGE_BYTES, PAGE_NUMBERS};
@@ -90,6 +90,7 @@ pub(crate) fn has_bad_entry(file: &[u8], loaded: &[ProgramHeader]) -> bool
     loaded.iter().any(|p| is_bad_entry(file, *p))
 }
 
+// Whether an entry of the program header table is bad.
 fn is_bad_entry(file: &[u8], p: ProgramHeader) -> bool
     ensures { result ≡ is_bad_entry file.now p }
 {

@@ -4,8 +4,8 @@ use Rattle.std.specs.Prelude.{IfSome}
 use Rattle.std.proofs.lemmas.List.{length-append}
 use Rattle.std.proofs.lemmas.List.Elements.{All-from_recursion, All-push, recursion_from_All}
 use Rattle.dp_base.specs.declared.out_of_memory.OutOfMemory.{OutOfMemory}
-use Rattle.epoch_replay.specs.declared.stretch.PartJob.{PartJob}
-use Rattle.epoch_replay.specs.declared.stretch.Stretch.{Stretch}
+use Rattle.epoch_replay.specs.declared.journal_stretch.PartJob.{PartJob}
+use Rattle.epoch_replay.specs.declared.journal_stretch.Stretch.{Stretch}
 use Rattle.dp_base.specs.declared.answer.Answer.{Answer}
 use Rattle.dp_base.specs.declared.limits.TheConstants.{MAX_CALL_BYTES, MAX_EPOCH_STEPS}
 use Rattle.dp_base.specs.Journal.{Epoch, steps_of}

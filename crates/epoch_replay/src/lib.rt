@@ -33,13 +33,13 @@ mod counts;
 mod epoch;
 mod inspect_fault;
 mod inspecting;
+mod journal_stretch;
 pub mod laws;
 mod mark;
+mod parallel_stretches;
 mod progress;
 mod replay_fault;
 mod replaying;
-mod stretch;
-mod window;
 
 pub use dp_report::Report;
 pub use inspect_fault::InspectFault;

@@ -12,9 +12,9 @@ ghost use Rattle.epoch_replay.specs.Replaying.{EachReplayMoment, IsKnownToEnd, I
 
 use crate::epoch::play_epoch;
 use crate::mark::{is_right_mark, is_right_partial};
+use crate::parallel_stretches::play_window;
 use crate::progress::Progress;
 use crate::replay_fault::ReplayFault;
-use crate::window::play_window;
 use checkpoint::digest;
 use device::send_all;
 use disk_model::{Gate, OpenGate, Stream, World};

@@ -3,8 +3,8 @@ ghost use Rattle.std.specs.Prelude.{◌≡◌, ◌&&◌, not};
 ghost use Rattle.epoch_runner.specs.Hinted.{first_stage, goes_plain, is_plain, is_thread, rule_4};
 ghost use Rattle.epoch_runner.specs.Lowest.{lowest_from};
 
-use crate::answer::ready_at;
 use crate::hint_stage::HintStage;
+use crate::readiness::ready_at;
 use crate::steps_left::left_of;
 use dp_base::Tid;
 use guest_kernel::{Peek, State};
@@ -59,6 +59,7 @@ pub(crate) fn can_be_done(left: &[u32], entry: SyncHint, state: &State, supply: 
         && ready_at(state, supply, entry.tid)
 }
 
+// Whether a turn is plain, as the rules of hints ask.
 fn is_plain(peek: Peek) -> bool
     ensures { result ≡ is_plain peek }
 {

@@ -24,10 +24,10 @@
 //! ```
 #![tactic(auto)]
 
-mod answer;
 mod bounds;
 mod course;
 mod epoch_run;
+mod epoch_slices;
 mod following;
 mod hint_phase;
 mod hint_rules;
@@ -35,7 +35,7 @@ mod hint_stage;
 mod hint_turns;
 mod kernel_laws;
 pub mod laws;
-mod run;
+mod readiness;
 mod schedule;
 mod slice;
 mod steps_left;
@@ -43,9 +43,9 @@ mod sync;
 mod trace;
 mod walk;
 
-pub use answer::{can_step, input_due};
 pub use bounds::Bounds;
 pub use epoch_run::{EpochRun, Ran};
+pub use epoch_slices::run_epoch;
 pub use hint_stage::HintStage;
-pub use run::run_epoch;
+pub use readiness::{can_step, input_due};
 pub use walk::{NextTurn, Walk};

@@ -12,9 +12,9 @@ ghost use Rattle.guest_kernel.specs.Slices.{at, turns};
 ghost use Rattle.guest_kernel.specs.Turn.{yields};
 ghost use Rattle.epoch_runner.specs.Trace.{traced};
 
-use crate::answer::{answer_to, can_take};
 use crate::bounds::Bounds;
 use crate::kernel_laws::turn_laws;
+use crate::readiness::{answer_to, can_take};
 use crate::schedule::is_long;
 use crate::trace::Trace;
 use dp_base::{OutOfMemory, Tid};

@@ -10,9 +10,9 @@ ghost use Rattle.epoch_runner.specs.Syncing.{sync_of};
 ghost use Rattle.epoch_runner.specs.Walking.{next_step_of, opened};
 ghost use Rattle.sync_hints.specs.NoHints.{no_hints};
 
-use crate::answer::{can_step, ready_at};
 use crate::bounds::Bounds;
 use crate::kernel_laws::turn_laws;
+use crate::readiness::{can_step, ready_at};
 use crate::schedule::{is_long, lowest_from};
 use crate::slice::one_turn;
 use crate::sync::sync_of;

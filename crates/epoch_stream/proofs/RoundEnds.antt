@@ -19,7 +19,7 @@ use Rattle.epoch_runner.specs.declared.epoch_run.Ran.{Ran}
 use Rattle.racing_runner.specs.declared.offer.More.{More}
 use Rattle.racing_runner.specs.declared.offer.More.TheVariants.{Yes, Enough}
 use Rattle.epoch_stream.specs.declared.deposit.Deposit.{Deposit}
-use Rattle.epoch_stream.specs.declared.race.RaceEnd.{RaceEnd}
+use Rattle.epoch_stream.specs.declared.racer_part.RaceEnd.{RaceEnd}
 use Rattle.epoch_stream.specs.Results.{IsResultOf}
 use Rattle.epoch_stream.specs.declared.deposit.Deposit.TheVariants as deposits
 use Rattle.epoch_stream.specs.Deposits.{AreFor, AreOf, In, IsFor, IsResultIn}

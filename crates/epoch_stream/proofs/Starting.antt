@@ -8,7 +8,7 @@ use Rattle.stop_word.specs.declared.stop_word.StopWord.{StopWord}
 use Rattle.supply.specs.Supplied.{Supplied}
 use Rattle.epoch_pool.specs.declared.job.Job.{Job}
 use Rattle.epoch_stream.specs.declared.deposit.Deposit.{Deposit}
-use Rattle.epoch_stream.specs.declared.worker_pass.Pass.{Pass}
+use Rattle.epoch_stream.specs.declared.worker_part.Pass.{Pass}
 use Rattle.epoch_stream.specs.declared.promises.Started.{Started}
 use Rattle.epoch_stream.specs.Rounds.{AreDone, ArePasses, AreStarted, IsPass, IsReturned, IsStarted}
 

@@ -15,7 +15,7 @@ use Rattle.racing_runner.specs.declared.offer.More.{More}
 use Rattle.racing_runner.specs.declared.offer.More.TheVariants.{Yes}
 use Rattle.racing_runner.specs.Offers.{Tells}
 use Rattle.epoch_stream.specs.declared.deposit.Deposit.{Deposit}
-use Rattle.epoch_stream.specs.declared.race.RaceEnd.{RaceEnd}
+use Rattle.epoch_stream.specs.declared.racer_part.RaceEnd.{RaceEnd}
 use Rattle.epoch_stream.specs.Deposits.{AreOf}
 use Rattle.epoch_stream.specs.Racers.{HasRaced}
 use Rattle.epoch_stream.specs.Rounds.{AreDone}

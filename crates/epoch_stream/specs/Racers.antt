@@ -14,9 +14,9 @@ use Rattle.racing_runner.specs.declared.offer.Offer.{Offer}
 use Rattle.racing_runner.specs.Offers.{IfTold, Tells}
 use Rattle.supply.specs.Supplied.{Supplied}
 use Rattle.epoch_stream.specs.declared.deposit.Deposit.{Deposit}
-use Rattle.epoch_stream.specs.declared.race.Racing.{Racing}
-use Rattle.epoch_stream.specs.declared.race.RaceEnd.{RaceEnd}
-use Rattle.epoch_stream.specs.declared.race.Raced.{Raced}
+use Rattle.epoch_stream.specs.declared.racer_part.Racing.{Racing}
+use Rattle.epoch_stream.specs.declared.racer_part.RaceEnd.{RaceEnd}
+use Rattle.epoch_stream.specs.declared.racer_part.Raced.{Raced}
 use Rattle.epoch_stream.specs.declared.promises.Racers.{Racers}
 use Rattle.epoch_stream.specs.declared.promises.Racers.TheVariants.{There, Here}
 use Rattle.epoch_stream.specs.Offers.{AreFirstOf, AreJobs, offers_within}

@@ -8,7 +8,7 @@ use Rattle.stop_word.specs.Seats.{IsWatcherOf}
 use Rattle.supply.specs.Supplied.{Supplied}
 use Rattle.epoch_pool.specs.declared.job.Job.{Job}
 use Rattle.epoch_stream.specs.declared.deposit.Deposit.{Deposit}
-use Rattle.epoch_stream.specs.declared.worker_pass.Pass.{Pass}
+use Rattle.epoch_stream.specs.declared.worker_part.Pass.{Pass}
 use Rattle.epoch_stream.specs.declared.promises.Started.{Started}
 use Rattle.epoch_stream.specs.declared.promises.Started.TheVariants.{There, Here}
 use Rattle.epoch_stream.specs.Deposits.{AreFor}

@@ -17,14 +17,14 @@
 mod bell;
 mod deposit;
 mod promises;
-mod race;
+mod racer_part;
 mod round;
 mod round_parts;
 mod single_job;
 mod streaming;
 mod taker;
-mod tray;
-mod worker_pass;
+mod taker_part;
+mod worker_part;
 
 pub use streaming::stream;
 pub use taker::Taker;

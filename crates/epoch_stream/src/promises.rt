@@ -1,18 +1,18 @@
 // What the threads of a round promise.
 use crate::deposit::EpochBoard;
-use crate::race::{RacedOf, RacingOf};
-use crate::worker_pass::Pass;
+use crate::racer_part::{RacedOf, RacingOf};
+use crate::worker_part::Pass;
 use racing_runner::{Plan, Racer};
 use std::snapshot::Snapshot;
 use std::thread::{Promise, PromisedHandle};
 use stop_word::StopWord;
 use supply::Supply;
 
-mod racing;
-mod starts;
+mod racer_start;
+mod worker_starts;
 
-pub(crate) use racing::{join_racer, start_racer};
-pub(crate) use starts::{join_all, start_all};
+pub(crate) use racer_start::{join_racer, start_racer};
+pub(crate) use worker_starts::{join_all, start_all};
 
 /// What the racer's thread promises: the jobs on the board are made of its offers.
 #[derive(Drop)]

@@ -8,8 +8,8 @@ ghost use Rattle.epoch_stream.specs.Streams.{IsBlank, IsSetUp};
 
 use crate::deposit::{Deposit, EpochBoard};
 use crate::promises::Started;
-use crate::tray::Tray;
-use crate::worker_pass::Pass;
+use crate::taker_part::Tray;
+use crate::worker_part::Pass;
 use dp_base::OutOfMemory;
 use epoch_pool::Job;
 use guest_kernel::State;

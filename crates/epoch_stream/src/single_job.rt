@@ -2,7 +2,7 @@
 ghost use Rattle.std.specs.Prelude.{◌≡◌, ◌<◌, ◌+◌, ◌^◌};
 ghost use Rattle.epoch_stream.specs.Streams.{Streamed};
 
-use crate::race::job_of;
+use crate::racer_part::job_of;
 use crate::taker::Taker;
 use disk_model::Gate;
 use dp_base::OutOfMemory;

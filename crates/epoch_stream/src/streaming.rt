@@ -4,12 +4,12 @@ ghost use Rattle.dp_base.specs.declared.limits.TheConstants.{MAX_WORKERS};
 ghost use Rattle.epoch_stream.specs.Streams.{Streamed, and_then};
 
 use crate::bell::Bells;
-use crate::race::{RaceEnd, Racing};
+use crate::racer_part::{RaceEnd, Racing};
 use crate::round::{Finished, run_round};
 use crate::round_parts::{SetUp, set_up};
 use crate::single_job::run_one;
 use crate::taker::Taker;
-use crate::tray::Taken;
+use crate::taker_part::Taken;
 use disk_model::Gate;
 use dp_base::OutOfMemory;
 use guest_kernel::State;

@@ -2,7 +2,7 @@
 use Rattle.std.specs.Prelude.{ℕ, Bool, List, ◌&&◌, nat_lt, nat_le}
 use Rattle.dp_base.specs.declared.limits.TheConstants.{MAX_LIVE_THREADS, MAX_PAGES, MAX_THREADS}
 use Rattle.guest_state.specs.Checkpoint.{is_heap, traps_within}
-use Rattle.guest_state.specs.declared.scan.CheckpointBounds.{CheckpointBounds}
+use Rattle.guest_state.specs.declared.checkpoint_check.CheckpointBounds.{CheckpointBounds}
 
 -- how many were skipped, what is known of them, and the bytes after them
 pub record Skipped (A : Type 0) : Type 0 where

@@ -13,15 +13,15 @@
 //! ```
 #![tactic(auto)]
 
+mod checkpoint_check;
+mod checkpoint_reader;
 mod end;
 mod hart;
 pub mod laws;
-mod reader;
-mod scan;
 mod thread;
 
+pub use checkpoint_check::{CheckpointBounds, alive_count, is_checkpoint, live_count};
+pub use checkpoint_reader::{read_end, read_page, read_thread};
 pub use end::End;
 pub use hart::Hart;
-pub use reader::{read_end, read_page, read_thread};
-pub use scan::{CheckpointBounds, alive_count, is_checkpoint, live_count};
 pub use thread::Thread;

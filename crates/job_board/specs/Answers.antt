@@ -3,10 +3,10 @@ use Rattle.std.specs.Prelude.{◌≡◌, ℕ, suc, ◌+◌, ◌≤◌, ◌==◌,
 use Rattle.crossbeam_queue.specs.Passes.{view}
 use Rattle.job_board.specs.declared.pass.Worker.{Worker}
 use Rattle.job_board.specs.declared.pass.Collector.{Collector}
-use Rattle.job_board.specs.declared.answer.Claim.{Claim}
-use Rattle.job_board.specs.declared.answer.Collected.{Collected}
-use Rattle.job_board.specs.declared.answer.Claim.TheVariants as claims
-use Rattle.job_board.specs.declared.answer.Collected.TheVariants as collects
+use Rattle.job_board.specs.declared.outcomes.Claim.{Claim}
+use Rattle.job_board.specs.declared.outcomes.Collected.{Collected}
+use Rattle.job_board.specs.declared.outcomes.Claim.TheVariants as claims
+use Rattle.job_board.specs.declared.outcomes.Collected.TheVariants as collects
 use Rattle.job_board.specs.Queue.{part, items_of}
 use Rattle.job_board.specs.Passes.{claimed, deposited, collected, counts, stops}
 

@@ -10,7 +10,7 @@ use Rattle.job_board.specs.declared.pass.Publisher.{Publisher}
 use Rattle.job_board.specs.declared.pass.Worker.{Worker}
 use Rattle.job_board.specs.declared.pass.Collector.{Collector}
 use Rattle.job_board.specs.declared.pass.Receipt.{Receipt}
-use Rattle.job_board.specs.declared.answer.Left.{Left}
+use Rattle.job_board.specs.declared.outcomes.Left.{Left}
 use Rattle.job_board.specs.Queue.{total_cost}
 use Rattle.job_board.specs.Items.{job_cost, jobs_of, results_of, counts_of, stops_of}
 

@@ -8,9 +8,9 @@ ghost use Rattle.job_board.specs.Items.{jobs_of, results_of};
 ghost use Rattle.job_board.specs.Answers.{AreDistinct, InterleavesTo, IsInterleaving, times};
 ghost use Rattle.job_board.specs.Passes.{AreWorkersOf, IsCollectorOf, IsFirst, IsPublisherOf, IsReceiptOf, claimed, collected, counts, deposited, indexes, job_capacity, job_parts, published, result_capacity, result_parts, was_published};
 
-use crate::answer::Left;
 use crate::board::Board;
 use crate::item::{JobItem, ResultItem};
+use crate::outcomes::Left;
 use crate::pass::{Collector, JobPass, Publisher, Receipt, ResultPass, Worker};
 use crate::rule::{Drains, Puts, Returns};
 use std::sync::Wait;

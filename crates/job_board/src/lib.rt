@@ -24,18 +24,18 @@
 //! ```
 #![tactic(auto)]
 
-mod answer;
 mod board;
 mod closing;
 mod item;
 mod opening;
+mod outcomes;
 mod pass;
-mod round;
+mod round_calls;
 mod rule;
 mod view;
 
-pub use answer::{Claim, Collected, Left};
 pub use board::Board;
 pub use item::{JobItem, ResultItem};
+pub use outcomes::{Claim, Collected, Left};
 pub use pass::{Collector, Publisher, Receipt, Worker};
 pub use view::View;

@@ -5,8 +5,8 @@ ghost use Rattle.job_board.specs.Queue.{root};
 ghost use Rattle.job_board.specs.Opening.{job_view, result_view};
 ghost use Rattle.job_board.specs.Passes.{AreIdle, AreWorkersOf, IsCollectorOf, IsPublisherOf, IsReserved, collected, counts, published};
 
-use crate::answer::Left;
 use crate::board::{Board, JobQueue, ResultQueue};
+use crate::outcomes::Left;
 use crate::pass::{Collector, JobPass, Publisher, ResultPass, Worker};
 use crate::rule::{Putting, Size, Taking};
 use std::alloc::{AllocError, Global};

@@ -1,6 +1,6 @@
 // The passes of a board: each names who may make which calls.
-use crate::answer::Left;
 use crate::item::{JobItem, ResultItem};
+use crate::outcomes::Left;
 use crate::view::View;
 use crossbeam_queue::Pass;
 

@@ -20,9 +20,9 @@
 mod fields;
 pub mod laws;
 mod page;
-mod scan;
+mod partial_check;
 
 pub use dp_base::journal::PARTIAL_KIND;
 pub use fields::{Fields, read_fields};
 pub use page::{PartialPageView, read_partial_page};
-pub use scan::{is_partial, skip_partial};
+pub use partial_check::{is_partial, skip_partial};

@@ -5,10 +5,10 @@ ghost use Rattle.racing_runner.specs.Chaos.{bounds_of, flipped, made, offered_at
 ghost use Rattle.racing_runner.specs.Offers.{HasOffered};
 
 use crate::flipped_state::flip;
+use crate::noted_epoch::{Stretch, run_stretch};
 use crate::offer::{More, Offer};
 use crate::plan::Plan;
 use crate::racer::{JobSink, Racer};
-use crate::stretch::{Stretch, run_stretch};
 use dp_base::OutOfMemory;
 use epoch_runner::Bounds;
 use guest_kernel::State;

@@ -22,10 +22,10 @@ mod chaos;
 mod flipped_state;
 mod gathered_offers;
 mod idle;
+mod noted_epoch;
 mod offer;
 mod plan;
 mod racer;
-mod stretch;
 mod wild;
 
 pub use chaos::ChaosRacer;

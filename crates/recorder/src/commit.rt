@@ -4,7 +4,7 @@ ghost use Rattle.dp_base.specs.Counts.{Rose};
 ghost use Rattle.disk_model.specs.Known.{IfKnown};
 ghost use Rattle.recorder.specs.Committing.{CommitCalls, Committed, HasCommitted, CommitMetNoOther};
 
-use crate::ready::Ready;
+use crate::ready_epoch::Ready;
 use device::send_all;
 use disk_model::{Stream, World};
 use epoch_journal::{AppendFault, Journal};

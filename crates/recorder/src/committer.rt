@@ -2,8 +2,8 @@
 ghost use Rattle.std.specs.Prelude.{◌≡◌};
 ghost use Rattle.recorder.specs.Taking.{more_after};
 
+use crate::judged_result::commit_next;
 use crate::record_fault::RecordFault;
-use crate::results::commit_next;
 use crate::tally::{AfterJudging, Tally};
 use commit_core::Core;
 use disk_model::World;

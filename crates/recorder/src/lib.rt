@@ -46,20 +46,20 @@
 mod commit;
 mod committer;
 mod due_mark;
+mod judged_result;
 pub mod laws;
 mod options;
 mod plan;
-mod ready;
+mod ready_epoch;
 mod record_fault;
 mod recording;
 mod report;
-mod results;
 mod round_input;
 mod tally;
 
 pub use commit::{CommitFault, commit_epoch};
 pub use dp_report::Report;
 pub use options::Options;
-pub use ready::Ready;
+pub use ready_epoch::Ready;
 pub use record_fault::RecordFault;
 pub use recording::record_;

@@ -5,7 +5,7 @@ ghost use Rattle.rv_step.specs.Contention.{AccountsOk, AccountsSc};
 ghost use Rattle.rv_step.specs.Effect.{changes_word, fails_unheld, is_held, loads_reserved, stores_conditional, stores_held};
 ghost use Rattle.rv_step.specs.Step.{answer_for, hart_after, memory_after};
 
-use crate::control::write;
+use crate::jump_branch::write;
 use crate::stepped::Stepped;
 use crate::trap_cause::{LOAD_DENIED, LOAD_MISALIGNED, STORE_DENIED, STORE_MISALIGNED};
 use dp_base::{Access, AmoOp, Mem, OutOfMemory};

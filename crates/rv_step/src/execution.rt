@@ -6,10 +6,10 @@ ghost use Rattle.rv_step.specs.Operands.{AreOperands};
 ghost use Rattle.rv_step.specs.Step.{answer_for, hart_after, memory_after};
 
 use crate::atomic::{change_word, load_reserved, store_conditional};
-use crate::control::{add_to_pc, address, branch, jump, jump_register, write};
 use crate::instr::Instr;
-use crate::integer::{one_if, shift_amount, shifted_left, shifted_right, shifted_right_arithmetic};
+use crate::jump_branch::{add_to_pc, address, branch, jump, jump_register, write};
 use crate::load_store::{Extension, load, store};
+use crate::shifts::{one_if, shift_amount, shifted_left, shifted_right, shifted_right_arithmetic};
 use crate::stepped::Stepped;
 use crate::trap_cause::BREAKPOINT;
 use dp_base::{AmoOp, Mem, OutOfMemory, Width, is_below_signed};

@@ -19,22 +19,22 @@
 #![tactic(auto)]
 
 mod atomic;
-mod control;
 mod decoding;
 mod execution;
 mod immediate;
 mod instr;
-mod integer;
+mod jump_branch;
 pub mod laws;
 mod load_store;
+mod shifts;
 mod step;
 mod stepped;
 mod trap_cause;
 
-pub use control::address;
 pub use decoding::decode;
 pub use dp_base::is_below_signed;
 pub use instr::Instr;
+pub use jump_branch::address;
 pub use step::{exec, exec_word};
 pub use stepped::Stepped;
 pub use trap_cause::{INSTRUCTION_DENIED, INSTRUCTION_MISALIGNED};

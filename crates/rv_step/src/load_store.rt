@@ -5,7 +5,7 @@ ghost use Rattle.rv_step.specs.Effect.{loads, sign_extended_byte, sign_extended_
 ghost use Rattle.rv_step.specs.Extension.{extended};
 ghost use Rattle.rv_step.specs.Step.{answer_for, hart_after, memory_after};
 
-use crate::control::write;
+use crate::jump_branch::write;
 use crate::stepped::Stepped;
 use crate::trap_cause::{LOAD_DENIED, STORE_DENIED};
 use dp_base::{Access, Mem, OutOfMemory, Width};

@@ -24,22 +24,22 @@
 //! ```
 #![tactic(auto)]
 
-mod closing;
-mod copying;
-mod counts;
+mod atomic_steps;
+mod block_copies;
+mod interference;
 mod layout;
 mod lookup;
 mod mapped_page;
 mod marks;
 mod naming;
-mod opening;
-mod partial;
+mod pages_of_words;
+mod part_access;
 mod racing_mem;
 mod racing_seat;
 mod rule;
 mod shared_words;
-mod steps;
 mod view;
+mod words_of_pages;
 
 pub use mapped_page::MappedPage;
 pub use marks::Marks;

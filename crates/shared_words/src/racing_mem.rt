@@ -7,11 +7,11 @@ ghost use Rattle.shared_words.specs.Rule.{view_of};
 ghost use Rattle.shared_words.specs.Words.{IsSeatAt, table_of};
 ghost use Rattle.shared_words.specs.declared.layout.TheConstants.{BLOCK_WORDS, FIRST_WORD};
 
-use crate::counts::Counts;
+use crate::interference::Counts;
 use crate::layout::{BLOCK_WORDS, FIRST_WORD};
 use crate::marks::Marks;
 use crate::naming::Naming;
-use crate::partial::{load_part, low_word, mask_of, store_part};
+use crate::part_access::{load_part, low_word, mask_of, store_part};
 use crate::racing_seat::RacingSeat;
 use crate::shared_words::{Seat, SharedWords};
 use dp_base::{Access, AmoOp, Log, Mem, OutOfMemory, Width};

@@ -20,7 +20,6 @@
 
 mod rule;
 mod seat;
-mod steps;
 mod stop_word;
 
 pub use rule::View;

@@ -21,19 +21,19 @@
 //! ```
 #![tactic(auto)]
 
-mod course;
 mod gated;
 mod kept_words;
 mod noted_pages;
 mod noted_words;
 mod pace;
-mod part;
 mod pass;
+mod pass_part;
 mod round_robin;
+mod stopped_turns;
 mod stretch;
+mod stretch_course;
 mod thread_racer;
 mod thread_run;
-mod turns;
 
 pub use gated::Gated;
 pub use thread_racer::ThreadRacer;

@@ -4,10 +4,10 @@ ghost use Rattle.shared_words.specs.Copied.{AreMarksOf};
 ghost use Rattle.shared_words.specs.Rule.{view_of};
 ghost use Rattle.shared_words.specs.Words.{IsSeatAt, table_of};
 
-use crate::course::Course;
 use crate::kept_words::{KeptWords, words_of};
 use crate::noted_words::{NotedAmo, NotedWords};
-use crate::part::{Part, race_parts};
+use crate::pass_part::{Part, race_parts};
+use crate::stretch_course::Course;
 use crate::thread_run::{ThreadRun, put_hart, running};
 use amo_order::{Amo, PLACES, Placed, order_amos};
 use disk_model::Gate;

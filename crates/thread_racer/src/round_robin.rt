@@ -1,11 +1,11 @@
 // Threads one after another on one processor, whose steps are noted as those of a pass are.
 ghost use Rattle.std.specs.Prelude.{◌≤◌};
 
-use crate::course::Course;
 use crate::noted_pages::NotedPages;
-use crate::part::run_hart;
+use crate::pass_part::run_hart;
+use crate::stopped_turns::take_turn;
+use crate::stretch_course::Course;
 use crate::thread_run::{Share, ThreadRun, add_threads, grant, put_hart, running};
-use crate::turns::take_turn;
 use dp_base::OutOfMemory;
 use guest_kernel::State;
 use rv_step::Stepped;

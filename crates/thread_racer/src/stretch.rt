@@ -1,15 +1,15 @@
 // A stretch: passes while they pay, and then the threads one after another.
 ghost use Rattle.std.specs.Prelude.{◌<◌};
 
-use crate::course::Course;
 use crate::kept_words::{KeptWords, blocks_of};
 use crate::pace::{Pace, cost_of_pass};
 use crate::pass::race_pass;
 use crate::round_robin::{run_to_end, use_quotas};
+use crate::stopped_turns::take_turns;
+use crate::stretch_course::Course;
 use crate::thread_run::{
     Share, ThreadRun, add_threads, grant, logs_of, ready_count, running_count,
 };
-use crate::turns::take_turns;
 use disk_model::Gate;
 use dp_base::OutOfMemory;
 use guest_kernel::State;

@@ -30,7 +30,7 @@ returns-in-Ok-Record-clause-did g c =
       said = w.ensures.command ∙ ap Some w.field-0-is;
       room = refl;
     } in
-    inr (inr (inl (asked, rw c.as_str.ensures at c.record_named.ensures.came)))
+    inr (inr (inl (asked, rw c.as_str.ensures at c.do_record.ensures.came)))
 
 pub returns-in-Ok-Replay-clause-did : goal.returns-in-Ok-Replay-clause-did
 returns-in-Ok-Replay-clause-did g c =

@@ -1,5 +1,0 @@
-use Rattle.std.proofs.Common.{◌^◌, ◌-◌}
-use Rattle.epoch_replay.proofs.window.next_mark.Given as goal
-
-abbrev pub decreases-gates : goal.decreases-gates
-decreases-gates l = 2 ^ 64 - l.mark

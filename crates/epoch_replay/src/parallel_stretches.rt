@@ -1,0 +1,314 @@
+// Stretches of a journal, run side by side.
+ghost use Rattle.std.specs.Prelude.{◌≡◌, ◌<◌, ◌≤◌, ◌+◌, ℕ, Err, IfOk, IsErrOf, IsTrue, length, Option, Some, slice_index_or};
+ghost use Rattle.dp_base.specs.declared.limits.TheConstants.{MAX_JOURNAL_BYTES};
+ghost use Rattle.dp_base.specs.Counts.{Rose};
+ghost use Rattle.disk_model.specs.History.{History};
+ghost use Rattle.journal_text.specs.Reading.{Reading};
+ghost use Rattle.epoch_replay.specs.declared.replay_fault.ReplayFault.TheVariants as faults;
+ghost use Rattle.epoch_replay.specs.Playing.{IsBounded, PlayedSoFar};
+ghost use Rattle.epoch_replay.specs.Faults.{ReplayMetNoOther};
+ghost use Rattle.epoch_replay.specs.Replaying.{EachReplayMoment};
+ghost use Rattle.epoch_replay.specs.Stretches.{ArePartJobs, ArePartResults, IsBegun, IsPartResult, IsStretch, WasPartTaken};
+
+use crate::journal_stretch::{PartJob, Stretch, begin_at, begin_at_mark, run_job};
+use crate::progress::Progress;
+use crate::replay_fault::ReplayFault;
+use device::send_all;
+use disk_model::{Gate, Stream, World};
+use dp_base::OutOfMemory;
+use dp_base::field::{read_u32, read_u64};
+use dp_base::journal::OPEN_GATE;
+use dp_base::limits::MAX_WORKERS;
+use journal_text::MARK_KIND;
+use partial_mark::PARTIAL_KIND;
+use state_compare::equal;
+use std::alloc::{AllocError, Global};
+use std::thread;
+use std::thread::Threads;
+
+// A stretch is worth a thread if its work is this much on average: about a tenth of a millisecond. Starting a thread
+// and joining it takes 3 to 15 microseconds.
+const WORTH_A_THREAD: u64 = 16_384;
+
+/// Runs stretches side by side from the replay's offset, if it is at the first record or at a mark, and takes the
+/// results in order, up to the first whose start the play doesn't reach. Returns whether the replay went on. With one
+/// worker it returns `false` at once.
+pub(crate) fn play_window<R: Threads + Sync, W: World, G: Gate + Sync>(
+    rt: &R,
+    alloc: Global,
+    world: &mut W,
+    file: &[u8],
+    workers: u32,
+    gate: &G,
+    progress: &mut Progress,
+) -> Result<bool, ReplayFault>
+    requires few { length file.now ≤ MAX_JOURNAL_BYTES }
+    requires bounded { IsBounded file.now progress.old }
+    ensures taken { (reading : Reading) (first : Option History) →
+        PlayedSoFar reading file.now first (W.history world.old) progress.old →
+        WasPartTaken reading file.now first (W.history world.new) progress.new result }
+    ensures moments { (reading : Reading) (first : Option History) →
+        PlayedSoFar reading file.now first (W.history world.old) progress.old →
+        EachReplayMoment (Some reading) first (W.history world.new) }
+    ensures others { ReplayMetNoOther result (W.disk_faults world.old) (W.disk_faults world.new)
+        (W.sink_faults world.old) (W.sink_faults world.new) }
+    ensures bounded { IfOk result (λ _. IsBounded file.now progress.new) }
+    ensures goes_on { IfOk result (λ further. IsTrue further → progress.old.at < progress.new.at) }
+    ensures stays { IfOk result (λ _. progress.old.at ≤ progress.new.at) }
+    ensures no_disk_fault { IsErrOf result ReplayFault.DiskFault → ⊥ }
+    ensures sink_cause { IsErrOf result ReplayFault.OutputFault →
+        Rose (W.sink_faults world.old) (W.sink_faults world.new) }
+    ensures disk_count { W.disk_faults world.new ≡ W.disk_faults world.old }
+    ensures sink_count { W.sink_faults world.old ≤ W.sink_faults world.new }
+{
+    let first = progress.number == 1;
+    if workers < 2 || !(first || is_mark_at(file, progress.at)) {
+        return Ok(false);
+    }
+    let ahead = workers.min(MAX_WORKERS) - 1;
+    // If memory runs out for the jobs or their threads, the replay goes on record by record.
+    let Ok(jobs) = jobs_from(alloc, file, ahead, progress) else {
+        return Ok(false);
+    };
+    if jobs.len() < 2 {
+        return Ok(false);
+    }
+    let Ok(results) = run_jobs(rt, alloc, file, jobs, gate) else {
+        return Ok(false);
+    };
+    let before = progress.at;
+    take_all(world, file, results, progress)?;
+    Ok(progress.at > before)
+}
+
+// The jobs of a window: one from the replay's offset, and one from each of the next marks, at most `ahead` of them. The
+// marks are opened in their order, each over the one before. Empty if their stretches aren't worth their threads.
+fn jobs_from(
+    alloc: Global,
+    file: &[u8],
+    ahead: u32,
+    progress: &Progress,
+) -> Result<Vec<PartJob>, OutOfMemory>
+    requires few { length file.now ≤ MAX_JOURNAL_BYTES }
+    requires bounded { IsBounded file.now progress.now }
+    ensures { IfOk result (λ jobs. ArePartJobs file.now jobs.items) }
+{
+    let mut jobs = Vec::new(alloc);
+    let (marks, last) = last_mark(file, progress.at, ahead);
+    if marks == 0 || work_up_to(file, progress, last) < u64::from(marks) * WORTH_A_THREAD {
+        return Ok(jobs);
+    }
+    let Some(first) = begin_here(alloc, file, progress)? else {
+        return Ok(jobs);
+    };
+    let mut base = first.start.share(alloc)?;
+    jobs.push(PartJob {
+        index: 1,
+        stretch: first,
+    })?;
+    let mut gate = progress.at;
+    'jobs: for number in 0..marks {
+        let Some(mark) = next_mark(file, gate) else {
+            return Ok(jobs);
+        };
+        let Some(stretch) = begin_at_mark(alloc, file, mark, &base)? else {
+            return Ok(jobs);
+        };
+        base = stretch.start.share(alloc)?;
+        jobs.push(PartJob {
+            index: number.saturating_add(2),
+            stretch,
+        })?;
+        gate = mark;
+    }
+    Ok(jobs)
+}
+
+// A stretch from the replay's offset: with the mark there, or else in the replay's state.
+fn begin_here(
+    alloc: Global,
+    file: &[u8],
+    progress: &Progress,
+) -> Result<Option<Stretch>, OutOfMemory>
+    requires few { length file.now ≤ MAX_JOURNAL_BYTES }
+    requires bounded { IsBounded file.now progress.now }
+    ensures { IfOk result (IsBegun file.now) }
+{
+    if is_mark_at(file, progress.at) {
+        begin_at_mark(alloc, file, progress.at, &progress.base)
+    } else {
+        Ok(Some(begin_at(alloc, file, progress.at, &progress.state)?))
+    }
+}
+
+// How many marks follow the record at this gate, at most `ahead`, and the gate of the last of them.
+fn last_mark(file: &[u8], gate: u64, ahead: u32) -> (u32, u64) {
+    let mut last = gate;
+    'marks: for count in 0..ahead {
+        let Some(mark) = next_mark(file, last) else {
+            return (count, last);
+        };
+        last = mark;
+    }
+    (ahead, last)
+}
+
+// An estimate of the work from the replay's offset up to the mark at this gate: the steps, and a sixteenth of the
+// bytes. The mark's own count of steps is believed, since it decides only whether threads are started.
+fn work_up_to(file: &[u8], progress: &Progress, gate: u64) -> u64 {
+    let steps = steps_of_mark(file, gate).saturating_sub(progress.state.steps);
+    steps.saturating_add(gate.saturating_sub(progress.at) / 16)
+}
+
+// The count of steps in the mark at this gate: the first field after the gate, the length and the kind. 0 if it is cut
+// off.
+fn steps_of_mark(file: &[u8], gate: u64) -> u64 {
+    if gate >= file.len() as u64 {
+        return 0;
+    }
+    let rest = &file[gate as usize..];
+    if rest.len() < 6 {
+        return 0;
+    }
+    match read_u64(&rest[6..]) {
+        Some((steps, _)) => steps,
+        None => 0,
+    }
+}
+
+// The gate of the first mark after the record at this gate. `None` if the records end before it.
+fn next_mark(file: &[u8], gate: u64) -> Option<u64> {
+    let mut mark = next_gate(file, gate)?;
+    'gates: while !is_mark_at(file, mark) {
+        let next = next_gate(file, mark)?;
+        if next <= mark {
+            return None;
+        }
+        mark = next;
+    }
+    Some(mark)
+}
+
+// Whether the record at this gate has the kind of a mark, full or partial. Nothing else of the record is tested.
+fn is_mark_at(file: &[u8], gate: u64) -> bool {
+    if gate >= 1 << 40 {
+        return false;
+    }
+    match file.get(gate as usize + 5) {
+        Some(kind) => *kind == MARK_KIND || *kind == PARTIAL_KIND,
+        None => false,
+    }
+}
+
+// The gate after the record at this gate, by its length alone. `None` if this gate is closed.
+fn next_gate(file: &[u8], gate: u64) -> Option<u64> {
+    if gate >= file.len() as u64 {
+        return None;
+    }
+    let rest = &file[gate as usize..];
+    let (byte, rest) = rest.split_first()?;
+    if *byte != OPEN_GATE {
+        return None;
+    }
+    let (size, _) = read_u32(rest)?;
+    Some(gate.saturating_add(5 + u64::from(size)))
+}
+
+// Runs each job in a thread of its own.
+fn run_jobs<R: Threads + Sync, G: Gate + Sync>(
+    rt: &R,
+    alloc: Global,
+    file: &[u8],
+    jobs: Vec<PartJob>,
+    gate: &G,
+) -> Result<Vec<Result<Option<Stretch>, OutOfMemory>>, AllocError>
+    requires few { length file.now ≤ MAX_JOURNAL_BYTES }
+    requires jobs { ArePartJobs file.now jobs.items }
+    ensures len { IfOk result (λ all. length all.items ≡ length jobs.items) }
+    ensures each { IfOk result (λ all. (i : ℕ) (d : _) → i < length jobs.items → IsPartResult file.now (slice_index_or all.items i d)) }
+{
+    thread::map_vec(rt, jobs, &|job| run_job(alloc, file, job, gate))
+}
+
+// Takes results in order, up to the first whose start the play doesn't reach.
+fn take_all<W: World>(
+    world: &mut W,
+    file: &[u8],
+    mut results: Vec<Result<Option<Stretch>, OutOfMemory>>,
+    progress: &mut Progress,
+) -> Result<(), ReplayFault>
+    requires few { length file.now ≤ MAX_JOURNAL_BYTES }
+    requires bounded { IsBounded file.now progress.old }
+    requires results { ArePartResults file.now results.items }
+    ensures taken { (reading : Reading) (first : Option History) →
+        PlayedSoFar reading file.now first (W.history world.old) progress.old →
+        WasPartTaken reading file.now first (W.history world.new) progress.new result }
+    ensures moments { (reading : Reading) (first : Option History) →
+        PlayedSoFar reading file.now first (W.history world.old) progress.old →
+        EachReplayMoment (Some reading) first (W.history world.new) }
+    ensures others { ReplayMetNoOther result (W.disk_faults world.old) (W.disk_faults world.new)
+        (W.sink_faults world.old) (W.sink_faults world.new) }
+    ensures bounded { IfOk result (λ _. IsBounded file.now progress.new) }
+    ensures stays { IfOk result (λ _. progress.old.at ≤ progress.new.at) }
+    ensures no_disk_fault { IsErrOf result ReplayFault.DiskFault → ⊥ }
+    ensures sink_cause { IsErrOf result ReplayFault.OutputFault →
+        Rose (W.sink_faults world.old) (W.sink_faults world.new) }
+    ensures disk_count { W.disk_faults world.new ≡ W.disk_faults world.old }
+    ensures sink_count { W.sink_faults world.old ≤ W.sink_faults world.new }
+{
+    let mut more = true;
+    'results: while more && !results.is_empty() {
+        more = match results.remove(0) {
+            Ok(Some(stretch)) => take(world, file, stretch, progress)?,
+            _ => false,
+        };
+    }
+    Ok(())
+}
+
+// Takes a stretch if it begins at the replay's offset, in the same state and over the same base. Returns whether it was
+// taken.
+fn take<W: World>(
+    world: &mut W,
+    file: &[u8],
+    stretch: Stretch,
+    progress: &mut Progress,
+) -> Result<bool, ReplayFault>
+    requires few { length file.now ≤ MAX_JOURNAL_BYTES }
+    requires bounded { IsBounded file.now progress.old }
+    requires is { IsStretch file.now stretch }
+    ensures taken { (reading : Reading) (first : Option History) →
+        PlayedSoFar reading file.now first (W.history world.old) progress.old →
+        WasPartTaken reading file.now first (W.history world.new) progress.new result }
+    ensures moments { (reading : Reading) (first : Option History) →
+        PlayedSoFar reading file.now first (W.history world.old) progress.old →
+        EachReplayMoment (Some reading) first (W.history world.new) }
+    ensures others { ReplayMetNoOther result (W.disk_faults world.old) (W.disk_faults world.new)
+        (W.sink_faults world.old) (W.sink_faults world.new) }
+    ensures bounded { IfOk result (λ _. IsBounded file.now progress.new) }
+    ensures stays { IfOk result (λ _. progress.old.at ≤ progress.new.at) }
+    ensures no_disk_fault { IsErrOf result ReplayFault.DiskFault → ⊥ }
+    ensures sink_cause { IsErrOf result ReplayFault.OutputFault →
+        Rose (W.sink_faults world.old) (W.sink_faults world.new) }
+    ensures disk_count { W.disk_faults world.new ≡ W.disk_faults world.old }
+    ensures sink_count { W.sink_faults world.old ≤ W.sink_faults world.new }
+{
+    if stretch.first != progress.at || !equal(&stretch.start, &progress.state) {
+        return Ok(false);
+    }
+    // A partial mark says what it does only over its own base.
+    let same_base = equal(&stretch.base, &progress.base);
+    if !same_base {
+        return Ok(false);
+    }
+    if send_all(world, Stream::Out, &stretch.output).is_err() {
+        return Err(ReplayFault::OutputFault);
+    }
+    progress.at = stretch.at;
+    progress.number += stretch.records;
+    progress.epochs += stretch.epochs;
+    progress.sent += stretch.output.len() as u64;
+    progress.base = stretch.start;
+    progress.state = stretch.state;
+    Ok(true)
+}
