@@ -16,10 +16,10 @@ pub returns-in-Some : goal.returns-in-Some
 returns-in-Some c =
     let here : Core = record { committed = c.self.inside.committed; max_jobs = c.self.inside.max_jobs; jobs = c.self.inside.jobs.items; judged = c.self.inside.judged; closed = c.self.inside.closed } in
     let looked = c.stage_of.ensures ∙ ap (λ (l : List Stage). stage_at l (c.self.inside.judged + 1)) c.deref.ensures.value ∙ ap (stage_at c.self.inside.jobs.items) (add-one c.self.inside.judged) in
-    let epoch = sym c.replace-taken.ensures.value ∙ is_taken c.replace-taken.result c.in-Some.run (sym c.epoch_in.ensures ∙ c.in-Some.is) in
-    let committed = commits_with here (option_copied c.stage_of.result) c.index_mut.result.now c.replace-taken.new.dest c.in-Some.run c.if-self.false looked c.in-Commit.ensures c.index_mut.ensures.value epoch c.replace-taken.ensures.after in
-    let there : Core = record here { committed = c.in-Some.run.end; jobs = slice_set c.self.inside.jobs.items c.self.inside.judged c.replace-taken.new.dest; judged = c.self.inside.judged + 1 } in
-    subst (λ (x : Core). HasJudged x (Commit c.in-Some.run.epoch c.in-Some.run.out) there) c.self.view_is committed
+    let epoch = sym c.replace-taken.ensures.value ∙ is_taken c.replace-taken.result c.in-Some.run' (sym c.epoch_in.ensures ∙ c.in-Some.is) in
+    let committed = commits_with here (option_copied c.stage_of.result) c.index_mut.result.now c.replace-taken.new.dest c.in-Some.run' c.if-self.false looked c.in-Commit.ensures c.index_mut.ensures.value epoch c.replace-taken.ensures.after in
+    let there : Core = record here { committed = c.in-Some.run'.end; jobs = slice_set c.self.inside.jobs.items c.self.inside.judged c.replace-taken.new.dest; judged = c.self.inside.judged + 1 } in
+    subst (λ (x : Core). HasJudged x (Commit c.in-Some.run'.epoch c.in-Some.run'.out) there) c.self.view_is committed
 
 pub invariant_of-self-in-Commit : goal.invariant_of-self-in-Commit
 invariant_of-self-in-Commit c =
