@@ -13,7 +13,7 @@ use Rattle.guest_state.specs.Checkpoint.{IsFreeHart, IsThread}
 use Rattle.guest_kernel.specs.declared.state.State.{State}
 use Rattle.guest_kernel.specs.Answers.{bytes_read}
 use Rattle.guest_kernel.specs.Call.{After}
-use Rattle.guest_kernel.specs.Slices.{at, chain, either, joined, run, slice_ended, slices, turns}
+use Rattle.guest_kernel.specs.Slices.{new_after, chain, by_result, joined, run, slice_ended, slices, turns}
 use Rattle.guest_kernel.specs.State.{dropping, without_reservation}
 use Rattle.rv_step.specs.Effect.{unreserved}
 use Rattle.guest_kernel.proofs.Dropping.{without_reservation-input, without_reservation-steps}
@@ -137,26 +137,26 @@ module _ (counts : Counts) (grows : Grows) (leaves : Leaves) (turn_keeps : TurnK
       let turned = turns_keep x.steps 0 x.tid here a.0 a.1 are little (dropped here.state x.tid is) (omega (arith, more, same, few)) in
       slices_keep xs (done + 1) (slice_ended x.tid a.0) there a.2 one.are (omega (arith, one.reach_is, place, little)) turned few
 
-  run_reach : (s : State) (xs : List Slice) (log : List Answer) (there : After) → AllByRecursion IsAnswer log → run xs (at s [] log) ≡ Ok there → there.state.input ≡ s.input + length (bytes_read log)
+  run_reach : (s : State) (xs : List Slice) (log : List Answer) (there : After) → AllByRecursion IsAnswer log → run xs (new_after s [] log) ≡ Ok there → there.state.input ≡ s.input + length (bytes_read log)
   run_reach s xs log there are ran =
-      let whole = whole_run xs (at s [] log) there ran in
-      let kept = slices_kept xs 0 (at s [] log) there whole.ran are in
+      let whole = whole_run xs (new_after s [] log) there ran in
+      let kept = slices_kept xs 0 (new_after s [] log) there whole.ran are in
       omega (arith, kept.reach_is, ap (λ (l : List Answer). length (bytes_read l)) whole.empty)
 
-  pub run_keeps : (s : State) (xs : List Slice) (log : List Answer) (there : After) → IsEncodable s → AllByRecursion IsAnswer log → run xs (at s [] log) ≡ Ok there → there.state.steps < 2 ^ 64 → there.state.input < 2 ^ 64 → IsEncodable there.state
+  pub run_keeps : (s : State) (xs : List Slice) (log : List Answer) (there : After) → IsEncodable s → AllByRecursion IsAnswer log → run xs (new_after s [] log) ≡ Ok there → there.state.steps < 2 ^ 64 → there.state.input < 2 ^ 64 → IsEncodable there.state
   run_keeps s xs log there is are ran few little =
-      slices_keep xs 0 (at s [] log) there (whole_run xs (at s [] log) there ran).ran are (omega (arith, run_reach s xs log there are ran, little)) is few
+      slices_keep xs 0 (new_after s [] log) there (whole_run xs (new_after s [] log) there ran).ran are (omega (arith, run_reach s xs log there are ran, little)) is few
 
-  run_steps : (s : State) (xs : List Slice) (log : List Answer) (there : After) → run xs (at s [] log) ≡ Ok there → s.steps ≤ there.state.steps
-  run_steps s xs log there ran = slices_steps xs 0 (at s [] log) there (whole_run xs (at s [] log) there ran).ran
+  run_steps : (s : State) (xs : List Slice) (log : List Answer) (there : After) → run xs (new_after s [] log) ≡ Ok there → s.steps ≤ there.state.steps
+  run_steps s xs log there ran = slices_steps xs 0 (new_after s [] log) there (whole_run xs (new_after s [] log) there ran).ran
 
   abbrev with_output : List ℕ → State × List ℕ → Result (State × List ℕ) ℕ
   with_output output end = Ok (end.0, output ++ end.1)
 
-  chain_parts : (s : State) (e : Epoch) (epochs : List Epoch) (end : State × List ℕ) → chain s (e ∷ epochs) ≡ Ok end → (here : After) × (run e.slices (at s [] e.answers) ≡ Ok here) × (behind : State × List ℕ) × (chain here.state epochs ≡ Ok behind) × (behind.0 ≡ end.0)
+  chain_parts : (s : State) (e : Epoch) (epochs : List Epoch) (end : State × List ℕ) → chain s (e ∷ epochs) ≡ Ok end → (here : After) × (run e.slices (new_after s [] e.answers) ≡ Ok here) × (behind : State × List ℕ) × (chain here.state epochs ≡ Ok behind) × (behind.0 ≡ end.0)
   unfolding chain
   chain_parts s e epochs end chained =
-      let a = either_ok (run e.slices (at s [] e.answers)) (λ stop. 0) (λ here. either (chain here.state epochs) (λ count. Err (count + 1)) (with_output here.output)) end chained in
+      let a = either_ok (run e.slices (new_after s [] e.answers)) (λ stop. 0) (λ here. by_result (chain here.state epochs) (λ count. Err (count + 1)) (with_output here.output)) end chained in
       let b = either_ok (chain a.0.state epochs) (λ count. count + 1) (with_output a.0.output) end a.2 in
       (a.0, a.1, b.0, b.1, IfOk-at_ok (λ (e : State × List ℕ). b.0.0 ≡ e.0) b.2 refl)
 

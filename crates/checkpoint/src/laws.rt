@@ -10,7 +10,7 @@ ghost use Rattle.dp_base.specs.Journal.{Epoch, IsAnswer};
 ghost use Rattle.std.specs.List.{AllByRecursion};
 ghost use Rattle.guest_kernel.specs.declared.state.State.{State};
 ghost use Rattle.guest_kernel.specs.Call.{After};
-ghost use Rattle.guest_kernel.specs.Slices.{at, run, chain};
+ghost use Rattle.guest_kernel.specs.Slices.{new_after, run, chain};
 ghost use Rattle.guest_kernel.specs.Start.{IsGuestFile, start_state};
 ghost use Rattle.guest_kernel.specs.State.{without_reservation};
 ghost use Rattle.guest_kernel.specs.Turn.{turn};
@@ -56,7 +56,7 @@ pub fn a_turn_keeps_a_state_encodable()
 /// 2^64 steps and bytes of input.
 pub fn a_run_keeps_a_state_encodable()
     ensures { (s : State) (slices : List Slice) (log : List Answer) (there : After) → IsEncodable s →
-        AllByRecursion IsAnswer log → run slices (at s [] log) ≡ Ok there → there.state.steps < 2 ^ 64 →
+        AllByRecursion IsAnswer log → run slices (new_after s [] log) ≡ Ok there → there.state.steps < 2 ^ 64 →
         there.state.input < 2 ^ 64 → IsEncodable there.state }
 {
     guest_kernel::laws::a_turn_is_one_step();

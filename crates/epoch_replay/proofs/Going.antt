@@ -11,7 +11,7 @@ use Rattle.disk_model.specs.declared.world.Stream.TheVariants.{Out, Note}
 use Rattle.device.specs.Sending.{Sent}
 use Rattle.guest_kernel.specs.declared.state.State.{State}
 use Rattle.guest_kernel.specs.Call.{After}
-use Rattle.guest_kernel.specs.Slices.{Stop, at, either, run}
+use Rattle.guest_kernel.specs.Slices.{Stop, new_after, by_result, run}
 use Rattle.guest_kernel.specs.Start.{IsGuestFile}
 use Rattle.guest_state.specs.Checkpoint.{Checkpoint}
 use Rattle.checkpoint.specs.State.{IsEncodable, checkpoint_of, digest_of}
@@ -32,11 +32,11 @@ use Rattle.epoch_replay.proofs.Moments.{each_moment, noted_moments, quiet, sent_
 -- ---- the definition, step by step
 
 -- an epoch in front of others, by what its slices come to
-pub epoch_plays : (base s : State) (number : ℕ) (e : Epoch) (others : List Record) (tail : Tail) (r : Result After (Stop × After)) → run e.slices (at s [] e.answers) ≡ r
-    → play_from base s number (epoch e ∷ others) tail ≡ either r (λ stop. stopped (Err (bad_epoch number))) (λ here. played_after here.output (play_from base here.state (number + 1) others tail))
+pub epoch_plays : (base s : State) (number : ℕ) (e : Epoch) (others : List Record) (tail : Tail) (r : Result After (Stop × After)) → run e.slices (new_after s [] e.answers) ≡ r
+    → play_from base s number (epoch e ∷ others) tail ≡ by_result r (λ stop. stopped (Err (bad_epoch number))) (λ here. played_after here.output (play_from base here.state (number + 1) others tail))
 unfolding play_from
 epoch_plays base s number e others tail r ran =
-    ap (λ (x : Result After (Stop × After)). either x (λ stop. stopped (Err (bad_epoch number))) (λ here. played_after here.output (play_from base here.state (number + 1) others tail))) ran
+    ap (λ (x : Result After (Stop × After)). by_result x (λ stop. stopped (Err (bad_epoch number))) (λ here. played_after here.output (play_from base here.state (number + 1) others tail))) ran
 
 -- what a play with a mark in front of others comes to, by whether the mark is right
 abbrev pub after_mark : (right : Bool) → (s : State) → (number : ℕ) → List Record → Tail → Played
@@ -222,15 +222,15 @@ module _ (reading : Reading) (file : List ℕ) (first now : Option History) (p :
   -- ---- an epoch is next
 
   module _ (next : ℕ) (e : Epoch) (one : list_from (drop p.at file) ≡ (epoch e ∷ (list_from (drop next file)).0, (list_from (drop next file)).1)) where
-    pub epoch_refused : (stop : Stop × After) → run e.slices (at p.state [] e.answers) ≡ Err stop → Replayed (Some reading) first now (Err (faults.BadEpoch p.number))
+    pub epoch_refused : (stop : Stop × After) → run e.slices (new_after p.state [] e.answers) ≡ Err stop → Replayed (Some reading) first now (Err (faults.BadEpoch p.number))
     epoch_refused stop ran =
         refused (bad_epoch p.number) (left_plays next (epoch e) one (stopped (Err (bad_epoch p.number))) (epoch_plays p.base p.state p.number e (left_at file next) reading.tail (Err stop) ran))
 
-    module _ (s : State) (output : List ℕ) (rest : List Answer) (ran : run e.slices (at p.state [] e.answers) ≡ Ok (at s output rest)) where
+    module _ (s : State) (output : List ℕ) (rest : List Answer) (ran : run e.slices (new_after p.state [] e.answers) ≡ Ok (new_after s output rest)) where
       plays_behind : play_of reading ≡ played_after (so_far.output ++ output) (play_from p.base s (p.number + 1) (left_at file next) reading.tail)
       plays_behind =
           plays_on (played_after output (play_from p.base s (p.number + 1) (left_at file next) reading.tail))
-          (left_plays next (epoch e) one (played_after output (play_from p.base s (p.number + 1) (left_at file next) reading.tail)) (epoch_plays p.base p.state p.number e (left_at file next) reading.tail (Ok (at s output rest)) ran))
+          (left_plays next (epoch e) one (played_after output (play_from p.base s (p.number + 1) (left_at file next) reading.tail)) (epoch_plays p.base p.state p.number e (left_at file next) reading.tail (Ok (new_after s output rest)) ran))
           ∙ behind_twice so_far.output output (play_from p.base s (p.number + 1) (left_at file next) reading.tail)
 
       pub epoch_sent : (later : Option History) (count : ℕ) → count ≡ length output → IfKnown (Sent Out output true) now later

@@ -14,7 +14,7 @@ use Rattle.disk_model.specs.Known.{IfKnown}
 use Rattle.disk_model.specs.declared.world.Stream.TheVariants.{Out}
 use Rattle.device.specs.Sending.{Sent}
 use Rattle.guest_kernel.specs.declared.state.State.{State}
-use Rattle.guest_kernel.specs.Slices.{at, run}
+use Rattle.guest_kernel.specs.Slices.{new_after, run}
 use Rattle.guest_state.specs.Checkpoint.{Checkpoint, IsCheckpoint, checkpoint_bytes}
 use Rattle.checkpoint.specs.State.{IsEncodable, checkpoint_of}
 use Rattle.partial_mark.specs.Base.{applied}
@@ -87,7 +87,7 @@ partial_opened base body m None is_m body_is right = tt
 
 pub grown : (file : List ℕ) (first : ℕ) (base start : State) (place : ℕ) (state : State) (output : List ℕ) (records epochs : ℕ) → IsRun file first base start place state output records epochs
     → (next : ℕ) (e : Epoch) → list_from (drop place file) ≡ (epoch e ∷ (list_from (drop next file)).0, (list_from (drop next file)).1) → place < next → next ≤ length file
-    → (s : State) (out : List ℕ) (left : List Answer) → run e.slices (at state [] e.answers) ≡ Ok (at s out left)
+    → (s : State) (out : List ℕ) (left : List Answer) → run e.slices (new_after state [] e.answers) ≡ Ok (new_after s out left)
     → steps_of e.slices ≤ MAX_EPOCH_STEPS → s.steps ≡ state.steps + steps_of e.slices → s.input ≤ state.input + MAX_CALL_BYTES * steps_of e.slices → length out ≤ MAX_CALL_BYTES * steps_of e.slices
     → (IsEncodable state → IsEncodable s)
     → IsRun file first base start next s (output ++ out) (records + 1) (epochs + 1)
@@ -96,7 +96,7 @@ grown file first base start place state output records epochs is next e one furt
     record {
       plays = λ number tail.
           is.plays number tail
-          ∙ ap (played_after output) (ap (λ (l : List Record). play_from start state (number + records) l tail) one_left ∙ epoch_plays start state (number + records) e (left_at file next) tail (Ok (at s out left)) ran)
+          ∙ ap (played_after output) (ap (λ (l : List Record). play_from start state (number + records) l tail) one_left ∙ epoch_plays start state (number + records) e (left_at file next) tail (Ok (new_after s out left)) ran)
           ∙ behind_twice output out (play_from start s ((number + records) + 1) (left_at file next) tail)
           ∙ ap (λ (n : ℕ). played_after (output ++ out) (play_from start s n (left_at file next) tail)) (omega arith);
       rest = is.rest ∙ ap (λ (l : List Record × List ℕ). l.1) one;

@@ -9,7 +9,7 @@ use Rattle.dp_base.specs.Journal.{Epoch, steps_of}
 use Rattle.guest_kernel.specs.declared.state.State.{State}
 use Rattle.guest_kernel.specs.Answers.{bytes_read}
 use Rattle.guest_kernel.specs.Call.{After, TurnRefusal}
-use Rattle.guest_kernel.specs.Slices.{at, joined, run, slices, turns}
+use Rattle.guest_kernel.specs.Slices.{new_after, joined, run, slices, turns}
 use Rattle.guest_kernel.specs.State.{has_ended, without_reservation}
 use Rattle.guest_kernel.specs.Turn.{turn, yields}
 use Rattle.epoch_runner.specs.declared.bounds.Bounds.{Bounds}
@@ -32,8 +32,8 @@ pub record PartOfSlice (start : State) (c : Course) (tid : Tid) : Type 0 where
   pub taken : List Answer
   pub mid : After
   pub there : After
-  pub ran : run c.done (at start [] before) ≡ Ok mid
-  pub took : turns 0 c.in_slice tid (at mid.state [] taken) ≡ Ok there
+  pub ran : run c.done (new_after start [] before) ≡ Ok mid
+  pub took : turns 0 c.in_slice tid (new_after mid.state [] taken) ≡ Ok there
   pub state_is : c.state ≡ there.state
   pub output_is : c.output ≡ mid.output ++ there.output
   pub answers_are : c.answers ≡ before ++ taken
@@ -57,7 +57,7 @@ pub record Holds (start : State) (bounds : Bounds) (n : ℕ) (c : Course) : Type
   pub little_read : length (bytes_read c.answers) < EPOCH_END_BYTES + MAX_CALL_BYTES
   pub ran : RanSoFar start c c.last
 
-none_run : (start : State) → run [] (at start [] []) ≡ Ok (at start [] [])
+none_run : (start : State) → run [] (new_after start [] []) ≡ Ok (new_after start [] [])
 unfolding slices
 none_run start = refl
 
@@ -90,16 +90,16 @@ same_without start hints other w bounds e output end none without is =
 
 module _ (turn_laws : TurnLaws) (run_laws : RunLaws) (reserved : ReservationLaw) where
   closed_ran : (start : State) (c : Course) (last : Option Tid) → RanSoFar start c last
-      → run (closed_by c last).done (at start [] (closed_by c last).answers) ≡ Ok (at (closed_by c last).state (closed_by c last).output [])
+      → run (closed_by c last).done (new_after start [] (closed_by c last).answers) ≡ Ok (new_after (closed_by c last).state (closed_by c last).output [])
   closed_ran start c None so_far =
-      ap (λ xs. run xs (at start [] c.answers)) so_far.done ∙ ap (λ a. run [] (at start [] a)) so_far.answers_are ∙ none_run start
-      ∙ ap (λ s. Ok (at s [] [])) (sym so_far.state_is) ∙ ap (λ o. Ok (at c.state o [])) (sym so_far.output_is)
+      ap (λ xs. run xs (new_after start [] c.answers)) so_far.done ∙ ap (λ a. run [] (new_after start [] a)) so_far.answers_are ∙ none_run start
+      ∙ ap (λ s. Ok (new_after s [] [])) (sym so_far.state_is) ∙ ap (λ o. Ok (new_after c.state o [])) (sym so_far.output_is)
   closed_ran start c (Some tid) so_far =
-      ap (λ a. run (closed_by c (Some tid)).done (at start [] a)) so_far.answers_are
+      ap (λ a. run (closed_by c (Some tid)).done (new_after start [] a)) so_far.answers_are
       ∙ run_laws.slice_more start c.done tid c.in_slice so_far.before so_far.taken so_far.mid so_far.there so_far.ran so_far.took so_far.rest
-      ∙ ap (λ s. Ok (at (without_reservation s tid) (so_far.mid.output ++ so_far.there.output) so_far.there.rest)) (sym so_far.state_is)
-      ∙ ap (λ o. Ok (at (without_reservation c.state tid) o so_far.there.rest)) (sym so_far.output_is)
-      ∙ ap (λ r. Ok (at (without_reservation c.state tid) c.output r)) so_far.rest
+      ∙ ap (λ s. Ok (new_after (without_reservation s tid) (so_far.mid.output ++ so_far.there.output) so_far.there.rest)) (sym so_far.state_is)
+      ∙ ap (λ o. Ok (new_after (without_reservation c.state tid) o so_far.there.rest)) (sym so_far.output_is)
+      ∙ ap (λ r. Ok (new_after (without_reservation c.state tid) c.output r)) so_far.rest
 
   -- a turn within a slice
   goes_more : (start : State) (w : Supplied) (bounds : Bounds) (n : ℕ) (c d : Course) (tid : Tid) (hints : Option Following) (r : Result After TurnRefusal) → steps_of c.done + c.in_slice ≡ n → PartOfSlice start c tid → n < bounds.steps
@@ -122,7 +122,7 @@ module _ (turn_laws : TurnLaws) (run_laws : RunLaws) (reserved : ReservationLaw)
         mid = part.mid;
         there = joined there after;
         ran = part.ran;
-        took = run_laws.more tid c.in_slice (at part.mid.state [] (part.taken ++ more)) there after (run_laws.longer tid 0 c.in_slice part.mid.state [] part.taken more part.there part.took) taken;
+        took = run_laws.more tid c.in_slice (new_after part.mid.state [] (part.taken ++ more)) there after (run_laws.longer tid 0 c.in_slice part.mid.state [] part.taken more part.there part.took) taken;
         state_is = refl;
         output_is = ap (λ o. o ++ after.output) part.output_is ∙ append_assoc part.mid.output part.there.output after.output;
         answers_are = ap (λ a. a ++ more) part.answers_are ∙ append_assoc part.before part.taken more;
@@ -138,14 +138,14 @@ module _ (turn_laws : TurnLaws) (run_laws : RunLaws) (reserved : ReservationLaw)
       subst (Holds start bounds (suc n)) same grown
 
   -- a slice that begins has no turn yet
-  part_begun : (start : State) (c : Course) (tid : Tid) → run c.done (at start [] c.answers) ≡ Ok (at c.state c.output []) → c.in_slice ≡ 0 → PartOfSlice start c tid
+  part_begun : (start : State) (c : Course) (tid : Tid) → run c.done (new_after start [] c.answers) ≡ Ok (new_after c.state c.output []) → c.in_slice ≡ 0 → PartOfSlice start c tid
   part_begun start c tid ran empty = record {
     before = c.answers;
     taken = [];
-    mid = at c.state c.output [];
-    there = at c.state [] [];
+    mid = new_after c.state c.output [];
+    there = new_after c.state [] [];
     ran = ran;
-    took = ap (λ n. turns 0 n tid (at c.state [] [])) empty ∙ none_yet tid (at c.state [] []);
+    took = ap (λ n. turns 0 n tid (new_after c.state [] [])) empty ∙ none_yet tid (new_after c.state [] []);
     state_is = refl;
     output_is = sym (append-nil c.output);
     answers_are = sym (append-nil c.answers);
@@ -183,14 +183,14 @@ module _ (turn_laws : TurnLaws) (run_laws : RunLaws) (reserved : ReservationLaw)
   course_holds start hints w bounds zero d went = let same : starting start hints ≡ d = cc in subst (Holds start bounds 0) same (holds_start start hints bounds)
   course_holds start hints w bounds (suc n) d went = by_course start w bounds n d (course n w bounds (starting start hints)) (λ c is. course_holds start hints w bounds n c is) went
 
-  pub scheduled_run : (start : State) (hints : Hints) (w : Supplied) (bounds : Bounds) (e : Epoch) (output : List ℕ) (end : State) → IsScheduled start hints w bounds e output end → run e.slices (at start [] e.answers) ≡ Ok (at end output [])
+  pub scheduled_run : (start : State) (hints : Hints) (w : Supplied) (bounds : Bounds) (e : Epoch) (output : List ℕ) (end : State) → IsScheduled start hints w bounds e output end → run e.slices (new_after start [] e.answers) ≡ Ok (new_after end output [])
   scheduled_run start hints w bounds e output end is =
       let holds = course_holds start hints w bounds is.turns is.last is.went in
-      ap (λ ys. run ys (at start [] e.answers)) is.slices_are
-      ∙ ap (λ a. run (closed is.last).done (at start [] a)) (is.answers_are ∙ sym (closed_answers is.last is.last.last))
+      ap (λ ys. run ys (new_after start [] e.answers)) is.slices_are
+      ∙ ap (λ a. run (closed is.last).done (new_after start [] a)) (is.answers_are ∙ sym (closed_answers is.last is.last.last))
       ∙ closed_ran start is.last is.last.last holds.ran
-      ∙ ap (λ s. Ok (at s (closed is.last).output [])) (sym is.end_is)
-      ∙ ap (λ o. Ok (at end o [])) (closed_output is.last is.last.last ∙ sym is.output_is)
+      ∙ ap (λ s. Ok (new_after s (closed is.last).output [])) (sym is.end_is)
+      ∙ ap (λ o. Ok (new_after end o [])) (closed_output is.last is.last.last ∙ sym is.output_is)
 
   pub scheduled_little : (start : State) (hints : Hints) (w : Supplied) (bounds : Bounds) (e : Epoch) (output : List ℕ) (end : State) → IsScheduled start hints w bounds e output end → length output < EPOCH_END_BYTES + MAX_CALL_BYTES
   scheduled_little start hints w bounds e output end is =

@@ -14,7 +14,7 @@ use Rattle.guest_kernel.specs.declared.state.State.{State}
 use Rattle.guest_kernel.specs.Answers.{bytes_read}
 use Rattle.guest_kernel.specs.Call.{After}
 use Rattle.guest_kernel.specs.Peek.{peeked}
-use Rattle.guest_kernel.specs.Slices.{at}
+use Rattle.guest_kernel.specs.Slices.{new_after}
 use Rattle.guest_kernel.specs.State.{has_ended}
 use Rattle.guest_kernel.specs.Threads.{thread_at}
 use Rattle.guest_kernel.specs.Turn.{turn, yields}
@@ -202,7 +202,7 @@ module _ (laws : TurnLaws) (reserved : ReservationLaw) where
       }
     where
       CommonAt : State → After
-      CommonAt z = at z [] []
+      CommonAt z = new_after z [] []
 
   -- the turn's thread can step where its slice is in hand
   pub turn_open : (w : Supplied) (s : State) (hand : Option Slice) (slices : List Slice) (f f1 : Following) (turn : HintTurn) (begins : Bool) (after : State) (over : List Slice) (held : Option Slice) → has_ended s.end ≡ false

@@ -12,7 +12,7 @@ use Rattle.guest_kernel.specs.declared.turn.Turn.TheVariants as answers
 use Rattle.guest_kernel.specs.declared.state.State.{State}
 use Rattle.guest_kernel.specs.Answers.{bytes_read}
 use Rattle.guest_kernel.specs.Call.{After, TurnRefusal}
-use Rattle.guest_kernel.specs.Slices.{at, either, joined, turns}
+use Rattle.guest_kernel.specs.Slices.{new_after, by_result, joined, turns}
 use Rattle.guest_kernel.specs.State.{has_ended}
 use Rattle.guest_kernel.specs.Turn.{output_after, state_after, turn, turn_answer, yields}
 use Rattle.guest_kernel.proofs.SliceRuns.{first_turn}
@@ -31,7 +31,7 @@ use Rattle.supply.specs.Supplied.{Supplied}
 
 turn_first : (taken n : ℕ) (tid : Tid) (here after : After) → turn here.state tid here.rest ≡ Ok after → turns taken (suc n) tid here ≡ turns (taken + 1) n tid (joined here after)
 unfolding turns
-turn_first taken n tid here after is = ap (λ (r : Result After TurnRefusal). either r (λ refusal. Err (taken, here)) (λ b. turns (taken + 1) n tid (joined here b))) is
+turn_first taken n tid here after is = ap (λ (r : Result After TurnRefusal). by_result r (λ refusal. Err (taken, here)) (λ b. turns (taken + 1) n tid (joined here b))) is
 
 no_turns : (taken : ℕ) (tid : Tid) (here there : After) → turns taken zero tid here ≡ Ok there → here ≡ there
 unfolding turns
@@ -42,8 +42,8 @@ unfolding turns
 none_yet tid here = refl
 
 -- where no turn was taken nothing has changed
-pub stayed : (steps : ℕ) (tid : Tid) (s there : State) → steps ≤ 0 → turns 0 steps tid (at s [] []) ≡ Ok (at there [] []) → there ≡ s
-stayed zero tid s there none is = let same = no_turns 0 tid (at s [] []) (at there [] []) is in ap (λ (x : After). x.state) (sym same)
+pub stayed : (steps : ℕ) (tid : Tid) (s there : State) → steps ≤ 0 → turns 0 steps tid (new_after s [] []) ≡ Ok (new_after there [] []) → there ≡ s
+stayed zero tid s there none is = let same = no_turns 0 tid (new_after s [] []) (new_after there [] []) is in ap (λ (x : After). x.state) (sym same)
 stayed (suc n) tid s there none is = absurd (omega (arith, none))
 
 -- how many were taken before doesn't matter
@@ -93,36 +93,36 @@ step_by w bounds s t done tid before hints left after goes is =
 -- While a slice goes on, by what is left of the hints after each of its steps.
 abbrev pub KeepsOn : Supplied → Bounds → State → Traced → List Slice → Tid → (before n : ℕ) → (hints : ℕ → Option Following) → Type 0
 KeepsOn w bounds s t done tid before n hints =
-    (j m : ℕ) (mid : After) → j < n → m ≡ before + j → turns 0 j tid (at s [] []) ≡ Ok mid → has_ended mid.state.end ≡ false → ready_at mid.state w tid ≡ true
+    (j m : ℕ) (mid : After) → j < n → m ≡ before + j → turns 0 j tid (new_after s [] []) ≡ Ok mid → has_ended mid.state.end ≡ false → ready_at mid.state w tid ≡ true
     → next_step mid.state w bounds (progress (inside_by mid.state t done tid m false (hints m))) ≡ turn_of tid false (hints (m + 1))
 
 module _ (laws : TurnLaws) where
   -- turns that write nothing and take nothing, of which none is a yield
   pub stretch_by : (n taken : ℕ) (w : Supplied) (bounds : Bounds) (s there : State) (t : Traced) (done : List Slice) (tid : Tid) (before : ℕ) (hints : ℕ → Option Following) → KeepsOn w bounds s t done tid before n hints
-      → turns taken n tid (at s [] []) ≡ Ok (at there [] []) → ((count : ℕ) (mid : After) → count < n → turns 0 count tid (at s [] []) ≡ Ok mid → yields mid.state tid ≡ false)
+      → turns taken n tid (new_after s [] []) ≡ Ok (new_after there [] []) → ((count : ℕ) (mid : After) → count < n → turns 0 count tid (new_after s [] []) ≡ Ok mid → yields mid.state tid ≡ false)
       → course n w bounds (inside_by s t done tid before false (hints before)) ≡ Some (inside_by there t done tid (before + n) false (hints (before + n)))
   unfolding course
   stretch_by zero taken w bounds s there t done tid before hints keeps is no_yield =
-      let same = no_turns taken tid (at s [] []) (at there [] []) is in
+      let same = no_turns taken tid (new_after s [] []) (new_after there [] []) is in
       let none : before ≡ before + zero = omega arith in
       ap (λ (x : After). Some (inside_by x.state t done tid before false (hints before))) same ∙ ap (λ n. Some (inside_by there t done tid n false (hints n))) none
   stretch_by (suc n) taken w bounds s there t done tid before hints keeps is no_yield =
-      let one = first_turn taken n tid (at s [] []) (at there [] []) is in
+      let one = first_turn taken n tid (new_after s [] []) (new_after there [] []) is in
       let after = one.0 in
-      let silent : after.output ≡ [] = nil_from_length after.output (omega (arith, turns_write n (taken + 1) tid (joined (at s [] []) after) (at there [] []) one.2)) in
+      let silent : after.output ≡ [] = nil_from_length after.output (omega (arith, turns_write n (taken + 1) tid (joined (new_after s [] []) after) (new_after there [] []) one.2)) in
       let alone = silent_turn laws s w tid after one.1 in
-      let here : joined (at s [] []) after ≡ at after.state [] [] = ap (λ o. at after.state o after.rest) silent ∙ ap (at after.state []) alone.2 in
-      let others : turns (taken + 1) n tid (at after.state [] []) ≡ Ok (at there [] []) = ap (turns (taken + 1) n tid) (sym here) ∙ one.2 in
-      let no_yield_now : yields s tid ≡ false = no_yield 0 (at s [] []) (omega arith) (none_yet tid (at s [] [])) in
+      let here : joined (new_after s [] []) after ≡ new_after after.state [] [] = ap (λ o. new_after after.state o after.rest) silent ∙ ap (new_after after.state []) alone.2 in
+      let others : turns (taken + 1) n tid (new_after after.state [] []) ≡ Ok (new_after there [] []) = ap (turns (taken + 1) n tid) (sym here) ∙ one.2 in
+      let no_yield_now : yields s tid ≡ false = no_yield 0 (new_after s [] []) (omega arith) (none_yet tid (new_after s [] [])) in
       let taken_so : turn s tid (answers_for s w tid) ≡ Ok after = ap (turn s tid) alone.0 ∙ one.1 in
-      let goes = keeps 0 before (at s [] []) (omega arith) (omega arith) (none_yet tid (at s [] [])) (laws.going s tid [] after one.1) alone.1 in
+      let goes = keeps 0 before (new_after s [] []) (omega arith) (omega arith) (none_yet tid (new_after s [] [])) (laws.going s tid [] after one.1) alone.1 in
       let stepped : step w bounds (inside_by s t done tid before false (hints before)) ≡ Some (inside_by after.state t done tid (before + 1) false (hints (before + 1))) =
       step_by w bounds s t done tid before (hints before) (hints (before + 1)) after goes taken_so
       ∙ ap (λ o. Some (inside_by after.state o done tid (before + 1) (yields s tid) (hints (before + 1)))) (nothing_more t after.output (answers_for s w tid) silent alone.0)
       ∙ ap (λ y. Some (inside_by after.state t done tid (before + 1) y (hints (before + 1)))) no_yield_now in
       let count : (before + 1) + n ≡ before + suc n = omega arith in
-      let first : (k : ℕ) (mid : After) → turns 0 k tid (at after.state [] []) ≡ Ok mid → turns 0 (suc k) tid (at s [] []) ≡ Ok mid =
-      λ k mid ran. turn_first 0 k tid (at s [] []) after one.1 ∙ ap (turns (0 + 1) k tid) here ∙ turns_taken k 0 (0 + 1) tid (at after.state [] []) mid ran in
+      let first : (k : ℕ) (mid : After) → turns 0 k tid (new_after after.state [] []) ≡ Ok mid → turns 0 (suc k) tid (new_after s [] []) ≡ Ok mid =
+      λ k mid ran. turn_first 0 k tid (new_after s [] []) after one.1 ∙ ap (turns (0 + 1) k tid) here ∙ turns_taken k 0 (0 + 1) tid (new_after after.state [] []) mid ran in
       course-step n w bounds (inside_by s t done tid before false (hints before)) (inside_by after.state t done tid (before + 1) false (hints (before + 1))) stepped
       ∙ stretch_by n (taken + 1) w bounds after.state there t done tid (before + 1) hints
       (λ j m mid within m_is ran alive ready. keeps (suc j) m mid (omega (arith, within)) (omega (arith, m_is)) (first j mid ran) alive ready) others
@@ -141,12 +141,12 @@ module _ (laws : TurnLaws) where
       → step w bounds (inside s t done tid before false) ≡ Some (inside after.state (traced_more t after.output (answers_for s w tid)) done tid (before + 1) (yields s tid))
   one_step w bounds s t done tid before after room ready is =
       step_by w bounds s t done tid before None None after
-      (keeps_on w bounds s t done tid before 1 room 0 before (at s [] []) (omega arith) (omega arith) (none_yet tid (at s [] [])) (laws.going s tid (answers_for s w tid) after is) ready) is
+      (keeps_on w bounds s t done tid before 1 room 0 before (new_after s [] []) (omega arith) (omega arith) (none_yet tid (new_after s [] [])) (laws.going s tid (answers_for s w tid) after is) ready) is
 
   -- a stretch of plain steps
   pub stretch_moved : (w : Supplied) (tid : Tid) (limit steps : ℕ) (s there : State) (t : Traced) → length t.output < EPOCH_END_BYTES → length (bytes_read t.answers) < EPOCH_END_BYTES → 0 < steps → steps ≤ limit
       → there.steps ≡ s.steps + steps
-      → turns 0 steps tid (at s [] []) ≡ Ok (at there [] []) → ((count : ℕ) (mid : After) → count < steps → turns 0 count tid (at s [] []) ≡ Ok mid → yields mid.state tid ≡ false)
+      → turns 0 steps tid (new_after s [] []) ≡ Ok (new_after there [] []) → ((count : ℕ) (mid : After) → count < steps → turns 0 count tid (new_after s [] []) ≡ Ok mid → yields mid.state tid ≡ false)
       → IsMoved w tid limit s t steps false there t
   stretch_moved w tid limit steps s there t little little_read some few counted is no_yield = record {
     some = some;

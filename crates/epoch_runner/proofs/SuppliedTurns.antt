@@ -11,7 +11,7 @@ use Rattle.guest_kernel.specs.declared.state.State.{State}
 use Rattle.guest_kernel.specs.Answers.{bytes_read}
 use Rattle.guest_kernel.specs.Call.{After, TurnRefusal}
 use Rattle.guest_kernel.specs.Peek.{peeked}
-use Rattle.guest_kernel.specs.Slices.{at, either, joined, one_slice, turns}
+use Rattle.guest_kernel.specs.Slices.{new_after, by_result, joined, one_slice, turns}
 use Rattle.guest_kernel.specs.State.{has_ended, without_reservation}
 use Rattle.guest_kernel.specs.Threads.{thread_at}
 use Rattle.guest_kernel.specs.Turn.{turn, yields}
@@ -77,15 +77,15 @@ abbrev undefined_at : After → TurnRefusal → Result After (ℕ × After)
 undefined_at here refusal = Err (0, here)
 
 abbrev one_turn_from : After → Result After TurnRefusal → Result After (ℕ × After)
-one_turn_from here r = either r (undefined_at here) (λ after. Ok (joined here after))
+one_turn_from here r = by_result r (undefined_at here) (λ after. Ok (joined here after))
 
 -- a turn with answers left
 turn_longer : RunLaws → (s : State) (tid : Tid) (log more : List Answer) (there : After) → turn s tid log ≡ Ok there → turn s tid (log ++ more) ≡ Ok (record there { rest = there.rest ++ more })
 unfolding turns
 turn_longer laws s tid log more there is =
-    by_one (turn s tid (log ++ more)) (laws.longer tid 0 1 s [] log more there (ap (one_turn_from (at s [] log)) is))
+    by_one (turn s tid (log ++ more)) (laws.longer tid 0 1 s [] log more there (ap (one_turn_from (new_after s [] log)) is))
   where
-    by_one : (r : Result After TurnRefusal) → one_turn_from (at s [] (log ++ more)) r ≡ Ok (record there { rest = there.rest ++ more }) → r ≡ Ok (record there { rest = there.rest ++ more })
+    by_one : (r : Result After TurnRefusal) → one_turn_from (new_after s [] (log ++ more)) r ≡ Ok (record there { rest = there.rest ++ more }) → r ≡ Ok (record there { rest = there.rest ++ more })
     by_one (Ok after) e = cc
     by_one (Err refusal) e = absurd cc
 

@@ -9,7 +9,7 @@ use Rattle.guest_kernel.specs.declared.state.State.{State}
 use Rattle.guest_kernel.specs.Answers.{bytes_read}
 use Rattle.guest_kernel.specs.Call.{After}
 use Rattle.guest_kernel.specs.Peek.{peeked}
-use Rattle.guest_kernel.specs.Slices.{at, turns}
+use Rattle.guest_kernel.specs.Slices.{new_after, turns}
 use Rattle.guest_kernel.specs.State.{has_ended, without_reservation}
 use Rattle.guest_kernel.specs.Turn.{turn, yields}
 use Rattle.epoch_runner.specs.Answering.{answers_for, can_step}
@@ -92,9 +92,9 @@ pub record HasTurned (w : Supplied) (tid : Tid) (s : State) (before : Traced) (y
 -- plain turns of a thread, of which none is a yield
 pub record HasGonePlain (tid : Tid) (s : State) (before : Traced) (steps : ℕ) (after : State) (behind : Traced) : Type 0 where
   pub some : 0 < steps
-  pub took : turns 0 steps tid (at s [] []) ≡ Ok (at after [] [])
-  pub no_yield : (count : ℕ) (mid : After) → count < steps → turns 0 count tid (at s [] []) ≡ Ok mid → yields mid.state tid ≡ false
-  pub plain : (count : ℕ) (mid : After) → count < steps → turns 0 count tid (at s [] []) ≡ Ok mid → peeked mid.state tid ≡ peeks.Plain
+  pub took : turns 0 steps tid (new_after s [] []) ≡ Ok (new_after after [] [])
+  pub no_yield : (count : ℕ) (mid : After) → count < steps → turns 0 count tid (new_after s [] []) ≡ Ok mid → yields mid.state tid ≡ false
+  pub plain : (count : ℕ) (mid : After) → count < steps → turns 0 count tid (new_after s [] []) ≡ Ok mid → peeked mid.state tid ≡ peeks.Plain
   pub counted : after.steps ≡ s.steps + steps
   pub same : behind ≡ before
 

@@ -11,7 +11,7 @@ use Rattle.guest_kernel.specs.declared.state.State.{State}
 use Rattle.guest_kernel.specs.Answers.{bytes_read}
 use Rattle.guest_kernel.specs.Call.{After}
 use Rattle.guest_kernel.specs.Peek.{peeked, rest_by, rest_of}
-use Rattle.guest_kernel.specs.Slices.{at, joined, one_slice, run, slice_ended, turns}
+use Rattle.guest_kernel.specs.Slices.{new_after, joined, one_slice, run, slice_ended, turns}
 use Rattle.guest_kernel.specs.State.{has_ended}
 use Rattle.guest_kernel.specs.Threads.{runs_at}
 use Rattle.guest_kernel.specs.Turn.{turn}
@@ -33,11 +33,11 @@ pub record TurnLaws : Type 0 where
 pub record RunLaws : Type 0 where
   pub reads : (s : State) (tid : Tid) (log : List Answer) (after : After) → turn s tid log ≡ Ok after → after.state.input ≤ s.input + MAX_CALL_BYTES
   pub writes : (s : State) (tid : Tid) (log : List Answer) (after : After) → turn s tid log ≡ Ok after → length after.output ≤ MAX_CALL_BYTES
-  pub longer : (tid : Tid) (taken count : ℕ) (s : State) (out : List ℕ) (log more : List Answer) (there : After) → turns taken count tid (at s out log) ≡ Ok there
-      → turns taken count tid (at s out (log ++ more)) ≡ Ok (record there { rest = there.rest ++ more })
+  pub longer : (tid : Tid) (taken count : ℕ) (s : State) (out : List ℕ) (log more : List Answer) (there : After) → turns taken count tid (new_after s out log) ≡ Ok there
+      → turns taken count tid (new_after s out (log ++ more)) ≡ Ok (record there { rest = there.rest ++ more })
   pub more : (tid : Tid) (steps : ℕ) (start here after : After) → turns 0 steps tid start ≡ Ok here → turn here.state tid here.rest ≡ Ok after → turns 0 (steps + 1) tid start ≡ Ok (joined here after)
-  pub slice_more : (s : State) (xs : List Slice) (tid : Tid) (steps : ℕ) (first second : List Answer) (mid there : After) → run xs (at s [] first) ≡ Ok mid → turns 0 steps tid (at mid.state [] second) ≡ Ok there → there.rest ≡ []
-      → run (xs ++ one_slice tid steps) (at s [] (first ++ second)) ≡ Ok (joined mid (slice_ended tid there))
+  pub slice_more : (s : State) (xs : List Slice) (tid : Tid) (steps : ℕ) (first second : List Answer) (mid there : After) → run xs (new_after s [] first) ≡ Ok mid → turns 0 steps tid (new_after mid.state [] second) ≡ Ok there → there.rest ≡ []
+      → run (xs ++ one_slice tid steps) (new_after s [] (first ++ second)) ≡ Ok (joined mid (slice_ended tid there))
 
 -- what a turn asks for doesn't hang on its thread's reservation
 abbrev pub ReservationLaw : Type 0

@@ -4,7 +4,7 @@ use Rattle.dp_base.specs.Journal.{IsBody, IsEpoch, epoch_body, steps_of}
 use Rattle.dp_base.specs.Journal as journals
 use Rattle.epoch_record.specs.Epoch.{epoch_of}
 use Rattle.guest_kernel.specs.declared.state.State.{State}
-use Rattle.guest_kernel.specs.Slices.{at, run}
+use Rattle.guest_kernel.specs.Slices.{new_after, run}
 use Rattle.epoch_runner.specs.declared.bounds.Bounds.{Bounds}
 use Rattle.epoch_runner.specs.declared.epoch_run.EpochRun.{EpochRun}
 use Rattle.epoch_runner.specs.declared.epoch_run.Ran.{Ran}
@@ -16,7 +16,7 @@ use Rattle.sync_hints.specs.declared.hints.Hints.{Hints}
 
 -- an epoch that has a record, run from a state to another, with what it wrote
 pub record IsRunOf (start : State) (e : journals.Epoch) (output : List ℕ) (end : State) : Type 0 where
-  pub ran : run e.slices (at start [] e.answers) ≡ Ok (at end output [])
+  pub ran : run e.slices (new_after start [] e.answers) ≡ Ok (new_after end output [])
   pub counted : end.steps ≡ start.steps + steps_of e.slices
   pub is_epoch : IsEpoch e
   pub fits : IsBody (epoch_body e)

@@ -2,7 +2,7 @@
 ghost use Rattle.std.specs.Prelude.{◌≡◌, [], Ok};
 ghost use Rattle.dp_base.specs.Journal.{IsBody, IsEpoch, epoch_body};
 ghost use Rattle.epoch_record.specs.Epoch.{epoch_of};
-ghost use Rattle.guest_kernel.specs.Slices.{at, run};
+ghost use Rattle.guest_kernel.specs.Slices.{new_after, run};
 
 use dp_base::Bytes;
 use epoch_record::Epoch;
@@ -15,7 +15,7 @@ pub struct EpochRun {
     pub epoch: Epoch,
     pub out: Bytes,
     pub end: State,
-    ghost runs: { ∥ run (epoch_of epoch).slices (at start [] (epoch_of epoch).answers) ≡ Ok (at end out []) ∥₁ },
+    ghost runs: { ∥ run (epoch_of epoch).slices (new_after start [] (epoch_of epoch).answers) ≡ Ok (new_after end out []) ∥₁ },
     ghost is_epoch: { ∥ IsEpoch (epoch_of epoch) ∥₁ },
     ghost fits: { ∥ IsBody (epoch_body (epoch_of epoch)) ∥₁ },
 }

@@ -8,7 +8,7 @@ ghost use Rattle.dp_base.specs.declared.tid.Tid.{Tid};
 ghost use Rattle.dp_base.specs.Journal.{Epoch, steps_of};
 ghost use Rattle.guest_kernel.specs.Answers.{bytes_read};
 ghost use Rattle.guest_kernel.specs.declared.state.State.{State};
-ghost use Rattle.guest_kernel.specs.Slices.{at, run};
+ghost use Rattle.guest_kernel.specs.Slices.{new_after, run};
 ghost use Rattle.guest_kernel.specs.State.{has_ended};
 ghost use Rattle.guest_kernel.specs.Threads.{is_running};
 ghost use Rattle.epoch_runner.specs.Answering.{can_step, input_due, ready_at};
@@ -31,7 +31,7 @@ pub fn a_schedule_is_determined()
 /// A run by the schedule is the run of its slices, which uses its answers up.
 pub fn a_scheduled_run_is_a_run()
     ensures { (start : State) (hints : Hints) (w : Supplied) (bounds : Bounds) (e : Epoch) (output : List ℕ) (end : State) →
-        IsScheduled start hints w bounds e output end → run e.slices (at start [] e.answers) ≡ Ok (at end output []) }
+        IsScheduled start hints w bounds e output end → run e.slices (new_after start [] e.answers) ≡ Ok (new_after end output []) }
 {
     turn_laws();
     run_laws();

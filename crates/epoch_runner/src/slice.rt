@@ -8,7 +8,7 @@ ghost use Rattle.epoch_runner.specs.HintRun.{HasTurned};
 ghost use Rattle.epoch_runner.specs.SliceRun.{IsMoved, IsSliceRun, can_take};
 ghost use Rattle.guest_kernel.specs.Call.{After};
 ghost use Rattle.guest_kernel.specs.Peek.{peeked};
-ghost use Rattle.guest_kernel.specs.Slices.{at, turns};
+ghost use Rattle.guest_kernel.specs.Slices.{new_after, turns};
 ghost use Rattle.guest_kernel.specs.Turn.{yields};
 ghost use Rattle.epoch_runner.specs.Trace.{traced};
 
@@ -141,8 +141,8 @@ pub(crate) fn one_turn(
 fn stretch(state: &mut State, tid: Tid, peek: Peek, limit: u32) -> u32
     requires { state.old.steps + limit < 2 ^ 64 }
     ensures within { result ≤ limit }
-    ensures turns { turns 0 result tid (at state.old [] []) ≡ Ok (at state.new [] []) }
-    ensures no_yield { (count : ℕ) (mid : After) → count < result → turns 0 count tid (at state.old [] []) ≡ Ok mid → yields mid.state tid ≡ false }
+    ensures turns { turns 0 result tid (new_after state.old [] []) ≡ Ok (new_after state.new [] []) }
+    ensures no_yield { (count : ℕ) (mid : After) → count < result → turns 0 count tid (new_after state.old [] []) ≡ Ok mid → yields mid.state tid ≡ false }
     ensures steps { state.new.steps ≡ state.old.steps + result }
 {
     match peek {

@@ -26,7 +26,7 @@ use Rattle.epoch_runner.specs.Running.{HasRunEpoch}
 use Rattle.epoch_runner.specs.Supplying.{IsSuppliedBy}
 use Rattle.guest_kernel.specs.declared.state.State.{State}
 use Rattle.guest_kernel.specs.Call.{After}
-use Rattle.guest_kernel.specs.Slices.{at, chain}
+use Rattle.guest_kernel.specs.Slices.{new_after, chain}
 use Rattle.guest_kernel.specs.State.{has_ended}
 use Rattle.journal_text.specs.Reading.{journal_of}
 use Rattle.journal_text.specs.Records.{IsRecord, Record, body_of, epoch}
@@ -178,7 +178,7 @@ module _ (a : Setting) (there : Option Input) (now : Option History) (E : List E
     bounds = job_bounds a.options first state
 
     abbrev end_at : After
-    end_at = at r.end r.out []
+    end_at = new_after r.end r.out []
 
     supplied : IsSuppliedBy w state.input r.end.input e.answers
     supplied = laws.supplied state hints w bounds e r.out r.end is.scheduled kept.placed kept.inside

@@ -6,7 +6,7 @@ use Rattle.epoch_runner.specs.declared.epoch_run.EpochRun.{EpochRun}
 use Rattle.epoch_runner.specs.Running.{IsRunOf}
 use Rattle.guest_kernel.specs.declared.state.State.{State}
 use Rattle.guest_kernel.specs.Call.{After}
-use Rattle.guest_kernel.specs.Slices.{Stop, at, chain, either, run}
+use Rattle.guest_kernel.specs.Slices.{Stop, new_after, chain, by_result, run}
 use Rattle.checkpoint.specs.State.{checkpoint_of}
 use Rattle.journal_text.specs.Records.{IsRecord, Record, epoch, mark, partial}
 use Rattle.partial_mark.proofs.Applying.{back}
@@ -35,9 +35,9 @@ unfolding chain
 linked-chain s t [] l = ap (λ (x : State). Ok (x, [])) (sym l)
 linked-chain s t (r ∷ rs) l =
     let e = epoch_of r.epoch in
-    let ran : run e.slices (at s [] e.answers) ≡ Ok (at r.end r.out []) = subst (λ (x : State). run e.slices (at x [] e.answers) ≡ Ok (at r.end r.out [])) l.0 l.1.ran in
-    ap (λ (here : Result After (Stop × After)). either here (λ stop. Err 0) (λ after. either (chain after.state (epochs_of_runs rs)) (λ count. Err (count + 1)) (λ end. Ok (end.0, after.output ++ end.1)))) ran
-    ∙ ap (λ (there : Result (State × List ℕ) ℕ). either there (λ count. Err (count + 1)) (λ end. Ok (end.0, r.out ++ end.1))) (linked-chain r.end t rs l.2)
+    let ran : run e.slices (new_after s [] e.answers) ≡ Ok (new_after r.end r.out []) = subst (λ (x : State). run e.slices (new_after x [] e.answers) ≡ Ok (new_after r.end r.out [])) l.0 l.1.ran in
+    ap (λ (here : Result After (Stop × After)). by_result here (λ stop. Err 0) (λ after. by_result (chain after.state (epochs_of_runs rs)) (λ count. Err (count + 1)) (λ end. Ok (end.0, after.output ++ end.1)))) ran
+    ∙ ap (λ (there : Result (State × List ℕ) ℕ). by_result there (λ count. Err (count + 1)) (λ end. Ok (end.0, r.out ++ end.1))) (linked-chain r.end t rs l.2)
 
 -- ---- records
 

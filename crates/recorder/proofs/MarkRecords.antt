@@ -10,7 +10,7 @@ use Rattle.dp_base.specs.declared.slice.Slice.{Slice}
 use Rattle.dp_base.specs.Journal.{Epoch, IsAnswer, steps_of}
 use Rattle.guest_kernel.specs.declared.state.State.{State}
 use Rattle.guest_kernel.specs.Call.{After}
-use Rattle.guest_kernel.specs.Slices.{at, chain, run}
+use Rattle.guest_kernel.specs.Slices.{new_after, chain, run}
 use Rattle.journal_text.specs.Records.{IsRecord, Record, epoch}
 use Rattle.partial_mark.proofs.Applying.{is_against}
 use Rattle.partial_mark.specs.Base.{partial_of}
@@ -20,10 +20,10 @@ use Rattle.recorder.proofs.Marking.{first_of, none_marked, one_marked, state_in}
 
 pub record MarkLaws : Type 0 where
   pub short : (m : Partial) → IsPartial m → length (partial_bytes m) < MAX_BODY_BYTES
-  pub encodable : (s : State) (slices : List Slice) (log : List Answer) (there : After) → IsEncodable s → AllByRecursion IsAnswer log → run slices (at s [] log) ≡ Ok there → there.state.steps < 2 ^ 64 → there.state.input < 2 ^ 64
+  pub encodable : (s : State) (slices : List Slice) (log : List Answer) (there : After) → IsEncodable s → AllByRecursion IsAnswer log → run slices (new_after s [] log) ≡ Ok there → there.state.steps < 2 ^ 64 → there.state.input < 2 ^ 64
       → IsEncodable there.state
-  pub counted : (s : State) (slices : List Slice) (log : List Answer) (there : After) → run slices (at s [] log) ≡ Ok there → there.state.steps ≡ s.steps + steps_of slices
-  pub reads : (s : State) (slices : List Slice) (log : List Answer) (there : After) → run slices (at s [] log) ≡ Ok there → there.state.input ≤ s.input + MAX_CALL_BYTES * steps_of slices
+  pub counted : (s : State) (slices : List Slice) (log : List Answer) (there : After) → run slices (new_after s [] log) ≡ Ok there → there.state.steps ≡ s.steps + steps_of slices
+  pub reads : (s : State) (slices : List Slice) (log : List Answer) (there : After) → run slices (new_after s [] log) ≡ Ok there → there.state.input ≤ s.input + MAX_CALL_BYTES * steps_of slices
 
 kept_are : (all : Bool) (later : List Epoch) (due : Bool) (r : Record) → IsRecord r → AllByRecursion IsRecord (kept all later (if due then r ∷ [] else []))
 kept_are true later true r is = (is, tt)

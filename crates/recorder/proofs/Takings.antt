@@ -18,7 +18,7 @@ use Rattle.dp_base.specs.declared.slice.Slice.{Slice}
 use Rattle.dp_base.specs.Journal as journals
 use Rattle.dp_base.specs.Journal.{IsAnswer, IsBody, IsEpoch, IsSlice, epoch_body}
 use Rattle.epoch_record.specs.Epoch.{epoch_of}
-use Rattle.guest_kernel.specs.Slices.{at}
+use Rattle.guest_kernel.specs.Slices.{new_after}
 use Rattle.recorder.specs.EpochLaws.{EpochLaws}
 use Rattle.commit_core.specs.declared.stage.Stage.{Stage}
 use Rattle.commit_core.specs.declared.stage.Stage.TheVariants.{Judged, Taken}
@@ -110,13 +110,13 @@ pub little_of : EpochLaws → (r : EpochRun) → GoesLittle r
 little_of laws r =
     let few = (is_epoch_of r).steps in
     ∥∥₁_elim r.runs (hlevel props) (λ ran.
-    (let counts = laws.counts r.start (epoch_of r.epoch).slices (epoch_of r.epoch).answers (at r.end r.out []) ran in
-    let reads = laws.reads r.start (epoch_of r.epoch).slices (epoch_of r.epoch).answers (at r.end r.out []) ran in
+    (let counts = laws.counts r.start (epoch_of r.epoch).slices (epoch_of r.epoch).answers (new_after r.end r.out []) ran in
+    let reads = laws.reads r.start (epoch_of r.epoch).slices (epoch_of r.epoch).answers (new_after r.end r.out []) ran in
     record { steps = omega (arith, counts, few); input = omega (arith, reads, few) }))
 
 pub encodable_of : EpochLaws → (r : EpochRun) → IsEncodable r.start → r.end.steps < 2 ^ 64 → r.end.input < 2 ^ 64 → IsEncodable r.end
 encodable_of laws r start steps input =
-    ∥∥₁_elim r.runs (encodable_prop r.end) (λ ran. laws.encodable r.start (epoch_of r.epoch).slices (epoch_of r.epoch).answers (at r.end r.out []) start (is_epoch_of r).answers ran steps input)
+    ∥∥₁_elim r.runs (encodable_prop r.end) (λ ran. laws.encodable r.start (epoch_of r.epoch).slices (epoch_of r.epoch).answers (new_after r.end r.out []) start (is_epoch_of r).answers ran steps input)
 
 -- ---- the code's own facts
 

@@ -3,7 +3,7 @@ use Rattle.std.specs.Prelude.{◌≡◌, ◌+◌, ℕ, Bool, true, false, List, 
 use Rattle.checkpoint.specs.State.{checkpoint_of}
 use Rattle.dp_base.specs.Journal.{Epoch}
 use Rattle.guest_kernel.specs.declared.state.State.{State}
-use Rattle.guest_kernel.specs.Slices.{at, either, run}
+use Rattle.guest_kernel.specs.Slices.{new_after, by_result, run}
 use Rattle.guest_kernel.specs.State.{has_ended}
 use Rattle.journal_text.specs.Records.{Record, epoch, partial}
 use Rattle.partial_mark.specs.Base.{partial_of}
@@ -39,7 +39,7 @@ kept false (e ∷ later) marks = marks
 -- Epochs from this state with their marks, `since` epochs after the last mark, whose state is the base.
 unfoldable pub marked_from : (all : Bool) → (every since : ℕ) → (base s : State) → List Epoch → List Record
 marked_from all every since base s [] = []
-marked_from all every since base s (e ∷ later) = epoch e ∷ either (run e.slices (at s [] e.answers))
+marked_from all every since base s (e ∷ later) = epoch e ∷ by_result (run e.slices (new_after s [] e.answers))
     (λ stop. [])
     (λ here. kept all later (marks_at every (since + 1) base here.state)
     ++ marked_from all every (since_then every (since + 1) here.state) (base_then every (since + 1) base here.state) here.state later)
@@ -47,14 +47,14 @@ marked_from all every since base s (e ∷ later) = epoch e ∷ either (run e.sli
 -- how many epochs there are since the last mark
 unfoldable pub since_after : (every since : ℕ) → State → List Epoch → ℕ
 since_after every since s [] = since
-since_after every since s (e ∷ later) = either (run e.slices (at s [] e.answers))
+since_after every since s (e ∷ later) = by_result (run e.slices (new_after s [] e.answers))
     (λ stop. since)
     (λ here. since_after every (since_then every (since + 1) here.state) here.state later)
 
 -- the base of the next mark
 unfoldable pub base_after : (every since : ℕ) → (base s : State) → List Epoch → State
 base_after every since base s [] = base
-base_after every since base s (e ∷ later) = either (run e.slices (at s [] e.answers))
+base_after every since base s (e ∷ later) = by_result (run e.slices (new_after s [] e.answers))
     (λ stop. base)
     (λ here. base_after every (since_then every (since + 1) here.state) (base_then every (since + 1) base here.state) here.state later)
 

@@ -4,7 +4,7 @@ use Rattle.guest_kernel.specs.declared.state.State.{State}
 use Rattle.guest_kernel.specs.declared.slices.SliceRun.{SliceRun}
 use Rattle.guest_kernel.specs.declared.slices.SliceRun.TheVariants.{Whole}
 use Rattle.guest_kernel.specs.Call.{After}
-use Rattle.guest_kernel.specs.Slices.{Stop, at, run}
+use Rattle.guest_kernel.specs.Slices.{Stop, new_after, run}
 use Rattle.guest_kernel.specs.Stops.{IsRunAnswer}
 use Rattle.checkpoint.specs.State.{IsEncodable}
 use Rattle.checkpoint_tests.proofs.checkpoint_tests.ended.Goals as goal
@@ -14,12 +14,12 @@ run_end : (s : State) (output : List ℕ) (found : Result After (Stop × After))
 run_end s output (Ok there) is = (there, refl, is.0)
 run_end s output (Err stop) is = elim is [ ]
 
-whole_run_keeps : (s end : State) (slices : List Slice) (before output : List ℕ) (answer : SliceRun) → before ≡ [] → answer ≡ Whole → IsRunAnswer answer end output (run slices (at s before []))
-    → ((there : After) → run slices (at s [] []) ≡ Ok there → there.state.steps < 2 ^ 64 → there.state.input < 2 ^ 64 → IsEncodable there.state)
+whole_run_keeps : (s end : State) (slices : List Slice) (before output : List ℕ) (answer : SliceRun) → before ≡ [] → answer ≡ Whole → IsRunAnswer answer end output (run slices (new_after s before []))
+    → ((there : After) → run slices (new_after s [] []) ≡ Ok there → there.state.steps < 2 ^ 64 → there.state.input < 2 ^ 64 → IsEncodable there.state)
     → end.steps < 2 ^ 64 → end.input < 2 ^ 64 → IsEncodable end
 whole_run_keeps s end slices before output answer none whole is keeps few early =
-    let from_none = subst (λ (b : List ℕ). IsRunAnswer answer end output (run slices (at s b []))) none is in
-    let there = run_end end output (run slices (at s [] [])) (subst (λ (a : SliceRun). IsRunAnswer a end output (run slices (at s [] []))) whole from_none) in
+    let from_none = subst (λ (b : List ℕ). IsRunAnswer answer end output (run slices (new_after s b []))) none is in
+    let there = run_end end output (run slices (new_after s [] [])) (subst (λ (a : SliceRun). IsRunAnswer a end output (run slices (new_after s [] []))) whole from_none) in
     subst IsEncodable (sym there.2) (keeps there.0 there.1 (subst (λ (t : State). t.steps < 2 ^ 64) there.2 few) (subst (λ (t : State). t.input < 2 ^ 64) there.2 early))
 
 pub returns-in-Whole : goal.returns-in-Whole

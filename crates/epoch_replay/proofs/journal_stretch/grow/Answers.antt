@@ -1,5 +1,5 @@
 use Rattle.std.proofs.Common.{drop, arith}
-use Rattle.guest_kernel.specs.Slices.{at}
+use Rattle.guest_kernel.specs.Slices.{new_after}
 use Rattle.journal_text.specs.Records.{epoch}
 use Rattle.epoch_replay.proofs.Epochs.{ran}
 use Rattle.epoch_replay.proofs.Finding.{epoch_found}
@@ -15,7 +15,7 @@ returns-clause-is c =
     let one = c.reading_goes_on.ensures.found (drop x.at file) (drop c.in-Epoch.next file) (epoch e) f.1.is in
     let r = ran (λ v. v.items) c.in_ok-out.field-0 c.in-Some.out e x.state c.play_epoch.new.state c.in-Some.is (c.in_ok-out.ensures e f.2) in
     let law = c.a_run_is_as_long_as_its_slices.ensures in
-    let there = at c.play_epoch.new.state c.in-Some.out.items r.0 in
+    let there = new_after c.play_epoch.new.state c.in-Some.out.items r.0 in
     let counts = law.counts x.state e.slices e.answers there r.1 in
     let reads = law.reads x.state e.slices e.answers there r.1 in
     rw (c.in_ok-extend_from_slice.ensures.items, c.deref.ensures.value)
