@@ -20,6 +20,7 @@
 
 mod rule;
 mod seat;
+mod steps;
 mod stop_word;
 
 pub use rule::View;
