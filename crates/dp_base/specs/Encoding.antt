@@ -24,6 +24,6 @@ pub record IsWholeCode {X : Type 0} (decode : List ℕ → Option (X × List ℕ
   pub decoded : (x : X) → Is x → whole decode (encode x) ≡ Some x
   pub encoded : (bytes : List ℕ) (x : X) → AreBytes bytes → whole decode bytes ≡ Some x → (bytes ≡ encode x) × Is x
 
--- the bytes begin with this prefix
-abbrev pub IsPrefixOf : List ℕ → List ℕ → Type 0
-IsPrefixOf prefix bytes = (more : List ℕ) × (bytes ≡ prefix ++ more)
+-- the list begins with this prefix
+abbrev pub IsPrefixOf : {A : Type 0} → List A → List A → Type 0
+IsPrefixOf {A} prefix list = (more : List A) × (list ≡ prefix ++ more)

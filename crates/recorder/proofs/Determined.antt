@@ -19,7 +19,8 @@ use Rattle.recorder.specs.declared.options.Options.{Options}
 use Rattle.recorder.specs.Drawing.{Draw, Round, draws_of, epochs_of_rounds, supply_behind, supply_of}
 use Rattle.recorder.specs.Machine.{epochs_of_runs}
 use Rattle.recorder.specs.Racing.{AreResults, IsRaced, job_bounds, plan_of}
-use Rattle.recorder.specs.Recording.{BeginsWith, EachIsNextEpoch, EachIsRound, IsNextEpoch, IsRound, Run, RunOn, TellsAll, draws, draws_on, epochs, first_after, first_behind, first_next, is_squash, supply}
+use Rattle.dp_base.specs.Encoding.{IsPrefixOf}
+use Rattle.recorder.specs.Recording.{EachIsNextEpoch, EachIsRound, IsNextEpoch, IsRound, Run, RunOn, TellsAll, draws, draws_on, epochs, first_after, first_behind, first_next, is_squash, supply}
 use Rattle.recorder.proofs.Alike.{IsDetermined}
 use Rattle.recorder.proofs.JobRuns.{few_results}
 use Rattle.recorder.proofs.RunLists.{epochs-append, first-append}
@@ -178,7 +179,7 @@ module _ (law : IsDetermined) (options : Options) where
   -- ---- a round that isn't over
 
   front_of : (s : State) (count : ℕ) (runs : List EpochRun) (rest ys : List Ran) (others : List EpochRun) (t u : State) (stop : RoundEnd) → AgreeOn (map Epoch runs ++ rest) ys → length (map Epoch runs ++ rest) ≤ count → IsFull count ys stop
-      → AreLinked s runs t → IsRoundJudged s ys others u stop → BeginsWith (epochs_of_runs others) (epochs_of_runs runs)
+      → AreLinked s runs t → IsRoundJudged s ys others u stop → IsPrefixOf (epochs_of_runs runs) (epochs_of_runs others)
   front_of s count [] rest ys others t u stop same few full linked judged = (epochs_of_runs others, refl)
   front_of s count (r ∷ runs) rest [] [] t u stop same few full linked judged = absurd (let none = full.full judged.1 in omega (arith, none, few))
   front_of s count (r ∷ runs) rest [] (x ∷ others) t u stop same few full linked judged = absurd judged
@@ -191,14 +192,14 @@ module _ (law : IsDetermined) (options : Options) where
 
   module _ (start : State) (tells : Tells) (all_told : TellsAll tells) (on : RunOn tells options start) (q : Run tells options start) (later : List Draw) (draws_are : draws q ≡ draws_on on ++ later) where
     -- its committed epochs, these or one more, are the first ones of a run that drew the same
-    pub committed_first : (runs : List EpochRun) (rest : List Ran) (end : State) → on.results ≡ map Epoch runs ++ rest → AreLinked on.run.end runs end → BeginsWith (epochs q) (epochs on.run ++ epochs_of_runs runs)
+    pub committed_first : (runs : List EpochRun) (rest : List Ran) (end : State) → on.results ≡ map Epoch runs ++ rest → AreLinked on.run.end runs end → IsPrefixOf (epochs on.run ++ epochs_of_runs runs) (epochs q)
     committed_first runs rest end all linked = by_rounds split.0 split.1 split.2 split.4
       where
         split : (zs : List Round) × (q.rounds ≡ on.run.rounds ++ zs) × (draws_of zs ≡ on.draw ∷ later) × (on.run.racer ≡ tells) × EachIsRound tells options (first_next on.run) on.run.end (supply on.run) zs q.end q.racer
         split = split_rounds tells all_told 1 start (empty MAX_ROOM) on.run.rounds q.rounds on.run.end q.end on.run.racer q.racer (on.draw ∷ later) (draws_are ∙ append_assoc (draws on.run) (on.draw ∷ []) later) on.run.each q.each
 
         by_rounds : (zs : List Round) → q.rounds ≡ on.run.rounds ++ zs → draws_of zs ≡ on.draw ∷ later → EachIsRound tells options (first_next on.run) on.run.end (supply on.run) zs q.end q.racer
-            → BeginsWith (epochs q) (epochs on.run ++ epochs_of_runs runs)
+            → IsPrefixOf (epochs on.run ++ epochs_of_runs runs) (epochs q)
         by_rounds [] is drew each = absurd cc
         by_rounds (z ∷ zs) is drew each =
             let draw : z.draw ≡ on.draw = cc in

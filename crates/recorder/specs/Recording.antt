@@ -154,10 +154,6 @@ pub record NextEpoch {tells : Tells} {options : Options} {start : State} (on : R
 abbrev pub next_epoch : {tells : Tells} {options : Options} {start : State} {on : RunOn tells options start} → NextEpoch on → Epoch
 next_epoch n = epoch_of n.run.epoch
 
--- this list is the first part of that one
-abbrev pub BeginsWith : {A : Type 0} → (list front : List A) → Type 0
-BeginsWith {A} list front = (more : List A) × (list ≡ front ++ more)
-
 -- all that a racer offers is known, whatever the round
 abbrev pub TellsAll : Tells → Type 0
 TellsAll tells = (s : State) (w : Supplied) (p : Plan) → (list : List Offer) × (tells s w p ≡ Some list)

@@ -29,7 +29,7 @@ ghost use Rattle.recorder.specs.Machine.{MachineEvent, IsTakeable, Machine, Reac
 ghost use Rattle.recorder.specs.MachineKept.{IsKept, answers_of_runs, draws_in};
 ghost use Rattle.racing_runner.specs.declared.plan.Plan.{Plan};
 ghost use Rattle.racing_runner.specs.Offers.{Tells};
-ghost use Rattle.recorder.specs.Recording.{BeginsWith, EachIsNextEpoch, IsNextEpoch, NextEpoch, Run, RunOn, TellsAll, draws, draws_on, epochs, epochs_on, next_epoch, squashes};
+ghost use Rattle.recorder.specs.Recording.{EachIsNextEpoch, IsNextEpoch, NextEpoch, Run, RunOn, TellsAll, draws, draws_on, epochs, epochs_on, next_epoch, squashes};
 ghost use Rattle.supply.specs.declared.TheConstants.{MAX_ROOM};
 ghost use Rattle.supply.specs.Supplied.{Supplied, empty};
 ghost use Rattle.sync_hints.specs.declared.hints.Hints.{Hints};
@@ -60,11 +60,11 @@ pub fn a_told_racer_leaves_no_choice()
 /// (`next`).
 pub fn a_told_racer_gives_the_first_epochs()
     ensures rounds { (tells : Tells) → TellsAll tells → (options : Options) (start : State) (r q : Run tells options start) →
-        BeginsWith (draws q) (draws r) → BeginsWith q.rounds r.rounds }
+        IsPrefixOf (draws r) (draws q) → IsPrefixOf r.rounds q.rounds }
     ensures within { (tells : Tells) → TellsAll tells → (options : Options) (start : State) (on : RunOn tells options start) (q : Run tells options start) →
-        BeginsWith (draws q) (draws_on on) → BeginsWith (epochs q) (epochs_on on) }
+        IsPrefixOf (draws_on on) (draws q) → IsPrefixOf (epochs_on on) (epochs q) }
     ensures next { (tells : Tells) → TellsAll tells → (options : Options) (start : State) (on : RunOn tells options start) (n : NextEpoch on) (q : Run tells options start) →
-        BeginsWith (draws q) (draws_on on) → BeginsWith (epochs q) (epochs_on on ++ next_epoch n ∷ []) }
+        IsPrefixOf (draws_on on) (draws q) → IsPrefixOf (epochs_on on ++ next_epoch n ∷ []) (epochs q) }
 {
     epoch_runner::laws::a_schedule_is_determined();
 }

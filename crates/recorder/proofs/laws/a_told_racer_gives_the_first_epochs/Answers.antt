@@ -7,7 +7,8 @@ use Rattle.epoch_runner.specs.declared.epoch_run.EpochRun.{EpochRun}
 use Rattle.epoch_runner.specs.declared.epoch_run.Ran.{Ran}
 use Rattle.epoch_runner.specs.declared.epoch_run.Ran.TheVariants as rans
 use Rattle.recorder.specs.Machine.{epochs_of_runs}
-use Rattle.recorder.specs.Recording.{BeginsWith, epochs}
+use Rattle.dp_base.specs.Encoding.{IsPrefixOf}
+use Rattle.recorder.specs.Recording.{epochs}
 use Rattle.supply.specs.Supplied.{empty}
 use Rattle.supply.specs.declared.TheConstants.{MAX_ROOM}
 use Rattle.recorder.proofs.Determined.{committed_first, split_rounds}
@@ -28,5 +29,5 @@ returns-clause-next c = λ tells told options start on n q drew.
     let all = on.all ∙ ap (λ (l : List Ran). map rans.Epoch on.runs ++ l) n.next ∙ sym (append_assoc (map rans.Epoch on.runs) (rans.Epoch n.run ∷ []) n.more)
     ∙ ap (λ (l : List Ran). l ++ n.more) (sym (map_push rans.Epoch on.runs n.run)) in
     let first = committed_first c.a_schedule_is_determined.ensures options start tells told on q drew.0 drew.1 runs n.more n.run.end all (linked-push on.run.end on.end on.runs n.run on.linked n.starts) in
-    subst (λ (l : List Epoch). BeginsWith (epochs q) l) (ap (λ (l : List Epoch). epochs on.run ++ l) (map_push (λ (r : EpochRun). epoch_of r.epoch) on.runs n.run)
+    subst (λ (l : List Epoch). IsPrefixOf l (epochs q)) (ap (λ (l : List Epoch). epochs on.run ++ l) (map_push (λ (r : EpochRun). epoch_of r.epoch) on.runs n.run)
     ∙ sym (append_assoc (epochs on.run) (epochs_of_runs on.runs) (epoch_of n.run.epoch ∷ []))) first
