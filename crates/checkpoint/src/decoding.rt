@@ -8,8 +8,8 @@ ghost use Rattle.checkpoint.specs.Reading.{rising_pages_at, with_head};
 ghost use Rattle.checkpoint.specs.State.{IsEncodable, checkpoint_of};
 
 use dp_base::OutOfMemory;
-use dp_base::field::{read_u16, read_u32, read_u64};
 use dp_base::limits::MAX_PAGES;
+use dp_base::little_endian::{read_u16, read_u32, read_u64};
 use guest_kernel::{Pages, State, Threads};
 use guest_state::{CheckpointBounds, End, Thread, live_count, read_end, read_page, read_thread};
 use std::alloc::Global;

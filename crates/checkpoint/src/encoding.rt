@@ -6,7 +6,7 @@ ghost use Rattle.checkpoint.specs.State.{IsEncodable, state_bytes};
 use crate::encoding_parts::write_state;
 use crate::sink::Sink;
 use dp_base::OutOfMemory;
-use dp_base::field::write_bytes;
+use dp_base::little_endian::write_bytes;
 use guest_kernel::State;
 use std::alloc::Global;
 

@@ -7,7 +7,7 @@ ghost use Rattle.checkpoint.specs.State.{IsEncodable, checkpoint_of};
 
 use crate::base_page::look_up;
 use crate::decoding::read_threads;
-use dp_base::field::{read_u8, read_u16};
+use dp_base::little_endian::{read_u8, read_u16};
 use dp_base::{OutOfMemory, PageView};
 use guest_kernel::{Pages, State, Threads};
 use guest_state::Thread;

@@ -6,9 +6,9 @@ ghost use Rattle.dp_base.specs.Journal.{answer_at, clock_at, epoch_body_at, many
 ghost use Rattle.dp_base.specs.Encoding.{whole};
 ghost use Rattle.dp_base.specs.View.{answer_of_view};
 
-use crate::field::{read_bytes, read_u8, read_u16, read_u32, read_u64};
-use crate::journal::{CLOCK_KIND, EPOCH_KIND, READ_KIND};
+use crate::journal_writer::{CLOCK_KIND, EPOCH_KIND, READ_KIND};
 use crate::limits::{MAX_CALL_BYTES, MAX_EPOCH_STEPS};
+use crate::little_endian::{read_bytes, read_u8, read_u16, read_u32, read_u64};
 use crate::{AnswerView, Slice, Tid};
 
 /// Returns the slice at the start and the bytes after it. Returns `None` if there are fewer than 6 bytes, or if the

@@ -10,9 +10,9 @@
 //!
 //! ```text
 //! let mut body = Vec::new(alloc);
-//! journal::write_epoch_body(&mut body, &slices, &answers)?;
+//! journal_writer::write_epoch_body(&mut body, &slices, &answers)?;
 //! if body.len() <= MAX_BODY_BYTES as usize {
-//!     journal::write_frame(&mut out, &body)?;
+//!     journal_writer::write_frame(&mut out, &body)?;
 //! }
 //! ```
 #![tactic(auto)]
@@ -21,11 +21,11 @@ mod access;
 mod answer;
 mod answer_view;
 mod bytes;
-pub mod field;
-pub mod journal;
 pub mod journal_reader;
+pub mod journal_writer;
 pub mod laws;
 pub mod limits;
+pub mod little_endian;
 mod log;
 mod mem;
 mod out_of_memory;

@@ -4,7 +4,7 @@ ghost use Rattle.hex.specs.Hex.{encode_lower};
 ghost use Rattle.dp_report.specs.Texts.{end_text, report_line};
 
 use crate::report::Report;
-use dp_base::field::write_bytes;
+use dp_base::little_endian::write_bytes;
 use dp_base::{OutOfMemory, Tid};
 use guest_state::End;
 use itoa::Buffer;

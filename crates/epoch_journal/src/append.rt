@@ -8,7 +8,7 @@ ghost use Rattle.epoch_journal.specs.Appending.{AppendCalls, Appended, HasAppend
 use crate::journal::Journal;
 use device::write_through;
 use disk_model::{Failed, World};
-use dp_base::journal::OPEN_GATE;
+use dp_base::journal_writer::OPEN_GATE;
 use journal_text::Frame;
 
 /// Why a record was not appended.

@@ -9,8 +9,8 @@ use crate::journal::Journal;
 use device::write_through;
 use disk_model::{Failed, World};
 use dp_base::OutOfMemory;
-use dp_base::field::write_u8;
-use dp_base::journal::{CLOSED_GATE, OPEN_GATE, write_header_body};
+use dp_base::journal_writer::{CLOSED_GATE, OPEN_GATE, write_header_body};
+use dp_base::little_endian::write_u8;
 use std::alloc::Global;
 
 /// Why a journal was not begun. After each but `DiskFault` nothing was written.

@@ -8,8 +8,8 @@ ghost use Rattle.epoch_journal.specs.declared.reading.ReadFault.TheVariants as r
 
 use disk_model::{Failed, World};
 use dp_base::OutOfMemory;
-use dp_base::field::write_bytes;
 use dp_base::limits::MAX_JOURNAL_BYTES;
+use dp_base::little_endian::write_bytes;
 use std::alloc::Global;
 
 /// Why a journal was not read. The disk is as it was.

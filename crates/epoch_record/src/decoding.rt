@@ -6,10 +6,10 @@ ghost use Rattle.dp_base.specs.View.{answer_of_view};
 ghost use Rattle.epoch_record.specs.Epoch.{epoch_of};
 
 use crate::epoch::Epoch;
-use dp_base::field::{read_u8, read_u32};
-use dp_base::journal::EPOCH_KIND;
 use dp_base::journal_reader::{read_answer, read_slice};
+use dp_base::journal_writer::EPOCH_KIND;
 use dp_base::limits::MAX_EPOCH_STEPS;
+use dp_base::little_endian::{read_u8, read_u32};
 use dp_base::{Answer, AnswerView, Bytes, OutOfMemory, Slice};
 use slice_log::SliceLog;
 use std::alloc::Global;

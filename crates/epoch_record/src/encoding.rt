@@ -5,7 +5,7 @@ ghost use Rattle.epoch_record.specs.Epoch.{epoch_of};
 
 use crate::epoch::Epoch;
 use dp_base::OutOfMemory;
-use dp_base::journal::write_epoch_body;
+use dp_base::journal_writer::write_epoch_body;
 use std::alloc::Global;
 
 /// Returns the body of an epoch's record.

@@ -6,8 +6,8 @@ ghost use Rattle.journal_text.specs.Records.{mark_kind};
 ghost use Rattle.partial_mark.specs.Partial.{IsPartial, Partial, partial_bytes};
 ghost use Rattle.epoch_replay.specs.Counting.{counts_at, counts_of, marked_steps_at};
 
-use dp_base::field::{read_u8, read_u32, read_u64};
 use dp_base::journal_reader::skip_slices;
+use dp_base::little_endian::{read_u8, read_u32, read_u64};
 
 /// What an epoch's record holds.
 #[derive(Clone, Copy)]

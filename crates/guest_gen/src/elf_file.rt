@@ -8,8 +8,8 @@ use crate::encoding::encode;
 use crate::instruction::Instruction;
 use crate::listing::{CODE, FILE_ADDRESS, FILE_BYTES, HEADER_BYTES};
 use dp_base::OutOfMemory;
-use dp_base::field::{write_bytes, write_u16, write_u32};
 use dp_base::limits::PAGE_BYTES;
+use dp_base::little_endian::{write_bytes, write_u16, write_u32};
 use std::alloc::Global;
 
 // ELFCLASS32, ELFDATA2LSB and EV_CURRENT after the magic number, and padding.

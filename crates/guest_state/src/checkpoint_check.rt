@@ -8,8 +8,8 @@ ghost use Rattle.guest_state.specs.View.{counting, hold, testing};
 use crate::checkpoint_reader::{read_end, read_page, read_thread};
 use crate::end::End;
 use crate::thread::Thread;
-use dp_base::field::{read_u16, read_u32, read_u64};
 use dp_base::limits::{MAX_LIVE_THREADS, MAX_PAGES, MAX_THREADS, PAGE_BYTES, PAGE_NUMBERS};
+use dp_base::little_endian::{read_u16, read_u32, read_u64};
 
 // No heap ends past this.
 const HEAP_END: u32 = PAGE_NUMBERS * PAGE_BYTES;

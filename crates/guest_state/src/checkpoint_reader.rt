@@ -9,8 +9,8 @@ ghost use Rattle.guest_state.specs.Checkpoint.{end_from, exit_from, trap_from, h
 use crate::end::End;
 use crate::hart::Hart;
 use crate::thread::Thread;
-use dp_base::field::{read_u8, read_u16, read_u32};
 use dp_base::limits::{PAGE_BYTES, PAGE_NUMBERS};
+use dp_base::little_endian::{read_u8, read_u16, read_u32};
 use dp_base::{PageView, Tid};
 
 // The kinds of an end.

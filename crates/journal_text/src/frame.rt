@@ -4,7 +4,7 @@ ghost use Rattle.dp_base.specs.Journal.{frame};
 ghost use Rattle.journal_text.specs.View.{IsFrameLength, IsRecordBody};
 
 use dp_base::OutOfMemory;
-use dp_base::journal::write_frame;
+use dp_base::journal_writer::write_frame;
 use std::alloc::Global;
 use std::marker::Model;
 

@@ -5,8 +5,8 @@ ghost use Rattle.journal_text.specs.Reading.{first_bytes};
 ghost use Rattle.journal_text.specs.View.{IsHead};
 
 use crate::read_limit::first_bytes;
-use dp_base::field::{read_bytes, read_u8, read_u32};
-use dp_base::journal::OPEN_GATE;
+use dp_base::journal_writer::OPEN_GATE;
+use dp_base::little_endian::{read_bytes, read_u8, read_u32};
 
 /// What a file starts with.
 #[derive(Clone, Copy, Debug, PartialEq, Eq)]

@@ -25,7 +25,7 @@ pub mod laws;
 mod read_limit;
 mod record;
 
-pub use dp_base::journal::MARK_KIND;
+pub use dp_base::journal_writer::MARK_KIND;
 pub use frame::Frame;
 pub use journal_header::{Head, header};
 pub use record::{Rec, next_record};

@@ -5,10 +5,10 @@ ghost use Rattle.journal_text.specs.Records.{fitting_at, mark_in};
 ghost use Rattle.journal_text.specs.View.{IsNextRecord};
 
 use crate::read_limit::first_bytes;
-use dp_base::field::{read_bytes, read_u8, read_u32};
-use dp_base::journal::{MARK_KIND, OPEN_GATE};
 use dp_base::journal_reader::is_epoch_body;
+use dp_base::journal_writer::{MARK_KIND, OPEN_GATE};
 use dp_base::limits::MAX_BODY_BYTES;
+use dp_base::little_endian::{read_bytes, read_u8, read_u32};
 use guest_state::is_checkpoint;
 use partial_mark::is_partial;
 

@@ -1,5 +1,5 @@
-use dp_base::field::write_u64;
-use dp_base::journal::*;
+use dp_base::journal_writer::*;
+use dp_base::little_endian::write_u64;
 use dp_base::{Answer, Bytes, OutOfMemory, Slice, Tid};
 use std::test::*;
 

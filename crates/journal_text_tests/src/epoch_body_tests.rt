@@ -1,5 +1,5 @@
-use dp_base::field::write_u16;
 use dp_base::journal_reader::*;
+use dp_base::little_endian::write_u16;
 use std::test::*;
 
 // Bodies, and whether each is an epoch's.

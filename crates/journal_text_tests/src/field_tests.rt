@@ -1,4 +1,4 @@
-use dp_base::field::*;
+use dp_base::little_endian::*;
 use std::test::*;
 
 #[test]

@@ -2,7 +2,7 @@
 ghost use Rattle.std.specs.Prelude.{◌≡◌, option_map};
 ghost use Rattle.partial_mark.specs.Partial.{fields_from};
 
-use dp_base::field::{read_u32, read_u64};
+use dp_base::little_endian::{read_u32, read_u64};
 use guest_state::{End, read_end};
 
 /// What a state has besides its threads and pages.

@@ -22,7 +22,7 @@ pub mod laws;
 mod page;
 mod partial_check;
 
-pub use dp_base::journal::PARTIAL_KIND;
+pub use dp_base::journal_writer::PARTIAL_KIND;
 pub use fields::{Fields, read_fields};
 pub use page::{PartialPageView, read_partial_page};
 pub use partial_check::{is_partial, skip_partial};

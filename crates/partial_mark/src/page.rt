@@ -4,8 +4,8 @@ ghost use Rattle.partial_mark.specs.Partial.{content_from, partial_page_from, wr
 ghost use Rattle.dp_base.specs.declared.limits.TheConstants.{PAGE_BYTES};
 ghost use Rattle.partial_mark.specs.View.{IsPageRead, partial_page_of};
 
-use dp_base::field::{read_u8, read_u32};
 use dp_base::limits::{PAGE_BYTES, PAGE_NUMBERS};
+use dp_base::little_endian::{read_u8, read_u32};
 
 // The kinds of a page's content.
 const SAME: u8 = 0;

@@ -9,8 +9,8 @@ ghost use Rattle.partial_mark.specs.View.{outlines};
 
 use crate::fields::read_fields;
 use crate::page::read_partial_page;
-use dp_base::field::{read_u8, read_u16};
-use dp_base::journal::PARTIAL_KIND;
+use dp_base::journal_writer::PARTIAL_KIND;
+use dp_base::little_endian::{read_u8, read_u16};
 use guest_state::{CheckpointBounds, alive_count, read_thread};
 
 /// Returns whether the bytes are one partial mark, and nothing follows it. Takes no memory.

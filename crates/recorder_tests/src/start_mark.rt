@@ -1,12 +1,12 @@
 // The mark of a guest's start.
 ghost use Rattle.std.specs.Prelude.{◌≡◌, ◌⊎◌, ◌∷◌, IfErr, IfOk};
-ghost use Rattle.dp_base.specs.declared.journal.TheConstants.{MARK_KIND};
+ghost use Rattle.dp_base.specs.declared.journal_writer.TheConstants.{MARK_KIND};
 ghost use Rattle.elf_image.specs.Faults.{image_fault, fault_number};
 ghost use Rattle.guest_kernel.specs.Start.{IsGuestFile, start_state};
 ghost use Rattle.checkpoint.specs.State.{state_bytes};
 
 use checkpoint::encode;
-use dp_base::field::{write_bytes, write_u8};
+use dp_base::little_endian::{write_bytes, write_u8};
 use elf_image::ImageFault;
 use guest_kernel::start_from_file;
 use journal_text::MARK_KIND;

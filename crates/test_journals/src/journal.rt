@@ -5,8 +5,8 @@ ghost use Rattle.dp_base.specs.Journal.{header, length_prefixed, record_of};
 ghost use Rattle.test_journals.specs.Bodies.{records_in};
 
 use dp_base::OutOfMemory;
-use dp_base::field::{write_bytes, write_u8, write_u32};
-use dp_base::journal::{CLOSED_GATE, OPEN_GATE};
+use dp_base::journal_writer::{CLOSED_GATE, OPEN_GATE};
+use dp_base::little_endian::{write_bytes, write_u8, write_u32};
 use std::alloc::Global;
 
 /// Returns a journal at rest of this guest, whose records have these bodies, whatever they are.

@@ -7,8 +7,8 @@ ghost use Rattle.byteorder.specs.Endian.{little_bytes};
 ghost use Rattle.dp_base.specs.Journal.{Epoch, IsAnswer, IsEpoch, header_body, frame, slice, answer, epoch_body};
 ghost use Rattle.dp_base.specs.Encoding.{IsPrefixOf};
 
-use crate::field::{write_bytes, write_u8, write_u16, write_u32, write_u64};
 use crate::limits::MAX_BODY_BYTES;
+use crate::little_endian::{write_bytes, write_u8, write_u16, write_u32, write_u64};
 use crate::{Answer, OutOfMemory, Slice};
 
 /// Before a header or a record that counts.
