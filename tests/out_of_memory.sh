@@ -7,7 +7,7 @@ set -u
 cd "$(dirname "$0")/../crates/cow_pages_tests" || exit 1
 tests=$(sed -n '/^#\[test\]/{n;s/^fn \([a-z_]*\).*/\1/p}' src/out_of_memory_tests.rt)
 declare -A kept
-for ((n = 1; n <= 40; n++)); do
+for ((n = 1; n <= 60; n++)); do
   output=$(rt try --test --fail-alloc "$n" 2>&1)
   passed=0
   for test in $tests; do

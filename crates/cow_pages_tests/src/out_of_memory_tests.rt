@@ -1,7 +1,7 @@
 // First stores to pages that are shared, which copy them. With ample memory each of them stores.
 // `tests/out_of_memory.sh` makes each allocation of each test fail in turn: one that a store needs has to be answered
 // by `OutOfMemory`, and to leave both tables.
-use crate::page_tests::two_pages;
+use crate::page_tests::{map, two_pages};
 use cow_pages::Pages;
 use dp_base::{Access, AmoOp, Mem, OutOfMemory, Width};
 use std::alloc::Global;
@@ -57,6 +57,8 @@ fn first_store(alloc: Global, change: Change) -> Result<Outcome, OutOfMemory> {
     let mut pages = two_pages(alloc, 6, 6)?;
     pages.store(0x0001_0ffc, Width::Four, 0x1413_1211)?;
     pages.store(0x0001_1000, Width::Four, 0x1817_1615)?;
+    // This puts the pages in hand back into the tree.
+    map(&mut pages, 0x12, 6)?;
     let before = words(&mut pages);
     let mut share = pages.share(alloc)?;
     let answer = make(&mut share, change);
