@@ -98,8 +98,8 @@ fn segments(
     file: &[u8],
     loaded: &[ProgramHeader],
 ) -> Result<Vec<Segment>, OutOfMemory>
-    requires { list_any (is_bad_entry file.now) load_headers.now ≡ false }
-    ensures { IfOk result (λ segments. segments.items ≡ map (segment_of file.now) (filter has_bytes load_headers.now)) }
+    requires { list_any (is_bad_entry file.now) loaded.now ≡ false }
+    ensures { IfOk result (λ segments. segments.items ≡ map (segment_of file.now) (filter has_bytes loaded.now)) }
 {
     let mut segments = Vec::new(alloc);
     for p in loaded {

@@ -49,7 +49,7 @@ pub fn the_next_thread_can_step()
 pub fn without_hints_an_epoch_goes_by_round_robin()
     ensures none { (start : State) (hints : Hints) (w : Supplied) (bounds : Bounds) (turns : ℕ) (c : Course) → any_left (lefts hints.counts) ≡ false →
         course turns w bounds (starting start hints) ≡ Some c → c.hints ≡ None }
-    ensures next_step { (s : State) (w : Supplied) (bounds : Bounds) (p : EpochProgress) → p.hints ≡ None →
+    ensures next { (s : State) (w : Supplied) (bounds : Bounds) (p : EpochProgress) → p.hints ≡ None →
         next_step s w bounds p ≡ (if ends_epoch s w bounds p then ends else by_last s w bounds p p.last) }
     ensures same { (start : State) (hints other : Hints) (w : Supplied) (bounds : Bounds) (e : Epoch) (output : List ℕ) (end : State) →
         any_left (lefts hints.counts) ≡ false → any_left (lefts other.counts) ≡ false →

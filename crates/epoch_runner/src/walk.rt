@@ -79,7 +79,7 @@ impl Walk {
 
     /// Returns the turn that is next, or `None` if the epoch is over.
     pub fn next(&self, supply: &Supply, bounds: Bounds) -> Option<NextTurn>
-        ensures next_step { next_step_of result ≡ next_step self.now.state supply.now bounds (progress self.now) }
+        ensures next { next_step_of result ≡ next_step self.now.state supply.now bounds (progress self.now) }
         ensures few { IfSome result (λ turn. (progress self.now).turns < bounds.steps) }
     {
         if self.is_over(supply, bounds) {
@@ -100,7 +100,7 @@ impl Walk {
         bounds: Bounds,
         turn: NextTurn,
     ) -> Result<Option<Sc>, OutOfMemory>
-        requires next_step { next_step self.old.state supply.now bounds (progress self.old) ≡ turn_of turn.tid turn.begins None }
+        requires next { next_step self.old.state supply.now bounds (progress self.old) ≡ turn_of turn.tid turn.begins None }
         requires countable { self.old.state.steps + 1 < 2 ^ 64 }
         ensures sync { IfOk result (λ sync. sync ≡ sync_of (opened turn.begins self.old).state turn.tid) }
         ensures took { OnOk result (followed supply.now self.old (turn_of turn.tid turn.begins None) ≡ Some self.new) }
