@@ -12,7 +12,7 @@ use Rattle.dp_base.proofs.Fields.{bind_some}
 use Rattle.guest_state.specs.declared.thread.Thread.{Thread}
 use Rattle.guest_state.specs.Checkpoint.{Checkpoint, checkpoint_from, thread_from, page_from, is_bounded, is_heap, live, rising, traps_within, if_bounded}
 use Rattle.checkpoint.specs.declared.decoding.CheckpointHead.{CheckpointHead}
-use Rattle.checkpoint.specs.Reading.{behind_head, if_rising, rising_pages_at, with_head}
+use Rattle.checkpoint.specs.Reading.{after_head, if_rising, rising_pages_at, with_head}
 
 many_length : {X : Type 0} (item : List ℕ → Option (X × List ℕ)) (n : ℕ) (bytes : List ℕ) (x : List X × List ℕ) → many_at item n bytes ≡ Some x → length x.0 ≡ n
 unfolding many_at
@@ -26,12 +26,12 @@ many_length {X} item (suc n) bytes x is =
 pub record BeforePages (body : List ℕ) (head : CheckpointHead) (threads : List Thread) (page_count : ℕ) (behind : List ℕ) : Type 0 where
   pub rest : List ℕ
   pub page_counts : List ℕ
-  pub head_at : checkpoint_from body ≡ behind_head (head, rest)
+  pub head_at : checkpoint_from body ≡ after_head (head, rest)
   pub threads_at : many_at thread_from head.thread_count rest ≡ Some (threads, page_counts)
   pub page_count_at : number_at 2 page_counts ≡ Some (page_count, behind)
 
 -- what the head's clause says where one was read
-pub head_read : {A : Type 0} (f : A → CheckpointHead × List ℕ) (o : Option A) (x : A) (r : Option (Checkpoint × List ℕ)) → o ≡ Some x → r ≡ with_head (option_map f o) → r ≡ behind_head (f x)
+pub head_read : {A : Type 0} (f : A → CheckpointHead × List ℕ) (o : Option A) (x : A) (r : Option (Checkpoint × List ℕ)) → o ≡ Some x → r ≡ with_head (option_map f o) → r ≡ after_head (f x)
 head_read {A} f o x r is clause = clause ∙ ap (λ (p : Option A). with_head (option_map f p)) is
 
 module _ (body : List ℕ) (head : CheckpointHead) (threads : List Thread) (page_count : ℕ) (behind : List ℕ) (h : BeforePages body head threads page_count behind) where

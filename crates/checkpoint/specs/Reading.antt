@@ -7,8 +7,8 @@ use Rattle.guest_state.specs.Checkpoint.{Checkpoint, if_bounded, page_from, risi
 use Rattle.checkpoint.specs.declared.decoding.CheckpointHead.{CheckpointHead}
 
 -- what is left to read after a head
-abbrev pub behind_head : CheckpointHead × List ℕ → Option (Checkpoint × List ℕ)
-behind_head head = do
+abbrev pub after_head : CheckpointHead × List ℕ → Option (Checkpoint × List ℕ)
+after_head head = do
   threads ← many_at thread_from head.0.thread_count head.1
   page_count ← number_at 2 threads.1
   pages ← many_at page_from page_count.0 page_count.1
@@ -16,7 +16,7 @@ behind_head head = do
 
 -- a checkpoint by its head, if there is one
 abbrev pub with_head : Option (CheckpointHead × List ℕ) → Option (Checkpoint × List ℕ)
-with_head head = head >>= behind_head
+with_head head = head >>= after_head
 
 abbrev pub if_rising : List Page × List ℕ → Option (List Page × List ℕ)
 if_rising pages = if rising pages.0 then Some pages else None

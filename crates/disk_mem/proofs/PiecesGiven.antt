@@ -6,7 +6,7 @@ use Rattle.std.proofs.lemmas.List.Folds.{concat-append}
 use Rattle.std.proofs.Math.Seq.{take-add, take-suc, drop-nil}
 use Rattle.std.specs.List.{concat}
 use Rattle.std.specs.Prelude.{nat_le}
-use Rattle.disk_model.specs.Input.{is_at_end, taken, behind, left_after}
+use Rattle.disk_model.specs.Input.{is_at_end, taken, pieces_after, left_after}
 use Rattle.disk_mem.specs.MemoryInput.{Pieces, cut_first, pieces_at, gave}
 
 abbrev piece_of : List (List ℕ) → ℕ → List ℕ
@@ -22,7 +22,7 @@ cut-none : (pieces : List (List ℕ)) → cut_first 0 pieces ≡ pieces
 cut-none [] = refl
 cut-none (p ∷ rest) = refl
 
-behind-more : (rest : List (List ℕ)) (l : List ℕ) → 0 < length l → behind l rest ≡ l ∷ rest
+behind-more : (rest : List (List ℕ)) (l : List ℕ) → 0 < length l → pieces_after l rest ≡ l ∷ rest
 behind-more rest [] some = absurd (omega arith)
 behind-more rest (b ∷ more) some = refl
 
@@ -44,7 +44,7 @@ gone-front : (room k : ℕ) (rest : List (List ℕ)) (q : List ℕ) → k ≡ mi
 gone-front room k rest [] is some whole = absurd (omega arith)
 gone-front room k rest (b ∷ more) is some whole =
     let all : length (b ∷ more) ≤ room = omega arith in
-    sym (ap (λ (l : List ℕ). behind l rest) (drop_all room (b ∷ more) all))
+    sym (ap (λ (l : List ℕ). pieces_after l rest) (drop_all room (b ∷ more) all))
 
 take-is : (room k : ℕ) (q : List ℕ) → k ≡ min room (length q) → take k q ≡ take room q
 take-is room k q is = ap (λ (n : ℕ). take n q) is ∙ take_min room q

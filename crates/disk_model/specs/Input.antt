@@ -26,15 +26,15 @@ taken room [] = []
 taken room (piece ∷ rest) = take room piece
 
 -- what is left of a piece, and those after it: a piece of which nothing is left is dropped
-abbrev pub behind : List ℕ → List (List ℕ) → List (List ℕ)
-behind [] rest = rest
-behind (b ∷ more) rest = (b ∷ more) ∷ rest
+abbrev pub pieces_after : List ℕ → List (List ℕ) → List (List ℕ)
+pieces_after [] rest = rest
+pieces_after (b ∷ more) rest = (b ∷ more) ∷ rest
 
 -- the pieces that a take leaves
 abbrev pub left_after : ℕ → List (List ℕ) → List (List ℕ)
 left_after room [] = []
 left_after room ([] ∷ rest) = [] ∷ rest
-left_after room ((b ∷ more) ∷ rest) = behind (drop room (b ∷ more)) rest
+left_after room ((b ∷ more) ∷ rest) = pieces_after (drop room (b ∷ more)) rest
 
 -- after a take; an empty buffer sees no end
 abbrev pub took : ℕ → Input → Input

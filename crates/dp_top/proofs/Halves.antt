@@ -19,7 +19,7 @@ use Rattle.journal_text.specs.Reading.{Reading, ending, journal_of, reads}
 use Rattle.journal_text.specs.Records.{IsRecord, Record}
 use Rattle.racing_runner.specs.Offers.{Tells}
 use Rattle.recorder.specs.declared.options.Options.{Options}
-use Rattle.recorder.specs.Recording.{HasRoom, Recorded, Run, epochs, records, report_of, squashes}
+use Rattle.recorder.specs.Recording.{FitsWithin, Recorded, Run, epochs, records, report_of, squashes}
 use Rattle.recorder.specs.Marking.{records_with}
 use Rattle.recorder.proofs.MarkRecords.{MarkLaws, marked_records}
 use Rattle.dp_top.proofs.Marked.{marked_epochs, marked_plays}
@@ -81,7 +81,7 @@ AtRest = (guest : List ℕ) (records : List Record) → IsGuest guest → AllByR
 abbrev Short : Type 0
 Short = (file : List ℕ) → IsGuestFile file → length file ≤ MAX_GUEST_BYTES
 
-module _ (law : AtRest) (size : Short) (laws : MarkLaws) (guest : List ℕ) (tells : Tells) (options : Options) (r : Run tells options (start_state guest)) (accepted : IsGuestFile guest) (fits : AreBytes guest) (encodable : IsEncodable (start_state guest)) (room : HasRoom guest options (records r)) where
+module _ (law : AtRest) (size : Short) (laws : MarkLaws) (guest : List ℕ) (tells : Tells) (options : Options) (r : Run tells options (start_state guest)) (accepted : IsGuestFile guest) (fits : AreBytes guest) (encodable : IsEncodable (start_state guest)) (room : FitsWithin guest options (records r)) where
   abbrev place : ℕ
   place = length (journal_of guest (records r)) - 1
 

@@ -25,8 +25,8 @@ use Rattle.recorder.specs.Moments.{EachMoment, HoldsAt}
 use Rattle.recorder.specs.Recording.{Recorded}
 use Rattle.recorder.proofs.Moments.{blank_reads, nothing_begun}
 use Rattle.dp_top.specs.Asking.{Asked}
-use Rattle.dp_top.specs.Moments.{EveryMoment, IsStill, StandsFor, StillThroughout}
-use Rattle.dp_top.specs.Running.{CameTo, Did, RecordedAs}
+use Rattle.dp_top.specs.Moments.{EveryMoment, IsStill, IsCommandMoment, StillThroughout}
+use Rattle.dp_top.specs.Running.{HasEndedWith, Did, RecordedAs}
 use Rattle.dp_top.proofs.Statuses.{no_recording, not_both, not_recorded, same_mark, same_name}
 
 -- ---- nothing was mid
@@ -38,8 +38,8 @@ pub not_begun : (guest : List ℕ) (every : ℕ) (start : State) (i : Option Inp
 not_begun guest every start i before after same = known-same _ before after same (λ s empty synced. nothing_begun guest every start i i s empty synced)
 
 module _ (name : List ℕ) (every : ℕ) (files : Option (List File)) (i j : Option Input) where
-  blank : (s : History) → s.disk ≡ [] → IsSynced s → Always (StandsFor name every files i j s) s s
-  blank s empty synced = always-start (StandsFor name every files i j s) s
+  blank : (s : History) → s.disk ≡ [] → IsSynced s → Always (IsCommandMoment name every files i j s) s s
+  blank s empty synced = always-start (IsCommandMoment name every files i j s) s
       (λ image sent may. ([], may.got ∙ got-nothing s.sent may.taken ∙ sym (append-nil s.sent), inl (blank_reads s empty synced image may.on_disk, refl)))
 
   idle : (before after : Option History) → after ≡ before → IfKnown (EveryMoment name every files i j) before after
@@ -72,12 +72,12 @@ module _ (tells : Tells) (name : List ℕ) (options : Options) (files : Option (
   recorded_moments : (answer : Result Report RecordFault) → RecordedAs tells name options files i j before after answer → IfKnown (EveryMoment name options.mark files i j) before after
   recorded_moments answer as_ = known-map _ _ _ _
       (λ s t both. (
-        λ empty synced. always-weaker (HoldsAt as_.bytes options.mark (start_state as_.bytes) i j s) (StandsFor name options.mark files i j s) s t (stands s) (both.0 empty synced),
+        λ empty synced. always-weaker (HoldsAt as_.bytes options.mark (start_state as_.bytes) i j s) (IsCommandMoment name options.mark files i j s) s t (stands s) (both.0 empty synced),
         λ some. untouched s t some both.1,
       ))
       (known-both _ _ _ _ as_.moments (found_or_same as_.bytes tells (start_state as_.bytes) options i j before after answer as_.recorded))
     where
-      stands : (s : History) (image sent : List ℕ) → HoldsAt as_.bytes options.mark (start_state as_.bytes) i j s image sent → StandsFor name options.mark files i j s image sent
+      stands : (s : History) (image sent : List ℕ) → HoldsAt as_.bytes options.mark (start_state as_.bytes) i j s image sent → IsCommandMoment name options.mark files i j s image sent
       stands s image sent (said, is, inl none) = (said, is, inl none)
       stands s image sent (said, is, inr recording) =
           (said, is, inr (record { guest = as_.bytes; fetched = as_.fetched; accepted = as_.accepted; recording = recording }))
@@ -86,7 +86,7 @@ module _ (tells : Tells) (name : List ℕ) (options : Options) (files : Option (
       untouched s t some (inl empty) = absurd (omega (arith, some, ap (λ (l : List ℕ). length l) empty))
       untouched s t some (inr same) = subst (λ (h : History). Always (IsStill s) s h) (sym same) (still_start s)
 
-  came_moments : (status : Status) → CameTo tells name options files i j before after status → IfKnown (EveryMoment name options.mark files i j) before after
+  came_moments : (status : Status) → HasEndedWith tells name options files i j before after status → IfKnown (EveryMoment name options.mark files i j) before after
   came_moments status (inl came) = idle name options.mark files i j before after came.2
   came_moments status (inr (inl came)) = idle name options.mark files i j before after came.6
   came_moments status (inr (inr (answer, is, as_))) = recorded_moments answer as_
@@ -109,7 +109,7 @@ pub command_moments : (tells : Tells) (words : List (String Global)) (files : Op
     → IfKnown (Sent Note (status_line status) told) mid after → (a : Asked words) → IfKnown (EveryMoment a.guest a.options.mark files i j) before after
 command_moments tells words files i j before mid after status told did line a = known-then _ _ _ _ _ _
     (λ s t u e b. (
-      λ empty synced. noted-too (StandsFor a.guest a.options.mark files i j s) (status_line status) s t u (e.0 empty synced) b.1.moments,
+      λ empty synced. noted-too (IsCommandMoment a.guest a.options.mark files i j s) (status_line status) s t u (e.0 empty synced) b.1.moments,
       λ some. noted-too (IsStill s) (status_line status) s t u (e.1 some) b.1.moments,
     ))
     (did_moments tells words files i j before mid status did a) line

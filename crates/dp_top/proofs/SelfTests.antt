@@ -38,7 +38,7 @@ use Rattle.dp_words.specs.declared.command.Command.TheVariants.{Inspect, Record,
 use Rattle.dp_top.specs.Asking.{AskedSelfTest}
 use Rattle.dp_top.specs.Moments.{EachTestMoment}
 use Rattle.dp_top.specs.Running.{Did, IsNoFault}
-use Rattle.dp_top.specs.SelfTesting.{IsMemoryFault, MadeRecording, SelfTestedTo, SentLine, Tested, chaos_tells, default_options, no_input, of_recording, self_test_line}
+use Rattle.dp_top.specs.SelfTesting.{IsMemoryFault, MadeRecording, SelfTestedTo, SentLine, Tested, chaos_offers, default_options, no_input, of_recording, self_test_line}
 use Rattle.dp_top.specs.declared.self_test_fault.SelfTestFault.{SelfTestFault}
 use Rattle.dp_top.specs.declared.self_test_fault.SelfTestFault.TheVariants as tests
 use Rattle.dp_top.specs.Answer.{status_of_self_test}
@@ -172,16 +172,16 @@ complete_test tells words files i j before mid status (inr (inr (inr (inr (inr d
 -- the recording of a made guest, by what the calls before it answered
 pub made_by : (n number readings : ℕ) (ended : Bool) (file : List ℕ) (state : State) (options : Options) (before left : History) (answer : Result Report RecordFault)
     → file ≡ guest_file n → state ≡ start_state (guest_file n) → number ≡ n → options ≡ default_options → before ≡ start []
-    → Recorded file (chaos_tells number) state options (Some (no_input false 0)) (Some (no_input ended readings)) (Some before) (Some left) answer → MadeRecording n answer
+    → Recorded file (chaos_offers number) state options (Some (no_input false 0)) (Some (no_input ended readings)) (Some before) (Some left) answer → MadeRecording n answer
 made_by n number readings ended file state options before left answer file_is state_is number_is options_is before_is recorded = record {
   ended = ended;
   readings = readings;
   left = left;
-  recorded = subst (λ (h : History). Recorded (guest_file n) (chaos_tells n) (start_state (guest_file n)) default_options (Some (no_input false 0)) (Some (no_input ended readings)) (Some h) (Some left) answer) before_is
-      (subst (λ (o : Options). Recorded (guest_file n) (chaos_tells n) (start_state (guest_file n)) o (Some (no_input false 0)) (Some (no_input ended readings)) (Some before) (Some left) answer) options_is
-      (subst (λ (k : ℕ). Recorded (guest_file n) (chaos_tells k) (start_state (guest_file n)) options (Some (no_input false 0)) (Some (no_input ended readings)) (Some before) (Some left) answer) number_is
-      (subst (λ (s : State). Recorded (guest_file n) (chaos_tells number) s options (Some (no_input false 0)) (Some (no_input ended readings)) (Some before) (Some left) answer) state_is
-      (subst (λ (f : List ℕ). Recorded f (chaos_tells number) state options (Some (no_input false 0)) (Some (no_input ended readings)) (Some before) (Some left) answer) file_is recorded))));
+  recorded = subst (λ (h : History). Recorded (guest_file n) (chaos_offers n) (start_state (guest_file n)) default_options (Some (no_input false 0)) (Some (no_input ended readings)) (Some h) (Some left) answer) before_is
+      (subst (λ (o : Options). Recorded (guest_file n) (chaos_offers n) (start_state (guest_file n)) o (Some (no_input false 0)) (Some (no_input ended readings)) (Some before) (Some left) answer) options_is
+      (subst (λ (k : ℕ). Recorded (guest_file n) (chaos_offers k) (start_state (guest_file n)) options (Some (no_input false 0)) (Some (no_input ended readings)) (Some before) (Some left) answer) number_is
+      (subst (λ (s : State). Recorded (guest_file n) (chaos_offers number) s options (Some (no_input false 0)) (Some (no_input ended readings)) (Some before) (Some left) answer) state_is
+      (subst (λ (f : List ℕ). Recorded f (chaos_offers number) state options (Some (no_input false 0)) (Some (no_input ended readings)) (Some before) (Some left) answer) file_is recorded))));
 }
 
 -- a journal plays to the output that was sent, and to the report
@@ -191,14 +191,14 @@ Plays = (guest : List ℕ) (tells : Tells) (options : Options) (i j : Option Inp
     → (output : List ℕ) × (after.sent ≡ before.sent ++ output) × Ends (reads after.disk) output (record report { squashes = 0 })
 
 pub sent_plays : Plays → (number readings : ℕ) (ended : Bool) (file : List ℕ) (state : State) (options : Options) (before left : History) (answer : Result Report RecordFault) → IsGuestFile file → AreBytes file → state ≡ start_state file → before.sent ≡ []
-    → Recorded file (chaos_tells number) state options (Some (no_input false 0)) (Some (no_input ended readings)) (Some before) (Some left) answer
+    → Recorded file (chaos_offers number) state options (Some (no_input false 0)) (Some (no_input ended readings)) (Some before) (Some left) answer
     → (report : Report) → answer ≡ Ok report → Ends (reads left.disk) left.sent (record report { squashes = 0 })
 sent_plays law number readings ended file state options before left answer accepted of_bytes state_is none recorded report is =
     let i = Some (no_input false 0) in
     let j = Some (no_input ended readings) in
-    let by_state = subst (λ (s : State). Recorded file (chaos_tells number) s options i j (Some before) (Some left) answer) state_is recorded in
-    let by_answer = subst (λ (a : Result Report RecordFault). Recorded file (chaos_tells number) (start_state file) options i j (Some before) (Some left) a) is by_state in
-    let plays = law file (chaos_tells number) options i j before left report accepted of_bytes by_answer in
+    let by_state = subst (λ (s : State). Recorded file (chaos_offers number) s options i j (Some before) (Some left) answer) state_is recorded in
+    let by_answer = subst (λ (a : Result Report RecordFault). Recorded file (chaos_offers number) (start_state file) options i j (Some before) (Some left) a) is by_state in
+    let plays = law file (chaos_offers number) options i j before left report accepted of_bytes by_answer in
     let sent_is : left.sent ≡ plays.0 = plays.1 ∙ ap (λ (l : List ℕ). l ++ plays.0) none in
     subst (λ (l : List ℕ). Ends (reads left.disk) l (record report { squashes = 0 })) (sym sent_is) plays.2
 

@@ -32,7 +32,7 @@ use Rattle.elf_image.specs.declared.image_fault.ImageFault.{ImageFault}
 use Rattle.elf_image.specs.declared.image_fault.ImageFault.TheVariants as image_faults
 use Rattle.dp_top.specs.Answer.{status_of, status_of_image}
 use Rattle.dp_top.specs.Asking.{Asked, AskedInspection, AskedReplay, AskedSelfTest}
-use Rattle.dp_top.specs.Running.{RecordedAs, CameTo, Did, NamesGuest, IsKnownEmpty, IsNoFault}
+use Rattle.dp_top.specs.Running.{RecordedAs, HasEndedWith, Did, NamesGuest, IsKnownEmpty, IsNoFault}
 
 -- a disk that could not be attached
 pub not_attached : (guest : List ℕ) (tells : Tells) (start : State) (options : Options) (i j : Option Input) (before after : Option History) → j ≡ i → after ≡ before
@@ -43,7 +43,7 @@ not_attached guest tells start options i j before after kept same =
 -- the guest that was fetched was recorded
 pub came_by : (tells : Tells) (name : List ℕ) (options : Options) (files : Option (List File)) (i j : Option Input) (before after : Option History) (guest loaded there : List ℕ) (state : State) (answer : Result Report RecordFault) (status : Status)
     → AreBytes there → IsFetched files name guest → loaded ≡ guest → there ≡ guest → IsGuestFile loaded → state ≡ start_state loaded
-    → status ≡ status_of answer → Recorded there tells state options i j before after answer → EachMoment there options.mark state i j before after → CameTo tells name options files i j before after status
+    → status ≡ status_of answer → Recorded there tells state options i j before after answer → EachMoment there options.mark state i j before after → HasEndedWith tells name options files i j before after status
 came_by tells name options files i j before after guest loaded there state answer status of_bytes fetched loaded_is there_is accepted state_is status_is recorded moments =
     let started : state ≡ start_state guest = state_is ∙ ap start_state loaded_is in
     let as_ : RecordedAs tells name options files i j before after answer = record {
@@ -65,7 +65,7 @@ why_refused fault file (inr refused) = inr refused
 -- the guest that was fetched is refused by the fault of this number, or by none: memory ran out
 pub came_refused : (tells : Tells) (name : List ℕ) (options : Options) (files : Option (List File)) (i j : Option Input) (before after : Option History) (guest loaded : List ℕ) (number : Option ℕ) (status : Status)
     → IsFetched files name guest → loaded ≡ guest → status ≡ status_of_image number → (number ≡ None) ⊎ (image_fault loaded ≡ number)
-    → j ≡ i → after ≡ before → CameTo tells name options files i j before after status
+    → j ≡ i → after ≡ before → HasEndedWith tells name options files i j before after status
 came_refused tells name options files i j before after guest loaded None status fetched loaded_is status_is why kept same = inl (inr status_is, kept, same)
 came_refused tells name options files i j before after guest loaded (Some fault) status fetched loaded_is status_is (inl none) kept same = absurd (none-some fault (sym none))
 came_refused tells name options files i j before after guest loaded (Some fault) status fetched loaded_is status_is (inr refused) kept same =
@@ -173,7 +173,7 @@ answered tells name options files i j before there (Err (faults.StepLimit steps)
 answered tells name options files i j before there (Err (faults.JournalFull end need)) as_ empty input disk sink = tt
 answered tells name options files i j before there (Err faults.OutOfMemory) as_ empty input disk sink = tt
 
-pub complete_by : (tells : Tells) (name : List ℕ) (options : Options) (files : Option (List File)) (i j : Option Input) (before there : Option History) (status : Status) → CameTo tells name options files i j before there status → NamesGuest name files → IsKnownEmpty before
+pub complete_by : (tells : Tells) (name : List ℕ) (options : Options) (files : Option (List File)) (i j : Option Input) (before there : Option History) (status : Status) → HasEndedWith tells name options files i j before there status → NamesGuest name files → IsKnownEmpty before
     → (status ≡ statuses.GuestFault → ⊥) → (status ≡ statuses.InputFault → ⊥) → (status ≡ statuses.DiskFault → ⊥) → (status ≡ statuses.OutputFault → ⊥) → IsNoFault status
 complete_by tells name options files i j before there status (inl (inl is, kept, same)) names empty file input disk sink = absurd (file is)
 complete_by tells name options files i j before there status (inl (inr is, kept, same)) names empty file input disk sink = subst IsNoFault (sym is) tt

@@ -21,8 +21,8 @@ pub record IsRecordingOf (name : List ℕ) (every : ℕ) (files : Option (List F
   pub recording : IsRecording guest every (start_state guest) i j image said
 
 -- No journal yet, and nothing was said; or a recording. What was said is what Out has got since the command began.
-abbrev pub StandsFor : (name : List ℕ) → (every : ℕ) → (files : Option (List File)) → (i j : Option Input) → History → (image sent : List ℕ) → Type 0
-StandsFor name every files i j before image sent = (said : List ℕ) × (sent ≡ before.sent ++ said)
+abbrev pub IsCommandMoment : (name : List ℕ) → (every : ℕ) → (files : Option (List File)) → (i j : Option Input) → History → (image sent : List ℕ) → Type 0
+IsCommandMoment name every files i j before image sent = (said : List ℕ) × (sent ≡ before.sent ++ said)
     × (((reads image ≡ None) × (said ≡ [])) ⊎ IsRecordingOf name every files i j image said)
 
 -- The disk is as it was, and nothing was sent.
@@ -32,7 +32,7 @@ IsStill before image sent = IsImage before.pending image × (sent ≡ before.sen
 -- Every moment of a record command: on a disk that was empty, with nothing pending, it holds; on one that wasn't empty
 -- nothing changes.
 abbrev pub EveryMoment : (name : List ℕ) → (every : ℕ) → (files : Option (List File)) → (i j : Option Input) → History → History → Type 0
-EveryMoment name every files i j s t = (s.disk ≡ [] → IsSynced s → Always (StandsFor name every files i j s) s t) × (0 < length s.disk → Always (IsStill s) s t)
+EveryMoment name every files i j s t = (s.disk ≡ [] → IsSynced s → Always (IsCommandMoment name every files i j s) s t) × (0 < length s.disk → Always (IsStill s) s t)
 
 -- at every moment all is still
 abbrev pub StillThroughout : History → History → Type 0

@@ -42,8 +42,8 @@ pub record RecordedAs (tells : Tells) (name : List ℕ) (options : Options) (fil
 -- What a record command results in, before its status's line is sent on Note. Nothing was done, since the guest's file
 -- could not be read, or is refused, or memory ran out; or the guest was recorded, and the status is that of the
 -- recording's answer.
-abbrev pub CameTo : Tells → (name : List ℕ) → Options → Option (List File) → (i j : Option Input) → (before after : Option History) → Status → Type 0
-CameTo tells name options files i j before after status =
+abbrev pub HasEndedWith : Tells → (name : List ℕ) → Options → Option (List File) → (i j : Option Input) → (before after : Option History) → Status → Type 0
+HasEndedWith tells name options files i j before after status =
     (((status ≡ statuses.GuestFault) ⊎ (status ≡ statuses.OutOfMemory)) × (j ≡ i) × (after ≡ before))
     ⊎ ((bytes : List ℕ) × (fault : ℕ) × (status ≡ statuses.BadImage fault) × IsFetched files name bytes × (image_fault bytes ≡ Some fault) × (j ≡ i) × (after ≡ before))
     ⊎ ((answer : Result Report RecordFault) × (status ≡ status_of answer) × RecordedAs tells name options files i j before after answer)
@@ -64,7 +64,7 @@ abbrev pub Did : Tells → List (String Global) → Option (List File) → (i j 
 Did tells words files i j before after status =
     ((status ≡ statuses.Usage) × (are_taken words ≡ false) × (j ≡ i) × (after ≡ before))
     ⊎ ((status ≡ statuses.OutOfMemory) × (j ≡ i) × (after ≡ before))
-    ⊎ ((a : Asked words) × CameTo tells a.guest a.options files i j before after status)
+    ⊎ ((a : Asked words) × HasEndedWith tells a.guest a.options files i j before after status)
     ⊎ (AskedReplay words × (j ≡ i) × ReplayedTo before after status)
     ⊎ (AskedInspection words × (j ≡ i) × InspectedTo before after status)
     ⊎ ((a : AskedSelfTest words) × (j ≡ i) × SelfTestedTo a.n before after status)

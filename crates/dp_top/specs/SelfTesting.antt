@@ -50,8 +50,8 @@ default_options = record {
 }
 
 -- the known offers of the racer of this number
-abbrev pub chaos_tells : ℕ → Tells
-chaos_tells n state supply plan = Some (chaos n state supply plan)
+abbrev pub chaos_offers : ℕ → Tells
+chaos_offers n state supply plan = Some (chaos n state supply plan)
 
 -- An input without a byte, whose end was seen or wasn't, and a clock that was read `count` times and read 0 each time.
 abbrev pub no_input : (ended : Bool) → (readings : ℕ) → Input
@@ -62,7 +62,7 @@ pub record MadeRecording (n : ℕ) (answer : Result Report RecordFault) : Type 0
   pub ended : Bool
   pub readings : ℕ
   pub left : History
-  pub recorded : Recorded (guest_file n) (chaos_tells n) (start_state (guest_file n)) default_options
+  pub recorded : Recorded (guest_file n) (chaos_offers n) (start_state (guest_file n)) default_options
       (Some (no_input false 0)) (Some (no_input ended readings)) (Some (start [])) (Some left) answer
 
 -- Why there is no report of it. Its disk was empty, its input never fails, and a call on its world fails only if an

@@ -9,7 +9,7 @@ ghost use Rattle.elf_image.specs.Faults.{fault_number};
 ghost use Rattle.dp_top.specs.Answer.{status_of_image};
 ghost use Rattle.dp_top.specs.Asking.{Asked, AskedInspection, AskedReplay, AskedSelfTest};
 ghost use Rattle.dp_top.specs.Moments.{EachListingMoment, EachTestMoment, EveryMoment, StillThroughout};
-ghost use Rattle.dp_top.specs.Running.{CameTo, Did, IsBadImage, IsKnownEmpty, IsKnownListed, IsNoFault, NamesGuest, RanCommand};
+ghost use Rattle.dp_top.specs.Running.{HasEndedWith, Did, IsBadImage, IsKnownEmpty, IsKnownListed, IsNoFault, NamesGuest, RanCommand};
 
 use crate::inspecting::inspect_journal;
 use crate::recording::record_guest;
@@ -251,7 +251,7 @@ fn do_record<
     racer: Q,
     gate: &G,
 ) -> (W, Status)
-    ensures came { CameTo (Q.tells racer) name.now options (F.directory files.old) (I.input inlet.old) (I.input inlet.new) (W.history world) (W.history result.0) result.1 }
+    ensures came { HasEndedWith (Q.tells racer) name.now options (F.directory files.old) (I.input inlet.old) (I.input inlet.new) (W.history world) (W.history result.0) result.1 }
     ensures guest_fault { result.1 ≡ Status.GuestFault → Rose (F.file_faults files.old) (F.file_faults files.new) }
     ensures input_fault { result.1 ≡ Status.InputFault → Rose (I.input_faults inlet.old) (I.input_faults inlet.new) }
     ensures disk_fault { result.1 ≡ Status.DiskFault → Rose (W.disk_faults world) (W.disk_faults result.0) }

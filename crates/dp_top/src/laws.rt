@@ -13,13 +13,13 @@ ghost use Rattle.journal_text.specs.Reading.{journal_of, reads};
 ghost use Rattle.racing_runner.specs.Offers.{Tells};
 ghost use Rattle.recorder.specs.declared.options.Options.{Options};
 ghost use Rattle.recorder.specs.Moments.{IsRecording};
-ghost use Rattle.recorder.specs.Recording.{HasRoom, Recorded, Run, records, report_of};
+ghost use Rattle.recorder.specs.Recording.{FitsWithin, Recorded, Run, records, report_of};
 
 /// The journal of a run, however far it went, plays to its end if it isn't too long: to the run's whole output, and to
 /// the state in which the run ends.
 pub fn a_run_plays_to_its_end()
     ensures { (guest : List ℕ) (tells : Tells) (options : Options) (r : Run tells options (start_state guest)) → IsGuestFile guest → AreBytes guest →
-        HasRoom guest options (records r) →
+        FitsWithin guest options (records r) →
         plays_to (reads (journal_of guest (records r))) ≡ played (record { output = r.output; stop = Ok r.end }) }
 {
     elf_image::laws::a_file_without_fault_has_segments();

@@ -55,7 +55,7 @@ Inspected reading before after (Err faults.OutOfMemory) = after ≡ before
 -- ---- where it is
 
 -- what every step keeps within its bounds
-pub record IsPlaced (file : List ℕ) (here : Listing) : Type 0 where
+pub record IsWithinFile (file : List ℕ) (here : Listing) : Type 0 where
   pub few : here.number ≤ here.at
   pub within : here.at ≤ length file
 

@@ -8,7 +8,7 @@ ghost use Rattle.disk_model.specs.declared.world.Stream.TheVariants.{Out};
 ghost use Rattle.device.specs.Sending.{Sent};
 ghost use Rattle.journal_text.specs.Reading.{Reading, reads};
 ghost use Rattle.epoch_replay.specs.declared.inspect_fault.InspectFault.TheVariants as faults;
-ghost use Rattle.epoch_replay.specs.Inspecting.{Inspected, IsPlaced, ListedOn, ListedSoFar, InspectMetNoOther};
+ghost use Rattle.epoch_replay.specs.Inspecting.{Inspected, IsWithinFile, ListedOn, ListedSoFar, InspectMetNoOther};
 ghost use Rattle.epoch_replay.specs.Inspection.{end_line, epoch_line, guest_line, mark_line};
 ghost use Rattle.epoch_replay.specs.Replaying.{OnDisk};
 
@@ -108,13 +108,13 @@ fn list_record<W: World>(
     here: &mut Listing,
 ) -> Result<bool, InspectFault>
     requires few { length file.now ≤ MAX_JOURNAL_BYTES }
-    requires placed { IsPlaced file.now here.old }
+    requires placed { IsWithinFile file.now here.old }
     ensures listed { (reading : Reading) (first : Option History) →
         ListedSoFar reading file.now first (W.history world.old) here.old →
         ListedOn reading file.now first (W.history world.new) here.new result }
     ensures others { InspectMetNoOther result (W.disk_faults world.old) (W.disk_faults world.new)
         (W.sink_faults world.old) (W.sink_faults world.new) }
-    ensures placed { IfOk result (λ more. IsPlaced file.now here.new) }
+    ensures placed { IfOk result (λ more. IsWithinFile file.now here.new) }
     ensures goes_on { IfOk result (λ more. IsTrue more → here.old.at < here.new.at) }
     ensures stays { IfOk result (λ more. here.old.at ≤ here.new.at) }
     ensures no_disk_fault { IsErrOf result InspectFault.DiskFault → ⊥ }

@@ -27,7 +27,7 @@ use Rattle.epoch_stream.specs.Finishing.{HasFinished}
 use Rattle.epoch_stream.specs.Offers.{AreJobs, offers_within}
 use Rattle.epoch_stream.specs.Rounds.{AreDone}
 use Rattle.epoch_stream.specs.Streams.{HasEnded, HaveJobs, IsWhole, Streamed, and_then}
-use Rattle.epoch_stream.specs.Takes.{IsBehindAll, Took}
+use Rattle.epoch_stream.specs.Takes.{IsAfterAll, Took}
 use Rattle.epoch_stream.proofs.Handing.{in_more}
 use Rattle.epoch_stream.proofs.Jobs.{fewer, job_at}
 
@@ -118,7 +118,7 @@ no_more supply jobs results are = bound (length results) jobs results refl (λ k
   bound zero (j ∷ js) (r ∷ rs) e have = absurd (omega (arith, e))
   bound (suc n) (j ∷ js) (r ∷ rs) e have = let b = bound n js rs (omega (arith, e)) (λ k ran h. have (suc k) ran h) in omega (arith, b)
 
-one_count : (counts : List ℕ) (n at : ℕ) → (counts ≡ []) ⊎ (counts ≡ n ∷ []) → IsBehindAll at counts → n ≤ at
+one_count : (counts : List ℕ) (n at : ℕ) → (counts ≡ []) ⊎ (counts ≡ n ∷ []) → IsAfterAll at counts → n ≤ at
 one_count counts n at (inl e) b = absurd (subst (λ l. In b.0 l) e b.1)
 one_count counts n at (inr e) b = is (subst (λ l. In b.0 l) e b.1) where
   is : In b.0 (n ∷ []) → n ≤ at

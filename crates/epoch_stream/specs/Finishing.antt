@@ -19,7 +19,7 @@ use Rattle.epoch_stream.specs.declared.racer_part.RaceEnd.{RaceEnd}
 use Rattle.epoch_stream.specs.Deposits.{AreOf}
 use Rattle.epoch_stream.specs.Racers.{HasRaced}
 use Rattle.epoch_stream.specs.Rounds.{AreDone}
-use Rattle.epoch_stream.specs.Takes.{IsBehindAll, Took}
+use Rattle.epoch_stream.specs.Takes.{IsAfterAll, Took}
 
 -- The taker took results of deposits that were collected, the racer has raced, and the workers are done. If all results
 -- were taken, nothing was stopped.
@@ -28,7 +28,7 @@ pub record HasFinished {Q T : Type 0} (tells : Q → Tells) (takes : T → Ran �
   pub results : List Ran
   pub took : Took takes taker results after end
   pub are_of : AreOf supply (collected c) results
-  pub all : end ≡ Ok Yes → IsBehindAll (length results) (counts c)
+  pub all : end ≡ Ok Yes → IsAfterAll (length results) (counts c)
   pub has_raced : HasRaced tells b racer start supply plan raced
   pub unstopped : end ≡ Ok Yes → raced.stopped ≡ true → ⊥
   pub are_done : AreDone b supply 1 workers

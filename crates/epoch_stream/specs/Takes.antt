@@ -41,5 +41,5 @@ IsCount None counts = ⊤
 IsCount (Some n) counts = In n counts
 
 -- a count was collected, and there are no more after this place
-abbrev pub IsBehindAll : ℕ → List ℕ → Type 0
-IsBehindAll at counts = (n : ℕ) × In n counts × (n ≤ at)
+abbrev pub IsAfterAll : ℕ → List ℕ → Type 0
+IsAfterAll at counts = (n : ℕ) × In n counts × (n ≤ at)

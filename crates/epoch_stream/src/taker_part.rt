@@ -3,7 +3,7 @@ ghost use Rattle.std.specs.Prelude.{◌≡◌, ◌⊎◌, ◌<◌, ◌≤◌, �
 ghost use Rattle.dp_base.specs.declared.limits.TheConstants.{MAX_JOBS};
 ghost use Rattle.job_board.specs.Passes.{IsCollectorOf, collected, counts};
 ghost use Rattle.epoch_stream.specs.Deposits.{AreOf, In, IsResultIn};
-ghost use Rattle.epoch_stream.specs.Takes.{AreWaiting, IsBehindAll, IsCount, Longer, Took};
+ghost use Rattle.epoch_stream.specs.Takes.{AreWaiting, IsAfterAll, IsCount, Longer, Took};
 ghost use Rattle.epoch_runner.specs.declared.epoch_run.Ran.{Ran};
 ghost use Rattle.racing_runner.specs.declared.offer.More.TheVariants.{Yes};
 
@@ -102,7 +102,7 @@ fn wait_for<R: Wait>(
     ensures places { length tray.new.waiting.items ≡ length tray.old.waiting.items }
     ensures found { IfSome result (λ d. In (suc place, d) (collected tray.new.collector)) }
     ensures within { IfSome result (λ d. place < length tray.old.waiting.items) }
-    ensures all { IsNone result → IsBehindAll place (counts tray.new.collector) }
+    ensures all { IsNone result → IsAfterAll place (counts tray.new.collector) }
 {
     let mut looks = 0u32;
     'turns: for _ in rt.forever() {
@@ -147,7 +147,7 @@ pub(crate) fn take_all<R: Wait, T: Taker + Drop>(
     requires taker { T.ready taker × (T.taken taker ≡ 0) }
     ensures collector { IsCollectorOf board.now result.collector }
     ensures taken { (results : List Ran) × Took T.takes taker results result.taker result.end × AreOf supply.now (collected result.collector) results
-        × (result.end ≡ Ok Yes → IsBehindAll (length results) (counts result.collector)) }
+        × (result.end ≡ Ok Yes → IsAfterAll (length results) (counts result.collector)) }
 {
     let mut next = 0;
     'takes: for _ in rt.forever() {

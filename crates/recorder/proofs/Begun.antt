@@ -5,7 +5,7 @@ use Rattle.dp_base.specs.Journal.{IsGuest}
 use Rattle.disk_model.specs.Input.{Input}
 use Rattle.supply.specs.Supplied.{empty}
 use Rattle.supply.specs.declared.TheConstants.{MAX_ROOM}
-use Rattle.recorder.specs.Drawing.{IsHonestSince}
+use Rattle.recorder.specs.Drawing.{IsFaithfulSince}
 use Rattle.recorder.proofs.Drawings.{has_drawn, none_drawn}
 use Rattle.disk_model.specs.History.{History, IsSynced}
 use Rattle.disk_model.specs.Moments.{Always}
@@ -26,7 +26,7 @@ use Rattle.recorder.proofs.Moments.{begin_left, begins_partly, each_moment, noth
 use Rattle.recorder.proofs.RunLists.{no_epochs}
 use Rattle.racing_runner.specs.Offers.{Tells}
 use Rattle.recorder.specs.declared.tally.Tally.{Tally}
-use Rattle.recorder.specs.Keeping.{CanGoOn, IsDrawn, Kept, Setting, SoFar}
+use Rattle.recorder.specs.Keeping.{CanGoOn, IsWindowOf, Kept, Setting, SoFar}
 use Rattle.checkpoint.specs.State.{IsEncodable}
 use Rattle.journal_text.specs.Records.{Record}
 use Rattle.recorder.proofs.Marking.{none_based, none_marked, none_since}
@@ -57,7 +57,7 @@ begun_so_far a now j tally guest_is steps input goes_on encodable begun_is size 
         are_answers = tt;
         are_records = tt;
         encodable = encodable;
-        drawn = known-same (IsDrawn (empty MAX_ROOM) a.start.input [] []) a.given a.given refl (λ s. subst (λ (n : ℕ). IsDrawn (empty MAX_ROOM) n [] [] s s) (sym input) (none_drawn s));
+        drawn = known-same (IsWindowOf (empty MAX_ROOM) a.start.input [] []) a.given a.given refl (λ s. subst (λ (n : ℕ). IsWindowOf (empty MAX_ROOM) n [] [] s s) (sym input) (none_drawn s));
         history = known-map _ _ _ _ (λ s t b. record { empty = b.0; stands = b.1; sent = b.2.sent ∙ sym (append-nil s.sent); noted = b.2.noted ∙ sym (append-nil s.noted) }) begun;
         moments = known-map _ _ _ _ (λ s t b empty synced. begins_partly a.guest a.options.mark a.start (no_epochs a.start) s t (b.3 guest_is synced empty)) begun;
         place_is = end_is ∙ sym size;
@@ -91,7 +91,7 @@ module _ (guest : List ℕ) (guest_is : IsGuest guest) (tells : Tells) (options 
   pub begin_failed_moments : (now : Option History) (fault : BeginFault) → IfKnown (Begun guest (Err fault)) first now → EachMoment guest options.mark start i i first now
   begin_failed_moments now (begins.InUse len) begun = known-map _ _ _ _ (λ s t b. nothing_written s t b.1) begun
   begin_failed_moments now begins.DiskFault begun =
-      each_moment guest options.mark start [] i i (known-same (IsHonestSince []) i i refl (λ s. (has_drawn (empty MAX_ROOM) 0 [] [] s s (none_drawn s)).1)) first now
+      each_moment guest options.mark start [] i i (known-same (IsFaithfulSince []) i i refl (λ s. (has_drawn (empty MAX_ROOM) 0 [] [] s s (none_drawn s)).1)) first now
       (known-map _ _ _ _ (λ s t b empty_ synced. begins_partly guest options.mark start (no_epochs start) s t (b.2 guest_is synced empty_)) begun)
   begin_failed_moments now (begins.Full end need) begun = known-map _ _ _ _ (λ s t b. nothing_written s t b.1) begun
   begin_failed_moments now begins.OutOfMemory begun = known-map _ _ _ _ (λ s t b. nothing_written s t b.1) begun

@@ -37,7 +37,7 @@ use Rattle.sync_hints.specs.declared.hints.Hints.{Hints}
 use Rattle.epoch_runner.specs.declared.epoch_run.EpochRun.{EpochRun}
 use Rattle.guest_kernel.specs.declared.state.State.{State}
 use Rattle.supply.specs.Supplied.{IsSupply, Supplied, end_of, refilled}
-use Rattle.recorder.specs.Drawing.{Draw, supply_of}
+use Rattle.recorder.specs.Drawing.{RoundInput, supply_of}
 use Rattle.dp_base.specs.declared.limits.TheConstants.{MAX_JOURNAL_BYTES}
 use Rattle.epoch_runner.specs.declared.epoch_run.Ran.{Ran}
 use Rattle.epoch_runner.specs.declared.epoch_run.Ran.TheVariants.{Epoch, Idle}
@@ -46,7 +46,7 @@ use Rattle.recorder.specs.declared.commit.CommitFault.{CommitFault}
 use Rattle.recorder.specs.declared.commit.CommitFault.TheVariants as commits
 use Rattle.recorder.specs.Committing.{CommitCalls, HasCommitted}
 use Rattle.recorder.specs.Machine.{MachineCall, CallLeaves, MachineEvent, HeldRecord, RoundEvent, IsAtRest, IsNextOutput, IsReached, IsTakeable, Judges, Machine, Reaches, RecordFits, Step, after_machine_call, fails, frame_sync, frame_write, gate_sync, gate_write, holds, in_round, journal_end, makes, output_of_runs, record_of_run, send_fails, sends}
-use Rattle.recorder.specs.CallEvents.{AppendEvents, AppendIsEvents, AppliedIsEvent, BegunIsFirst, CallFails, CommitEvents, CommitIsEvents, CommitIsInHand, DrawIsRound, IsAllowed, IsJournalOf, SendEvents, SendIsEvents, after_commit, calls_before, pieces_of, record_calls}
+use Rattle.recorder.specs.CallEvents.{AppendEvents, AppendIsEvents, AppliedIsEvent, BegunIsFirst, CallFails, CommitEvents, CommitIsEvents, CommitIsInHand, InputIsRound, IsAllowed, IsJournalOf, SendEvents, SendIsEvents, after_commit, calls_before, pieces_of, record_calls}
 
 -- ---- events after events
 
@@ -158,7 +158,7 @@ reached_by w taken s true place used_up = omega (arith, used_up refl)
 reached_by w taken s false place used_up = place
 
 pub draw_is_round : ((s : State) (w : Supplied) → IsSupply w → w.place ≤ s.input → s.input ≤ end_of w → input_due s w ≡ true → (s.input ≡ end_of w) × (w.ended ≡ false))
-    → (guest : List ℕ) (supplied : Bool) (m : Machine) (d : Draw) (jobs : ℕ) (i : Input) (w : Supplied) (core : Core) → DrawIsRound guest supplied m d jobs i w core
+    → (guest : List ℕ) (supplied : Bool) (m : Machine) (d : RoundInput) (jobs : ℕ) (i : Input) (w : Supplied) (core : Core) → InputIsRound guest supplied m d jobs i w core
 draw_is_round used_up guest supplied m d jobs i w core = λ none rest over some few is_supply place within due drew w_is core_is. (
   record m {
     input = i;

@@ -16,11 +16,11 @@ use Rattle.racing_runner.specs.declared.offer.Offer.{Offer}
 use Rattle.racing_runner.specs.declared.plan.Plan.{Plan}
 use Rattle.racing_runner.specs.Offers.{IfTold, Tells}
 use Rattle.recorder.specs.declared.options.Options.{Options}
-use Rattle.recorder.specs.Drawing.{Draw, Round, draws_of, epochs_of_rounds, supply_behind, supply_of}
+use Rattle.recorder.specs.Drawing.{RoundInput, Round, round_inputs_of, epochs_of_rounds, supply_after, supply_of}
 use Rattle.recorder.specs.Machine.{epochs_of_runs}
 use Rattle.recorder.specs.Racing.{AreResults, IsRaced, job_bounds, plan_of}
 use Rattle.dp_base.specs.Encoding.{IsPrefixOf}
-use Rattle.recorder.specs.Recording.{EachIsNextEpoch, EachIsRound, IsNextEpoch, IsRound, Run, RunOn, TellsAll, draws, draws_on, epochs, first_after, first_behind, first_next, is_squash, supply}
+use Rattle.recorder.specs.Recording.{EachIsNextEpoch, EachIsRound, IsNextEpoch, IsRound, Run, RunOn, TellsAll, round_inputs, round_inputs_on, epochs, first_after, thread_after, first_next, is_squash, supply}
 use Rattle.recorder.proofs.Alike.{IsDetermined}
 use Rattle.recorder.proofs.JobRuns.{few_results}
 use Rattle.recorder.proofs.RunLists.{epochs-append, first-append}
@@ -137,24 +137,24 @@ module _ (law : IsDetermined) (options : Options) where
 
   same_round : (r q : Round) → r.draw ≡ q.draw → r.epochs ≡ q.epochs → r.squashed ≡ q.squashed → r ≡ q
   same_round r q a b c =
-      ap (λ (x : Draw). record { draw = x; epochs = r.epochs; squashed = r.squashed }) a ∙ ap (λ (x : List journals.Epoch). record { draw = q.draw; epochs = x; squashed = r.squashed }) b
+      ap (λ (x : RoundInput). record { draw = x; epochs = r.epochs; squashed = r.squashed }) a ∙ ap (λ (x : List journals.Epoch). record { draw = q.draw; epochs = x; squashed = r.squashed }) b
       ∙ ap (λ (x : Bool). record { draw = q.draw; epochs = q.epochs; squashed = x }) c
 
   -- a longer run that drew the same at first has the same rounds at first
-  pub split_rounds : (tells : Tells) → TellsAll tells → (first : ℕ) (s : State) (w : Supplied) (xs ys : List Round) (t u : State) (after other : Tells) (more : List Draw) → draws_of ys ≡ draws_of xs ++ more
+  pub split_rounds : (tells : Tells) → TellsAll tells → (first : ℕ) (s : State) (w : Supplied) (xs ys : List Round) (t u : State) (after other : Tells) (more : List RoundInput) → round_inputs_of ys ≡ round_inputs_of xs ++ more
       → EachIsRound tells options first s w xs t after → EachIsRound tells options first s w ys u other
-      → (zs : List Round) × (ys ≡ xs ++ zs) × (draws_of zs ≡ more) × (after ≡ tells) × EachIsRound tells options (first_after first (epochs_of_rounds xs)) t (supply_behind w (draws_of xs)) zs u other
-  split_rounds tells all_told first s w [] ys t u after other more draws a b =
-      (ys, refl, draws, a.1, subst (λ (z : State). EachIsRound tells options first z w ys u other) (sym a.0) b)
-  split_rounds tells all_told first s w (x ∷ xs) [] t u after other more draws a b = absurd cc
-  split_rounds tells all_told first s w (x ∷ xs) (y ∷ ys) t u after other more draws a b =
+      → (zs : List Round) × (ys ≡ xs ++ zs) × (round_inputs_of zs ≡ more) × (after ≡ tells) × EachIsRound tells options (first_after first (epochs_of_rounds xs)) t (supply_after w (round_inputs_of xs)) zs u other
+  split_rounds tells all_told first s w [] ys t u after other more round_inputs a b =
+      (ys, refl, round_inputs, a.1, subst (λ (z : State). EachIsRound tells options first z w ys u other) (sym a.0) b)
+  split_rounds tells all_told first s w (x ∷ xs) [] t u after other more round_inputs a b = absurd cc
+  split_rounds tells all_told first s w (x ∷ xs) (y ∷ ys) t u after other more round_inputs a b =
       let draw : x.draw ≡ y.draw = cc in
-      let later : draws_of ys ≡ draws_of xs ++ more = cc in
-      let is : IsRound tells options first s (supply_of w x.draw) y b.2 b.3 = subst (λ (d : Draw). IsRound tells options first s (supply_of w d) y b.2 b.3) (sym draw) b.4 in
+      let later : round_inputs_of ys ≡ round_inputs_of xs ++ more = cc in
+      let is : IsRound tells options first s (supply_of w x.draw) y b.2 b.3 = subst (λ (d : RoundInput). IsRound tells options first s (supply_of w d) y b.2 b.3) (sym draw) b.4 in
       let same = one_round tells all_told first s (supply_of w x.draw) x y a.2 b.2 a.3 b.3 a.4 is in
       let mine = subst (λ (k : Tells). EachIsRound k options (first_after first x.epochs) a.2 (supply_of w x.draw) xs t after) same.3 a.5 in
       let theirs = subst (λ (k : Tells). EachIsRound k options (first_after first y.epochs) b.2 (supply_of w y.draw) ys u other) same.4 b.5 in
-      let moved = subst (λ (d : Draw). EachIsRound tells options (first_after first y.epochs) b.2 (supply_of w d) ys u other) (sym draw) theirs in
+      let moved = subst (λ (d : RoundInput). EachIsRound tells options (first_after first y.epochs) b.2 (supply_of w d) ys u other) (sym draw) theirs in
       let from = subst (λ (z : State). EachIsRound tells options (first_after first y.epochs) z (supply_of w x.draw) ys u other) (sym same.1) moved in
       let there = subst (λ (l : List journals.Epoch). EachIsRound tells options (first_after first l) a.2 (supply_of w x.draw) ys u other) (sym same.0) from in
       let rest = split_rounds tells all_told (first_after first x.epochs) a.2 (supply_of w x.draw) xs ys t u after other more later mine there in (
@@ -162,17 +162,17 @@ module _ (law : IsDetermined) (options : Options) where
         ap (λ (r : Round). r ∷ ys) (sym (same_round x y draw same.0 same.2)) ∙ ap (λ (l : List Round). x ∷ l) rest.1,
         rest.2,
         rest.3,
-        subst (λ (n : ℕ). EachIsRound tells options n t (supply_behind (supply_of w x.draw) (draws_of xs)) rest.0 u other) (sym (first-append first x.epochs (epochs_of_rounds xs))) rest.4,
+        subst (λ (n : ℕ). EachIsRound tells options n t (supply_after (supply_of w x.draw) (round_inputs_of xs)) rest.0 u other) (sym (first-append first x.epochs (epochs_of_rounds xs))) rest.4,
       )
 
   -- the same draws leave the same rounds
-  pub all_rounds : (tells : Tells) → TellsAll tells → (first : ℕ) (s : State) (w : Supplied) (xs ys : List Round) (t u : State) (after other : Tells) → draws_of xs ≡ draws_of ys
+  pub all_rounds : (tells : Tells) → TellsAll tells → (first : ℕ) (s : State) (w : Supplied) (xs ys : List Round) (t u : State) (after other : Tells) → round_inputs_of xs ≡ round_inputs_of ys
       → EachIsRound tells options first s w xs t after → EachIsRound tells options first s w ys u other → (xs ≡ ys) × (t ≡ u)
-  all_rounds tells all_told first s w xs ys t u after other draws a b =
-      let split = split_rounds tells all_told first s w xs ys t u after other [] (sym draws ∙ sym (append-nil (draws_of xs))) a b in
-      none split.0 (first_after first (epochs_of_rounds xs)) (supply_behind w (draws_of xs)) split.1 split.2 split.4
+  all_rounds tells all_told first s w xs ys t u after other round_inputs a b =
+      let split = split_rounds tells all_told first s w xs ys t u after other [] (sym round_inputs ∙ sym (append-nil (round_inputs_of xs))) a b in
+      none split.0 (first_after first (epochs_of_rounds xs)) (supply_after w (round_inputs_of xs)) split.1 split.2 split.4
     where
-      none : (zs : List Round) (n : ℕ) (v : Supplied) → ys ≡ xs ++ zs → draws_of zs ≡ [] → EachIsRound tells options n t v zs u other → (xs ≡ ys) × (t ≡ u)
+      none : (zs : List Round) (n : ℕ) (v : Supplied) → ys ≡ xs ++ zs → round_inputs_of zs ≡ [] → EachIsRound tells options n t v zs u other → (xs ≡ ys) × (t ≡ u)
       none [] n v is bare each = (sym (is ∙ append-nil xs), sym each.0)
       none (z ∷ zs) n v is bare each = absurd cc
 
@@ -190,15 +190,15 @@ module _ (law : IsDetermined) (options : Options) where
       let first : epoch_of x.epoch ≡ epoch_of r.epoch = ap (λ (z : EpochRun). epoch_of z.epoch) judged.1.0 ∙ sym same.0.1 in
       (more.0, ap (λ (e : journals.Epoch). e ∷ epochs_of_runs others) first ∙ ap (λ (l : List journals.Epoch). epoch_of r.epoch ∷ l) more.1)
 
-  module _ (start : State) (tells : Tells) (all_told : TellsAll tells) (on : RunOn tells options start) (q : Run tells options start) (later : List Draw) (draws_are : draws q ≡ draws_on on ++ later) where
+  module _ (start : State) (tells : Tells) (all_told : TellsAll tells) (on : RunOn tells options start) (q : Run tells options start) (later : List RoundInput) (draws_are : round_inputs q ≡ round_inputs_on on ++ later) where
     -- its committed epochs, these or one more, are the first ones of a run that drew the same
     pub committed_first : (runs : List EpochRun) (rest : List Ran) (end : State) → on.results ≡ map Epoch runs ++ rest → AreLinked on.run.end runs end → IsPrefixOf (epochs on.run ++ epochs_of_runs runs) (epochs q)
     committed_first runs rest end all linked = by_rounds split.0 split.1 split.2 split.4
       where
-        split : (zs : List Round) × (q.rounds ≡ on.run.rounds ++ zs) × (draws_of zs ≡ on.draw ∷ later) × (on.run.racer ≡ tells) × EachIsRound tells options (first_next on.run) on.run.end (supply on.run) zs q.end q.racer
-        split = split_rounds tells all_told 1 start (empty MAX_ROOM) on.run.rounds q.rounds on.run.end q.end on.run.racer q.racer (on.draw ∷ later) (draws_are ∙ append_assoc (draws on.run) (on.draw ∷ []) later) on.run.each q.each
+        split : (zs : List Round) × (q.rounds ≡ on.run.rounds ++ zs) × (round_inputs_of zs ≡ on.draw ∷ later) × (on.run.racer ≡ tells) × EachIsRound tells options (first_next on.run) on.run.end (supply on.run) zs q.end q.racer
+        split = split_rounds tells all_told 1 start (empty MAX_ROOM) on.run.rounds q.rounds on.run.end q.end on.run.racer q.racer (on.draw ∷ later) (draws_are ∙ append_assoc (round_inputs on.run) (on.draw ∷ []) later) on.run.each q.each
 
-        by_rounds : (zs : List Round) → q.rounds ≡ on.run.rounds ++ zs → draws_of zs ≡ on.draw ∷ later → EachIsRound tells options (first_next on.run) on.run.end (supply on.run) zs q.end q.racer
+        by_rounds : (zs : List Round) → q.rounds ≡ on.run.rounds ++ zs → round_inputs_of zs ≡ on.draw ∷ later → EachIsRound tells options (first_next on.run) on.run.end (supply on.run) zs q.end q.racer
             → IsPrefixOf (epochs on.run ++ epochs_of_runs runs) (epochs q)
         by_rounds [] is drew each = absurd cc
         by_rounds (z ∷ zs) is drew each =
@@ -207,7 +207,7 @@ module _ (law : IsDetermined) (options : Options) where
             let s : State = on.run.end in
             let first : ℕ = first_next on.run in
             let mine : IsRaced tells options first s w on.results on.after = subst (λ (k : Tells). IsRaced k options first s w on.results on.after) split.3 on.raced in
-            let theirs : IsRound tells options first s w z each.2 each.3 = subst (λ (d : Draw). IsRound tells options first s (supply_of (supply on.run) d) z each.2 each.3) draw each.4 in
+            let theirs : IsRound tells options first s w z each.2 each.3 = subst (λ (d : RoundInput). IsRound tells options first s (supply_of (supply on.run) d) z each.2 each.3) draw each.4 in
             let told = (all_told s w (plan_of options first s)) in
             let offers : mine.offers ≡ theirs.raced.offers = told_by (tells s w (plan_of options first s)) told.0 (λ l. mine.offers ≡ take (options.ahead - 1) l) told.1 mine.told
             ∙ sym (told_by (tells s w (plan_of options first s)) told.0 (λ l. theirs.raced.offers ≡ take (options.ahead - 1) l) told.1 theirs.raced.told) in
@@ -263,4 +263,4 @@ module _ (options : Options) (tells : Tells) (idle : (s : State) (w : Supplied) 
       (subst (λ (l : List Offer). AreResults options first s l (supply_of w r.draw) is.results) none is.raced.are_results) is.judged is.some is.epochs_are is.squashed_is in
       let rest = subst (λ (k : Tells). EachIsRound k options (first_after first r.epochs) each.2 (supply_of w r.draw) rounds t after) same each.5 in
       let there = subst (λ (l : List journals.Epoch). EachIsRound tells options (first_after first l) each.2 (supply_of w r.draw) rounds t after) one.2 rest in
-      (one.0, each.2, one.1, one.2, one.3, each.1, one.4, each_one (first_behind first one.0.slices) each.2 t (supply_of w r.draw) rounds after there)
+      (one.0, each.2, one.1, one.2, one.3, each.1, one.4, each_one (thread_after first one.0.slices) each.2 t (supply_of w r.draw) rounds after there)

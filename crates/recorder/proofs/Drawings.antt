@@ -14,10 +14,10 @@ use Rattle.epoch_runner.specs.Supplying.{IsSuppliedBy}
 use Rattle.epoch_runner.proofs.AnswerLists.{clocks_append, read_append}
 use Rattle.guest_kernel.specs.Answers.{bytes_read, clock_readings}
 use Rattle.supply.specs.Supplied.{IsLastOf, Supplied, empty, refilled}
-use Rattle.supply.specs.Windows.{behind_takes, bytes_left, windows}
+use Rattle.supply.specs.Windows.{input_after_takes, bytes_left, windows}
 use Rattle.supply.specs.declared.TheConstants.{MAX_ROOM}
-use Rattle.recorder.specs.Drawing.{AreFound, Draw, Drew, DrewAll, HasDrawn, TookIf, readings_since, supply_of}
-use Rattle.recorder.specs.Keeping.{IsDrawn}
+use Rattle.recorder.specs.Drawing.{AreFound, RoundInput, Drew, DrewAll, HaveRead, TookIf, readings_since, supply_of}
+use Rattle.recorder.specs.Keeping.{IsWindowOf}
 
 -- ---- readings
 
@@ -97,7 +97,7 @@ split-item (a ∷ xs) ys (b ∷ before) after x is =
 
 -- ---- what was drawn so far
 
-pub none_drawn : (i : Input) → IsDrawn (empty MAX_ROOM) 0 [] [] i i
+pub none_drawn : (i : Input) → IsWindowOf (empty MAX_ROOM) 0 [] [] i i
 none_drawn i = record {
   drew = refl;
   given = [];
@@ -118,7 +118,7 @@ none_drawn i = record {
 
 -- ---- one round more draws
 
-drew-push : (draws : List Draw) (d : Draw) (i j k : Input) → DrewAll draws i j → Drew d j k → DrewAll (draws ++ d ∷ []) i k
+drew-push : (draws : List RoundInput) (d : RoundInput) (i j k : Input) → DrewAll draws i j → Drew d j k → DrewAll (draws ++ d ∷ []) i k
 drew-push [] d i j k all more = (k, subst (λ (x : Input). Drew d x k) all more, refl)
 drew-push (x ∷ draws) d i j k all more = (all.0, all.1, drew-push draws d all.0 j k all.2 more)
 
@@ -162,8 +162,8 @@ noted-found values reading first before after within low (inr same) found = (
 )
 
 module _ (laws : TakeLaws) where
-  took_more : (w : Supplied) (place : ℕ) (draws : List Draw) (answers : List Answer) (due : Bool) (bytes : List ℕ) (i j mid : Input)
-      → (so_far : IsDrawn w place draws answers i j) → (due ≡ true → w.ended ≡ false) → TookIf due bytes j mid
+  took_more : (w : Supplied) (place : ℕ) (draws : List RoundInput) (answers : List Answer) (due : Bool) (bytes : List ℕ) (i j mid : Input)
+      → (so_far : IsWindowOf w place draws answers i j) → (due ≡ true → w.ended ≡ false) → TookIf due bytes j mid
       → (given : List ℕ) × IsTaken w place answers i j mid (supply_of w (record { due = due; taken = bytes; reading = w.stamp })) given
   took_more w place draws answers false bytes i j mid so_far going step =
       let back : j ≡ mid = sym step in (
@@ -201,9 +201,9 @@ module _ (laws : TakeLaws) where
         }),
       )
 
-  pub drawn_more : (w : Supplied) (place : ℕ) (draws : List Draw) (answers : List Answer) (d : Draw) (i j k : Input)
-      → IsDrawn w place draws answers i j → (d.due ≡ true → w.ended ≡ false) → Drew d j k
-      → IsDrawn (supply_of w d) place (draws ++ d ∷ []) answers i k × IsLast d.reading (readings_since i k)
+  pub drawn_more : (w : Supplied) (place : ℕ) (draws : List RoundInput) (answers : List Answer) (d : RoundInput) (i j k : Input)
+      → IsWindowOf w place draws answers i j → (d.due ≡ true → w.ended ≡ false) → Drew d j k
+      → IsWindowOf (supply_of w d) place (draws ++ d ∷ []) answers i k × IsLast d.reading (readings_since i k)
   drawn_more w place draws answers d i j k so_far going step =
       let mid : Input = step.0 in
       let t = took_more w place draws answers d.due d.taken i j mid so_far going step.1 in
@@ -244,8 +244,8 @@ prefix_whole xs ys given n is size =
         let whole : length (xs ++ ys) ≡ length (take n given) = ap (λ (l : List ℕ). length l) is in
         absurd (omega (arith, whole, length-append xs ys, length-take-le n given (omega (arith, few, size)), few))
 
-pub taken_more : (w : Supplied) (place behind : ℕ) (draws : List Draw) (answers more : List Answer) (i k : Input) → IsDrawn w place draws answers i k → w.place ≤ place
-    → IsSuppliedBy w place behind more → IsLast w.stamp (readings_since i k) → IsDrawn w behind draws (answers ++ more) i k
+pub taken_more : (w : Supplied) (place behind : ℕ) (draws : List RoundInput) (answers more : List Answer) (i k : Input) → IsWindowOf w place draws answers i k → w.place ≤ place
+    → IsSuppliedBy w place behind more → IsLast w.stamp (readings_since i k) → IsWindowOf w behind draws (answers ++ more) i k
 taken_more w place behind draws answers more i k so_far early supplied last = record {
   drew = so_far.drew;
   given = so_far.given;
@@ -293,7 +293,7 @@ taken_more w place behind draws answers more i k so_far early supplied last = re
 
 -- ---- what was drawn is honest
 
-pub has_drawn : (w : Supplied) (place : ℕ) (draws : List Draw) (answers : List Answer) (i j : Input) → IsDrawn w place draws answers i j → HasDrawn draws answers i j
+pub has_drawn : (w : Supplied) (place : ℕ) (draws : List RoundInput) (answers : List Answer) (i j : Input) → IsWindowOf w place draws answers i j → HaveRead draws answers i j
 has_drawn w place draws answers i j is = (
   is.drew,
   (
@@ -326,13 +326,13 @@ at_end_stays room [] is = refl
 at_end_stays room ([] ∷ rest) is = refl
 at_end_stays room ((b ∷ more) ∷ rest) is = absurd cc
 
-one_take : ((room count : ℕ) (i : Input) → concat (windows room count i) ++ bytes_left (behind_takes room count i).left ≡ bytes_left i.left)
+one_take : ((room count : ℕ) (i : Input) → concat (windows room count i) ++ bytes_left (input_after_takes room count i).left ≡ bytes_left i.left)
     → (room : ℕ) (i : Input) → taken room i.left ++ bytes_left (took room i).left ≡ bytes_left i.left
-unfolding behind_takes windows
+unfolding input_after_takes windows
 one_take left room i = ap (λ (l : List ℕ). l ++ bytes_left (took room i).left) (sym (append-nil (taken room i.left))) ∙ left room 1 i
 
 pub take_laws : ((s : Supplied) (given bytes : List ℕ) → IsLastOf s given → IsLastOf (refilled bytes s) (given ++ bytes))
-    → ((room count : ℕ) (i : Input) → concat (windows room count i) ++ bytes_left (behind_takes room count i).left ≡ bytes_left i.left)
+    → ((room count : ℕ) (i : Input) → concat (windows room count i) ++ bytes_left (input_after_takes room count i).left ≡ bytes_left i.left)
     → ((room : ℕ) (left : List (List ℕ)) → 0 < room → (length (taken room left) ≡ 0) ↔ (is_at_end left ≡ true)) → TakeLaws
 take_laws refill left end_ = record {
   refill = refill;

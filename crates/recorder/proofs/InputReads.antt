@@ -10,7 +10,7 @@ use Rattle.guest_kernel.specs.Answers.{bytes_read}
 use Rattle.supply.specs.Windows.{bytes_left}
 use Rattle.supply.specs.declared.TheConstants.{MAX_ROOM}
 use Rattle.supply.proofs.Joined.{none-left}
-use Rattle.recorder.specs.Drawing.{Draw, Drew, DrewAll, HasDrawn, TookIf}
+use Rattle.recorder.specs.Drawing.{RoundInput, Drew, DrewAll, HaveRead, TookIf}
 use Rattle.recorder.proofs.Drawings.{TakeLaws}
 
 -- what was given from one moment to another, and what is left
@@ -54,7 +54,7 @@ module _ (laws : TakeLaws) where
     seen = λ before now. before now;
   })
 
-  left_all : (draws : List Draw) (i j : Input) → DrewAll draws i j → IsLeft i j
+  left_all : (draws : List RoundInput) (i j : Input) → DrewAll draws i j → IsLeft i j
   left_all [] i j same = subst (IsLeft i) (sym same) (left_same i)
   left_all (d ∷ draws) i j all =
       let mid : Input = all.0 in
@@ -66,7 +66,7 @@ module _ (laws : TakeLaws) where
   cancel [] ys zs is = is
   cancel (x ∷ xs) ys zs is = let rest : xs ++ ys ≡ xs ++ zs = cc in cancel xs ys zs rest
 
-  module _ (draws : List Draw) (answers : List Answer) (i j : Input) (drawn : HasDrawn draws answers i j) where
+  module _ (draws : List RoundInput) (answers : List Answer) (i j : Input) (drawn : HaveRead draws answers i j) where
     given_left : drawn.1.0 ++ bytes_left j.left ≡ bytes_left i.left
     given_left =
         let there = left_all draws i j drawn.0 in

@@ -35,12 +35,12 @@ use Rattle.recorder.specs.declared.commit.CommitFault.{CommitFault}
 use Rattle.recorder.specs.declared.commit.CommitFault.TheVariants as commits
 use Rattle.recorder.specs.declared.tally.Tally.{Tally}
 use Rattle.recorder.specs.EpochLaws.{EpochLaws}
-use Rattle.recorder.specs.Drawing.{Draw, Drew, HasDrawn, IsHonestSince, answers_in, readings_since, supply_of}
-use Rattle.recorder.specs.Keeping.{AlwaysPartly, CanGoOn, IsDrawn, IsSince, Kept, Setting}
+use Rattle.recorder.specs.Drawing.{RoundInput, Drew, HaveRead, IsFaithfulSince, answers_in, readings_since, supply_of}
+use Rattle.recorder.specs.Keeping.{AlwaysPartly, CanGoOn, IsWindowOf, IsSince, Kept, Setting}
 use Rattle.recorder.specs.Moments.{EachMoment, HoldsAt}
 use Rattle.recorder.specs.Racing.{job_bounds, epoch_steps}
 use Rattle.recorder.specs.Marking.{IsMarkDue, base_after, base_then, is_due, mark_of, marks_at, records_of, records_unmarked, since_after, since_then}
-use Rattle.recorder.specs.Recording.{GoesOn, HasRoom, IsInterrupted, IsRecorded, first_behind}
+use Rattle.recorder.specs.Recording.{GoesOn, FitsWithin, IsInterrupted, IsRecorded, thread_after}
 use Rattle.checkpoint.specs.State.{IsEncodable, checkpoint_of}
 use Rattle.partial_mark.specs.Base.{partial_of}
 use Rattle.partial_mark.specs.Partial.{IsPartial, Partial, partial_bytes}
@@ -56,7 +56,7 @@ use Rattle.sync_hints.specs.declared.hints.Hints.{Hints}
 
 -- what a round has drawn, and the supply with which it runs its epochs
 pub record HasDrawnRound (w : Supplied) (state : State) (there later : Option Input) (with_ : Supplied) : Type 0 where
-  pub draw : Draw
+  pub draw : RoundInput
   pub due : draw.due ≡ input_due state w
   pub is : with_ ≡ supply_of w draw
   pub drew : IfKnown (Drew draw) there later
@@ -73,7 +73,7 @@ still_placed w place true bytes reading placed inside used = let at_end = used r
 still_placed w place false bytes reading placed inside used = (placed, inside)
 
 pub round_of : (w : Supplied) (state : State) (there later : Option Input) (with_ : Supplied)
-    → (d : Draw) × (d.due ≡ input_due state w) × (with_ ≡ supply_of w d) × IfKnown (Drew d) there later
+    → (d : RoundInput) × (d.due ≡ input_due state w) × (with_ ≡ supply_of w d) × IfKnown (Drew d) there later
     → (input_due state w ≡ true → (state.input ≡ end_of w) × (w.ended ≡ false)) → IsSupply with_ → HasDrawnRound w state there later with_
 round_of w state there later with_ drew used is_supply =
     record { draw = drew.0; due = drew.1; is = drew.2; drew = drew.3; used = λ e. used (sym drew.1 ∙ e); is_supply = is_supply }
@@ -94,23 +94,23 @@ pub round_goes : (s : State) (w : Supplied) (there later : Option Input) (with_ 
 round_goes s w there later with_ round ready refills stamps =
     ap (can_step s) round.is ∙ can_go s w round.draw.due round.draw.taken round.draw.reading round.due ready refills stamps
 
-module _ (a : Setting) (there : Option Input) (now : Option History) (K : List Record) (E : List Epoch) (D : List Draw) (output : List ℕ) (state : State) (w : Supplied) (j : Journal) (tally : Tally) (kept : Kept a there now K E D output state w j tally) where
-  pub fits_still : HasRoom a.guest a.options K
+module _ (a : Setting) (there : Option Input) (now : Option History) (K : List Record) (E : List Epoch) (D : List RoundInput) (output : List ℕ) (state : State) (w : Supplied) (j : Journal) (tally : Tally) (kept : Kept a there now K E D output state w j tally) where
+  pub fits_still : FitsWithin a.guest a.options K
   fits_still = omega (arith, kept.fits, kept.place_is, kept.room_is)
 
-  pub drawn_still : IfKnown (HasDrawn D (answers_in E)) a.given there
-  drawn_still = known-map (IsDrawn w state.input D (answers_in E)) (HasDrawn D (answers_in E)) a.given there
+  pub drawn_still : IfKnown (HaveRead D (answers_in E)) a.given there
+  drawn_still = known-map (IsWindowOf w state.input D (answers_in E)) (HaveRead D (answers_in E)) a.given there
       (λ s t is. has_drawn w state.input D (answers_in E) s t is)
       kept.drawn
 
-  honest_of : (later : Option Input) (draws : List Draw) → IfKnown (HasDrawn draws (answers_in E)) a.given later → IfKnown (IsHonestSince (answers_in E)) a.given later
-  honest_of later draws drawn = known-map (HasDrawn draws (answers_in E)) (IsHonestSince (answers_in E)) a.given later (λ s t h. h.1) drawn
+  honest_of : (later : Option Input) (draws : List RoundInput) → IfKnown (HaveRead draws (answers_in E)) a.given later → IfKnown (IsFaithfulSince (answers_in E)) a.given later
+  honest_of later draws drawn = known-map (HaveRead draws (answers_in E)) (IsFaithfulSince (answers_in E)) a.given later (λ s t h. h.1) drawn
 
   -- every moment so far
   pub moments_now : (later : Option Input) → later ≡ there → EachMoment a.guest a.options.mark a.start a.given later a.before now
   moments_now later same =
       let honest = honest_of there D drawn_still in
-      each_moment a.guest a.options.mark a.start E a.given later (subst (λ (o : Option Input). IfKnown (IsHonestSince (answers_in E)) a.given o) (sym same) honest) a.before now kept.moments
+      each_moment a.guest a.options.mark a.start E a.given later (subst (λ (o : Option Input). IfKnown (IsFaithfulSince (answers_in E)) a.given o) (sym same) honest) a.before now kept.moments
 
   -- ---- a round draws
 
@@ -120,10 +120,10 @@ module _ (a : Setting) (there : Option Input) (now : Option History) (K : List R
         (still_placed w state.input round.draw.due round.draw.taken round.draw.reading kept.placed kept.inside (λ e. (round.used e).0))
 
     abbrev DrawnSo : Input → Input → Type 0
-    DrawnSo s t = IsDrawn (supply_of w round.draw) state.input (D ++ round.draw ∷ []) (answers_in E) s t × IsLast round.draw.reading (readings_since s t)
+    DrawnSo s t = IsWindowOf (supply_of w round.draw) state.input (D ++ round.draw ∷ []) (answers_in E) s t × IsLast round.draw.reading (readings_since s t)
 
     with_round : IfKnown DrawnSo a.given later
-    with_round = known-then (IsDrawn w state.input D (answers_in E)) (Drew round.draw) DrawnSo a.given there later
+    with_round = known-then (IsWindowOf w state.input D (answers_in E)) (Drew round.draw) DrawnSo a.given there later
         (λ s t u d b. drawn_more laws w state.input D (answers_in E) round.draw s t u d (λ e. (round.used e).1) b)
         kept.drawn round.drew
 
@@ -141,8 +141,8 @@ module _ (a : Setting) (there : Option Input) (now : Option History) (K : List R
       are_answers = kept.are_answers;
       are_records = kept.are_records;
       encodable = kept.encodable;
-      drawn = known-map DrawnSo (IsDrawn with_ state.input (D ++ round.draw ∷ []) (answers_in E)) a.given later
-          (λ s t d. subst (λ (x : Supplied). IsDrawn x state.input (D ++ round.draw ∷ []) (answers_in E) s t) (sym round.is) d.0)
+      drawn = known-map DrawnSo (IsWindowOf with_ state.input (D ++ round.draw ∷ []) (answers_in E)) a.given later
+          (λ s t d. subst (λ (x : Supplied). IsWindowOf x state.input (D ++ round.draw ∷ []) (answers_in E) s t) (sym round.is) d.0)
           with_round;
       history = kept.history;
       moments = kept.moments;
@@ -166,7 +166,7 @@ module _ (a : Setting) (there : Option Input) (now : Option History) (K : List R
 
 -- ---- an epoch is run from here
 
-module _ (a : Setting) (there : Option Input) (now : Option History) (E : List Epoch) (D : List Draw) (output : List ℕ) (state : State) (w : Supplied) (j : Journal) (tally : Tally) (kept : Kept a there now (records_of a.options a.start E) E D output state w j tally) where
+module _ (a : Setting) (there : Option Input) (now : Option History) (E : List Epoch) (D : List RoundInput) (output : List ℕ) (state : State) (w : Supplied) (j : Journal) (tally : Tally) (kept : Kept a there now (records_of a.options a.start E) E D output state w j tally) where
   abbrev K : List Record
   K = records_of a.options a.start E
 
@@ -216,17 +216,17 @@ module _ (a : Setting) (there : Option Input) (now : Option History) (E : List E
     pub may_go_on : GoesOn a.options state
     may_go_on = (not_ended (has_ended state.end) (list_any (is_ready state w) state.threads) is.could_step, left)
 
-    drawn_more_ : IfKnown (IsDrawn w r.end.input D (answers_in (E ++ e ∷ []))) a.given there
+    drawn_more_ : IfKnown (IsWindowOf w r.end.input D (answers_in (E ++ e ∷ []))) a.given there
     drawn_more_ = known-map _ _ a.given there
-        (λ s t d. subst (λ (l : List Answer). IsDrawn w r.end.input D l s t) (sym (answers_in-push E e))
+        (λ s t d. subst (λ (l : List Answer). IsWindowOf w r.end.input D l s t) (sym (answers_in-push E e))
         (taken_more w state.input r.end.input D (answers_in E) e.answers s t d.0 kept.placed supplied d.1))
-        (known-both (IsDrawn w state.input D (answers_in E)) (λ s t. IsLast w.stamp (readings_since s t)) a.given there kept.drawn last)
+        (known-both (IsWindowOf w state.input D (answers_in E)) (λ s t. IsLast w.stamp (readings_since s t)) a.given there kept.drawn last)
 
-    pub drawn_epoch : IfKnown (HasDrawn D (answers_in (E ++ e ∷ []))) a.given there
+    pub drawn_epoch : IfKnown (HaveRead D (answers_in (E ++ e ∷ []))) a.given there
     drawn_epoch = known-map _ _ a.given there (λ s t d. has_drawn w r.end.input D (answers_in (E ++ e ∷ [])) s t d) drawn_more_
 
-    honest_there : IfKnown (IsHonestSince (answers_in (E ++ e ∷ []))) a.given there
-    honest_there = known-map (HasDrawn D (answers_in (E ++ e ∷ []))) (IsHonestSince (answers_in (E ++ e ∷ []))) a.given there (λ s t h. h.1) drawn_epoch
+    honest_there : IfKnown (IsFaithfulSince (answers_in (E ++ e ∷ []))) a.given there
+    honest_there = known-map (HaveRead D (answers_in (E ++ e ∷ []))) (IsFaithfulSince (answers_in (E ++ e ∷ []))) a.given there (λ s t h. h.1) drawn_epoch
 
     push : records_unmarked a.options a.start (E ++ e ∷ []) ≡ K ++ epoch e ∷ []
     push = epoch_more a.options.mark 0 a.start a.start E state output e end_at kept.chained is.runs.ran
@@ -302,7 +302,7 @@ module _ (a : Setting) (there : Option Input) (now : Option History) (E : List E
 
       -- it was committed
       pub kept_committed : 0 < length added → HasCommitted j (length added) j' (Ok tt) → IfKnown (Committed j added r.out (Ok tt)) now behind → (tally' : Tally)
-          → tally'.first ≡ first_behind tally.first e.slices → tally'.epochs ≡ tally.epochs + 1 → tally'.sent ≡ tally.sent + length r.out → tally'.since ≡ tally.since + 1 → tally'.base ≡ tally.base
+          → tally'.first ≡ thread_after tally.first e.slices → tally'.epochs ≡ tally.epochs + 1 → tally'.sent ≡ tally.sent + length r.out → tally'.since ≡ tally.since + 1 → tally'.base ≡ tally.base
           → Kept a there behind (records_unmarked a.options a.start (E ++ e ∷ [])) (E ++ e ∷ []) D (output ++ r.out) r.end w j' tally'
       kept_committed some numbers known tally' first_is epochs_are sent_is since_is base_is =
           let end_is : j'.end ≡ j.end + length added = ap (λ (k : Journal). k.end) numbers.2 in
@@ -336,7 +336,7 @@ module _ (a : Setting) (there : Option Input) (now : Option History) (E : List E
             room_is = ap (λ (k : Journal). k.room) numbers.2 ∙ kept.room_is;
             fits = omega (arith, end_is, numbers.1, ap (λ (k : Journal). k.room) numbers.2);
             works = ap (λ (k : Journal). k.failed) numbers.2 ∙ kept.works;
-            first_is = first_is ∙ ap (λ n. first_behind n e.slices) kept.first_is ∙ sym (first_after-push 1 E e);
+            first_is = first_is ∙ ap (λ n. thread_after n e.slices) kept.first_is ∙ sym (first_after-push 1 E e);
             count = omega (arith, kept.count, length_push E e, epochs_are);
             few = omega (arith, end_is, kept.few, some, epochs_are);
             sent_is = omega (arith, kept.sent_is, length-append output r.out, sent_is);
@@ -360,7 +360,7 @@ module _ (a : Setting) (there : Option Input) (now : Option History) (E : List E
 
 -- ---- the mark after the last epoch
 
-module _ (a : Setting) (there : Option Input) (now : Option History) (E : List Epoch) (D : List Draw) (output : List ℕ) (state : State) (w : Supplied) (j : Journal) (tally : Tally) (kept : Kept a there now (records_unmarked a.options a.start E) E D output state w j tally) (since : IsSince false a E state tally.since tally.base) where
+module _ (a : Setting) (there : Option Input) (now : Option History) (E : List Epoch) (D : List RoundInput) (output : List ℕ) (state : State) (w : Supplied) (j : Journal) (tally : Tally) (kept : Kept a there now (records_unmarked a.options a.start E) E D output state w j tally) (since : IsSince false a E state tally.since tally.base) where
   abbrev bare : List Record
   bare = records_unmarked a.options a.start E
 

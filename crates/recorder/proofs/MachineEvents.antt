@@ -23,7 +23,7 @@ use Rattle.epoch_journal.specs.Standing.{Stands}
 use Rattle.journal_text.specs.Reading.{journal_of}
 use Rattle.recorder.specs.Machine.{MachineCall, MachineEvent, HeldRecord, RoundEvent, IsAtRest, IsMachineResult, IsTakeable, Judges, Machine, Reaches, Step, after_machine_call, crash, fails, first_machine, frame_sync, frame_write, gate_sync, gate_write, holds, in_round, judged_runs, makes, marks, nothing, record_of_run, round, runs_in_hand, send_fails, sends, base_with}
 use Rattle.recorder.specs.Marking.{mark_of}
-use Rattle.recorder.specs.MachineKept.{IsKept, IsMachineRound, StandFor, WasTaken, with_held}
+use Rattle.recorder.specs.MachineKept.{IsKept, IsMachineRound, AreRecordsOf, WasTaken, with_held}
 use Rattle.recorder.proofs.MachineRuns.{Follows, IsRunHere, Linked, linked-append, linked-chain, linked-links, mark_follows, run_follows, stand-append}
 use Rattle.recorder.proofs.MachineOutside.{ByHand, Holds, crashed, images_of, round_only, send_failed, sent, starts, taken_up, write_failed, wrote}
 use Rattle.recorder.proofs.MachineRound.{RoundInv, committed_round, fresh_round, gone_on, judged_last, judged_open, judged_shut, next_known, offered_round, shut_round, taken_last, taken_round, taken_runs}
@@ -142,13 +142,13 @@ module _ (guest : List ℕ) (start : State) (before : History) (is-guest : IsGue
   ended records written base s nothing is = subst (λ (l : List EpochRun). Linked start l s) (sym (append-nil written)) is.0
   ended records written base s (holds r rs call) is = linked-append start is.0 s written rs is.1.0 is.2.linked
 
-  stands_for : (records : List Record) (written : List EpochRun) (base s : State) (hand : HeldRecord) → ByHand guest start before is-guest records written base s hand → (there : State) × StandFor start start records written base there
+  stands_for : (records : List Record) (written : List EpochRun) (base s : State) (hand : HeldRecord) → ByHand guest start before is-guest records written base s hand → (there : State) × AreRecordsOf start start records written base there
   stands_for records written base s nothing is = (s, is.1)
   stands_for records written base s (holds r rs call) is = (is.0, is.1.1)
 
   held_stands : (records : List Record) (written : List EpochRun) (base s : State) (hand : HeldRecord) → ByHand guest start before is-guest records written base s hand
-      → (base_after : State) × StandFor start start (with_held records hand) (written ++ runs_in_hand hand) base_after s
-  held_stands records written base s nothing is = (base, subst (λ (l : List EpochRun). StandFor start start records l base s) (sym (append-nil written)) is.1)
+      → (base_after : State) × AreRecordsOf start start (with_held records hand) (written ++ runs_in_hand hand) base_after s
+  held_stands records written base s nothing is = (base, subst (λ (l : List EpochRun). AreRecordsOf start start records l base s) (sym (append-nil written)) is.1)
   held_stands records written base s (holds r rs call) is = (
     base_with r base s,
     stand-append start start base is.0 (base_with r base s) s records (r ∷ []) written rs is.1.1 is.2.stands,

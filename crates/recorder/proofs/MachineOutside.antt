@@ -20,7 +20,7 @@ use Rattle.guest_kernel.specs.declared.state.State.{State}
 use Rattle.journal_text.specs.Reading.{journal_of}
 use Rattle.journal_text.specs.Records.{IsRecord, Record, body_of}
 use Rattle.recorder.specs.Machine.{MachineCall, CallLeaves, HeldRecord, IsNextOutput, Machine, after_machine_call, base_with, first_machine, frame_sync, frame_write, gate_sync, gate_write, holds, journal_end, nothing, output_of_runs}
-use Rattle.recorder.specs.MachineKept.{ReadsWith, StandFor, in_question, record_in_hand, record_opened}
+use Rattle.recorder.specs.MachineKept.{ReadsWith, AreRecordsOf, in_question, record_in_hand, record_opened}
 use Rattle.std.proofs.lemmas.Grind.{flat_map-append}
 use Rattle.recorder.proofs.MachineRuns.{Follows, Linked, linked-append, stand-append}
 use Rattle.recorder.proofs.MachineDisk.{IsBehind, IsFramed, IsOpened, IsSettled, IsWaiting, acknowledged_by, behind_by, framed_by, opened_by, torn_frame, torn_gate, whole_frame, whole_journal}
@@ -52,7 +52,7 @@ module _ (guest : List ℕ) (start : State) (before : History) (is-guest : IsGue
   -- ---- what holds
 
   abbrev pub AtState : List Record → List EpochRun → (base t : State) → Type 0
-  AtState records written base t = Linked start written t × StandFor start start records written base t
+  AtState records written base t = Linked start written t × AreRecordsOf start start records written base t
 
   abbrev pub ByHand : List Record → List EpochRun → (base s : State) → HeldRecord → Type 0
   ByHand records written base s nothing = AtState records written base s

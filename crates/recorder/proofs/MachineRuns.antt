@@ -12,7 +12,7 @@ use Rattle.journal_text.specs.Records.{IsRecord, Record, epoch, mark, partial}
 use Rattle.partial_mark.proofs.Applying.{back}
 use Rattle.recorder.specs.Machine.{base_with, epochs_of_runs, output_of_runs, record_of_run}
 use Rattle.recorder.specs.Marking.{mark_of}
-use Rattle.recorder.specs.MachineKept.{StandFor}
+use Rattle.recorder.specs.MachineKept.{AreRecordsOf}
 
 abbrev pub IsRunHere : EpochRun → Type 0
 IsRunHere r = IsRunOf r.start (epoch_of r.epoch) r.out r.end
@@ -41,9 +41,9 @@ linked-chain s t (r ∷ rs) l =
 
 -- ---- records
 
-pub stand-append : (a s b t c u : State) (records more : List Record) (rs others : List EpochRun) → StandFor a s records rs b t → StandFor b t more others c u → StandFor a s (records ++ more) (rs ++ others) c u
+pub stand-append : (a s b t c u : State) (records more : List Record) (rs others : List EpochRun) → AreRecordsOf a s records rs b t → AreRecordsOf b t more others c u → AreRecordsOf a s (records ++ more) (rs ++ others) c u
 stand-append a s b t c u [] more [] others st next =
-    subst (λ (x : State). StandFor a x more others c u) st.1 (subst (λ (x : State). StandFor x t more others c u) st.0 next)
+    subst (λ (x : State). AreRecordsOf a x more others c u) st.1 (subst (λ (x : State). AreRecordsOf x t more others c u) st.0 next)
 stand-append a s b t c u [] more (x ∷ rs) others st next = absurd st
 stand-append a s b t c u (epoch e ∷ records) more [] others st next = absurd st
 stand-append a s b t c u (epoch e ∷ records) more (x ∷ rs) others st next = (st.0, stand-append a x.end b t c u records more rs others st.1 next)
@@ -53,7 +53,7 @@ stand-append a s b t c u (partial m ∷ records) more rs others st next = (st.0,
 -- a record that may be written after these states, if the next mark has this base
 pub record Follows (base s : State) (r : Record) (rs : List EpochRun) (t : State) : Type 0 where
   pub linked : Linked s rs t
-  pub stands : StandFor base s (r ∷ []) rs (base_with r base t) t
+  pub stands : AreRecordsOf base s (r ∷ []) rs (base_with r base t) t
   pub is_record : IsRecord r
 
 -- a run has a record

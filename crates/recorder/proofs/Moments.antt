@@ -20,8 +20,8 @@ use Rattle.guest_kernel.specs.Slices.{chain}
 use Rattle.journal_text.specs.Reading.{reads}
 use Rattle.journal_text.specs.Records.{Record, epoch, partial}
 use Rattle.recorder.specs.Committing.{IsCommitting}
-use Rattle.recorder.specs.Drawing.{AreFound, IsHonestSince, answers_in, readings_since}
-use Rattle.recorder.specs.Keeping.{AlwaysPartly, IsFront, IsPartly}
+use Rattle.recorder.specs.Drawing.{AreFound, IsFaithfulSince, answers_in, readings_since}
+use Rattle.recorder.specs.Keeping.{AlwaysPartly, IsFirstPart, IsPartly}
 use Rattle.recorder.specs.Moments.{EachMoment, HoldsAt, IsRecording}
 use Rattle.recorder.specs.Marking.{records_with}
 use Rattle.recorder.proofs.Marking.{none_marked}
@@ -36,7 +36,7 @@ found-left [] more readings found = tt
 found-left (v ∷ values) more readings found = (found.0, found.1, found-left values more (drop found.0 readings) found.2)
 
 -- the first of honest answers are honest
-honest-left : (xs ys : List Answer) (i j : Input) → IsHonestSince (xs ++ ys) i j → IsHonestSince xs i j
+honest-left : (xs ys : List Answer) (i j : Input) → IsFaithfulSince (xs ++ ys) i j → IsFaithfulSince xs i j
 honest-left xs ys i j honest =
     let is = honest.2 in
     let rest : List ℕ = is.reads.0 in (
@@ -140,8 +140,8 @@ module _ (guest : List ℕ) (every : ℕ) (start : State) where
 
   -- ---- it is over
 
-  module _ (epochs : List Epoch) (i j : Option Input) (honest : IfKnown (IsHonestSince (answers_in epochs)) i j) where
-    front_recorded : (image said : List ℕ) → IsFront guest every start epochs image said → IsRecording guest every start i j image said
+  module _ (epochs : List Epoch) (i j : Option Input) (honest : IfKnown (IsFaithfulSince (answers_in epochs)) i j) where
+    front_recorded : (image said : List ℕ) → IsFirstPart guest every start epochs image said → IsRecording guest every start i j image said
     front_recorded image said f = record {
       epochs = f.front;
       all = f.marked;
@@ -149,8 +149,8 @@ module _ (guest : List ℕ) (every : ℕ) (start : State) where
       end = f.end;
       output = f.output;
       chained = f.chained;
-      honest = known-map (IsHonestSince (answers_in epochs)) (IsHonestSince (answers_in f.front)) i j
-          (λ a b h. honest-left (answers_in f.front) (answers_in f.rest) a b (subst (λ (l : List Answer). IsHonestSince l a b) (ap answers_in f.all ∙ answers_in-append f.front f.rest) h))
+      honest = known-map (IsFaithfulSince (answers_in epochs)) (IsFaithfulSince (answers_in f.front)) i j
+          (λ a b h. honest-left (answers_in f.front) (answers_in f.rest) a b (subst (λ (l : List Answer). IsFaithfulSince l a b) (ap answers_in f.all ∙ answers_in-append f.front f.rest) h))
           honest;
       sent = f.sent;
     }

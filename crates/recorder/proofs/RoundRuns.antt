@@ -33,7 +33,7 @@ use Rattle.recorder.specs.declared.commit.CommitFault.TheVariants as commits
 use Rattle.recorder.specs.declared.record_fault.RecordFault.{RecordFault}
 use Rattle.recorder.specs.declared.record_fault.RecordFault.TheVariants as faults
 use Rattle.recorder.specs.declared.tally.Tally.{Tally}
-use Rattle.recorder.specs.Drawing.{Draw, Drew, HasDrawn, Round, answers_in, draws_of, epochs_of_rounds, supply_behind, supply_of}
+use Rattle.recorder.specs.Drawing.{RoundInput, Drew, HaveRead, Round, answers_in, round_inputs_of, epochs_of_rounds, supply_after, supply_of}
 use Rattle.recorder.specs.EpochLaws.{EpochLaws}
 use Rattle.recorder.specs.Faults.{RecordMetNoOther, of_commit}
 use Rattle.recorder.specs.Keeping.{InRound, IsOver, IsSince, IsStopped, Kept, Setting, SoFar, Within}
@@ -48,7 +48,7 @@ use Rattle.epoch_journal.specs.Appending.{HasAppended, RecordWritten}
 use Rattle.epoch_journal.specs.declared.append.AppendFault.TheVariants as appends
 use Rattle.recorder.specs.Moments.{EachMoment}
 use Rattle.dp_base.specs.declared.limits.TheConstants.{MAX_BODY_BYTES}
-use Rattle.recorder.specs.Recording.{HasRoom, IsRecorded, IsRound, NextEpoch, Recorded, RunOn, draws, epochs, first_behind, first_next, is_squash, supply}
+use Rattle.recorder.specs.Recording.{FitsWithin, IsRecorded, IsRound, NextEpoch, Recorded, RunOn, round_inputs, epochs, thread_after, first_next, is_squash, supply}
 use Rattle.recorder.proofs.Drawings.{TakeLaws}
 use Rattle.recorder.proofs.JobRuns.{cancel, commits_one, front_results, judged_links, next_run, same_end, some_results, starts_there}
 use Rattle.recorder.proofs.Keeps.{encodable_there, HasDrawnRound, commit_failed_moments, cut_off, drawn_epoch, drawn_still, fits_still, interrupted, kept_committed, kept_drawn, kept_marked, last_drawn, low, mark_due, mark_interrupted, marking_moments, may_go_on, moments_now, not_added, not_due, round_goes, round_of, since_next, size_marked, size_more, steps_more}
@@ -117,7 +117,7 @@ pub begins : (a : Setting) (there later : Option Input) (now : Option History) (
 begins a there later now racer after state w with_ j tally count so_far laws round going left can results whole raced core judged at_start =
     let here = subst (λ (n : ℕ). RacedWith racer a.options n state with_ results after (IsAll (whole ≡ true) results)) so_far.kept.first_is raced in
     let run_ = run_so_far a there now racer state w j tally count so_far in
-    let kept = kept_drawn a there now (records_of a.options a.start (epochs_of_rounds so_far.rounds)) (epochs_of_rounds so_far.rounds) (draws_of so_far.rounds) so_far.output state w j tally so_far.kept laws later with_ round in
+    let kept = kept_drawn a there now (records_of a.options a.start (epochs_of_rounds so_far.rounds)) (epochs_of_rounds so_far.rounds) (round_inputs_of so_far.rounds) so_far.output state w j tally so_far.kept laws later with_ round in
     record {
       run = run_;
       from_is = refl;
@@ -136,14 +136,14 @@ begins a there later now racer after state w with_ j tally count so_far laws rou
       judged = judged;
       output = so_far.output;
       since_is = subst (λ (l : List journals.Epoch). IsSince true a l core.committed tally.since tally.base) (sym (append-nil (epochs_of_rounds so_far.rounds))) so_far.since_is;
-      kept = subst (λ (l : List journals.Epoch). Kept a later now (records_of a.options a.start l) l (draws_of so_far.rounds ++ round.draw ∷ []) so_far.output core.committed with_ j tally) (sym (append-nil (epochs_of_rounds so_far.rounds)))
-          (subst (λ (s : State). Kept a later now (records_of a.options a.start (epochs_of_rounds so_far.rounds)) (epochs_of_rounds so_far.rounds) (draws_of so_far.rounds ++ round.draw ∷ []) so_far.output s with_ j tally) (sym at_start) kept);
-      last = last_drawn a there now (records_of a.options a.start (epochs_of_rounds so_far.rounds)) (epochs_of_rounds so_far.rounds) (draws_of so_far.rounds) so_far.output state w j tally so_far.kept laws later with_ round;
+      kept = subst (λ (l : List journals.Epoch). Kept a later now (records_of a.options a.start l) l (round_inputs_of so_far.rounds ++ round.draw ∷ []) so_far.output core.committed with_ j tally) (sym (append-nil (epochs_of_rounds so_far.rounds)))
+          (subst (λ (s : State). Kept a later now (records_of a.options a.start (epochs_of_rounds so_far.rounds)) (epochs_of_rounds so_far.rounds) (round_inputs_of so_far.rounds ++ round.draw ∷ []) so_far.output s with_ j tally) (sym at_start) kept);
+      last = last_drawn a there now (records_of a.options a.start (epochs_of_rounds so_far.rounds)) (epochs_of_rounds so_far.rounds) (round_inputs_of so_far.rounds) so_far.output state w j tally so_far.kept laws later with_ round;
       longer = omega (arith, ap (λ (s : State). s.steps) at_start);
     }
 
 module _ (laws : StepLaws) (a : Setting) (there later : Option Input) (now : Option History) (racer : Tells) (state : State) (w with_ : Supplied) (j : Journal) (tally : Tally) (count : ℕ) (so_far : SoFar a there now racer state w j tally count)
-    (drew : (d : Draw) × (d.due ≡ input_due state w) × (with_ ≡ supply_of w d) × IfKnown (Drew d) there later) (is_supply : IsSupply with_) where
+    (drew : (d : RoundInput) × (d.due ≡ input_due state w) × (with_ ≡ supply_of w d) × IfKnown (Drew d) there later) (is_supply : IsSupply with_) where
   abbrev pub drawn_by : HasDrawnRound w state there later with_
   drawn_by = round_of w state there later with_ drew (laws.used_up state w so_far.kept.is_supply so_far.kept.placed so_far.kept.inside) is_supply
 
@@ -179,13 +179,13 @@ module _ (a : InRound) (now : Option History) (core : Core) (j : Journal) (tally
   abbrev E : List journals.Epoch
   E = epochs within.run ++ epochs_of_runs within.runs
 
-  abbrev D : List Draw
-  D = draws within.run ++ within.draw ∷ []
+  abbrev D : List RoundInput
+  D = round_inputs within.run ++ within.draw ∷ []
 
   abbrev K : List Record
   K = records_of a.setting.options a.setting.start E
 
-  room_here : HasRoom a.setting.guest a.setting.options K
+  room_here : FitsWithin a.setting.guest a.setting.options K
   room_here = fits_still a.setting a.later now K E D within.output core.committed a.supply j tally within.kept
 
   -- memory ran out
@@ -227,10 +227,10 @@ module _ (a : InRound) (now : Option History) (core : Core) (j : Journal) (tally
     rounds_are : epochs_of_rounds (within.run.rounds ++ round_is ∷ []) ≡ E
     rounds_are = epochs-push within.run.rounds round_is
 
-    kept_there : Kept a.setting a.later now (records_of a.setting.options a.setting.start (epochs_of_rounds (within.run.rounds ++ round_is ∷ []))) (epochs_of_rounds (within.run.rounds ++ round_is ∷ [])) (draws_of (within.run.rounds ++ round_is ∷ [])) within.output there.committed a.supply j tally
+    kept_there : Kept a.setting a.later now (records_of a.setting.options a.setting.start (epochs_of_rounds (within.run.rounds ++ round_is ∷ []))) (epochs_of_rounds (within.run.rounds ++ round_is ∷ [])) (round_inputs_of (within.run.rounds ++ round_is ∷ [])) within.output there.committed a.supply j tally
     kept_there =
-        subst (λ (s : State). Kept a.setting a.later now (records_of a.setting.options a.setting.start (epochs_of_rounds (within.run.rounds ++ round_is ∷ []))) (epochs_of_rounds (within.run.rounds ++ round_is ∷ [])) (draws_of (within.run.rounds ++ round_is ∷ [])) within.output s a.supply j tally) stays
-        (subst (λ (l : List Draw). Kept a.setting a.later now (records_of a.setting.options a.setting.start (epochs_of_rounds (within.run.rounds ++ round_is ∷ []))) (epochs_of_rounds (within.run.rounds ++ round_is ∷ [])) l within.output core.committed a.supply j tally) (sym (draws-push within.run.rounds round_is))
+        subst (λ (s : State). Kept a.setting a.later now (records_of a.setting.options a.setting.start (epochs_of_rounds (within.run.rounds ++ round_is ∷ []))) (epochs_of_rounds (within.run.rounds ++ round_is ∷ [])) (round_inputs_of (within.run.rounds ++ round_is ∷ [])) within.output s a.supply j tally) stays
+        (subst (λ (l : List RoundInput). Kept a.setting a.later now (records_of a.setting.options a.setting.start (epochs_of_rounds (within.run.rounds ++ round_is ∷ []))) (epochs_of_rounds (within.run.rounds ++ round_is ∷ [])) l within.output core.committed a.supply j tally) (sym (draws-push within.run.rounds round_is))
         (subst (λ (l : List journals.Epoch). Kept a.setting a.later now (records_of a.setting.options a.setting.start l) l D within.output core.committed a.supply j tally) (sym rounds_are) within.kept))
 
     pub is_over : IsOver a (a.squashes + (if is_squash stop then 1 else 0)) now there j tally
@@ -239,7 +239,7 @@ module _ (a : InRound) (now : Option History) (core : Core) (j : Journal) (tally
         rounds = within.run.rounds ++ round_is ∷ [];
         output = within.output;
         each = each-push a.setting.options a.setting.tells within.run.racer a.racer 1 a.setting.start within.run.end there.committed (empty MAX_ROOM) within.run.rounds round_is within.run.each within.goes_on within.due is_round;
-        supply_is = within.supply_is ∙ sym (supply-push (empty MAX_ROOM) (draws_of within.run.rounds) within.draw) ∙ ap (supply_behind (empty MAX_ROOM)) (sym (draws-push within.run.rounds round_is));
+        supply_is = within.supply_is ∙ sym (supply-push (empty MAX_ROOM) (round_inputs_of within.run.rounds) within.draw) ∙ ap (supply_after (empty MAX_ROOM)) (sym (draws-push within.run.rounds round_is));
         squashes_is = omega (arith, within.squashes_is, squashes-push within.run.rounds round_is);
         since_is = subst (λ (l : List journals.Epoch). IsSince true a.setting l there.committed tally.since tally.base) (sym rounds_are) within.since_is;
         kept = kept_there;
@@ -325,7 +325,7 @@ module _ (a : InRound) (now : Option History) (core : Core) (j : Journal) (tally
 
       -- it was
       pub committed : 0 < length added → HasCommitted j (length added) j' (Ok tt) → IfKnown (Committed j added r.out (Ok tt)) now behind → (tally' : Tally)
-          → tally'.first ≡ first_behind tally.first e.slices → tally'.epochs ≡ tally.epochs + 1 → tally'.sent ≡ tally.sent + length r.out → tally'.since ≡ tally.since + 1 → tally'.base ≡ tally.base → Within false a behind there j' tally'
+          → tally'.first ≡ thread_after tally.first e.slices → tally'.epochs ≡ tally.epochs + 1 → tally'.sent ≡ tally.sent + length r.out → tally'.since ≡ tally.since + 1 → tally'.base ≡ tally.base → Within false a behind there j' tally'
       committed some numbers known tally' first_is epochs_are sent_is grown base_is =
           let kept = kept_committed a.setting a.later now E D within.output core.committed a.supply j tally within.kept laws within.last job.0 job.1 r job.2 added framed j' behind some numbers known tally' first_is epochs_are sent_is grown base_is in
           let since = since_next a.setting a.later now E D within.output core.committed a.supply j tally within.kept laws within.last job.0 job.1 r job.2 added framed j' behind within.since_is tally' grown base_is in
@@ -361,8 +361,8 @@ module _ (a : InRound) (now : Option History) (core : Core) (j : Journal) (tally
   abbrev committed_epochs : List journals.Epoch
   committed_epochs = epochs within.run ++ epochs_of_runs within.runs
 
-  abbrev drawn : List Draw
-  drawn = draws within.run ++ within.draw ∷ []
+  abbrev drawn : List RoundInput
+  drawn = round_inputs within.run ++ within.draw ∷ []
 
   abbrev bare : List Record
   bare = records_unmarked a.setting.options a.setting.start committed_epochs
@@ -410,7 +410,7 @@ module _ (a : InRound) (now : Option History) (core : Core) (j : Journal) (tally
     marked_size : length (journal_of a.setting.guest (records_of a.setting.options a.setting.start committed_epochs)) ≡ length (journal_of a.setting.guest bare) + length (frame (body_of (mark_of tally.base core.committed)))
     marked_size = size_marked a.setting a.later now committed_epochs drawn within.output core.committed a.supply j tally within.kept within.since_is due added framed short behind
 
-    drawn_there : IfKnown (HasDrawn drawn (answers_in committed_epochs)) a.setting.given a.later
+    drawn_there : IfKnown (HaveRead drawn (answers_in committed_epochs)) a.setting.given a.later
     drawn_there = drawn_still a.setting a.later now bare committed_epochs drawn within.output core.committed a.supply j tally within.kept
 
     pub mark_lost : (j' : Journal) → HasAppended j (length added) j' (Err appends.DiskFault) → IfKnown (RecordWritten j.end added false) now behind → IsStopped a behind faults.DiskFault

@@ -8,7 +8,7 @@ use Rattle.disk_model.specs.Known.{IfKnown}
 use Rattle.dp_base.specs.declared.limits.TheConstants.{MAX_JOBS}
 use Rattle.epoch_runner.specs.Answering.{input_due}
 use Rattle.guest_kernel.specs.State.{has_ended}
-use Rattle.recorder.specs.Drawing.{Draw, Drew, supply_of}
+use Rattle.recorder.specs.Drawing.{RoundInput, Drew, supply_of}
 use Rattle.dp_base.specs.declared.out_of_memory.OutOfMemory.{OutOfMemory}
 use Rattle.epoch_pool.specs.declared.job.Job.{Job}
 use Rattle.epoch_runner.specs.declared.epoch_run.Ran.{Ran}
@@ -274,7 +274,7 @@ module _ {Q T : Type 0} (tells : Q → Tells) (hold : T → Holding) (last_of : 
   pub round_leaves : Leaves hold last_of t u
   round_leaves = ended_leaves hold last_of streamed.offers streamed.jobs streamed.results t u still_there answer streamed.ended
 
-  pub round_came : (so_far : SoFar a there (hold t).history (tells racer) state w (hold t).journal (hold t).tally count) → (d : Draw) × (d.due ≡ input_due state w) × (with_ ≡ supply_of w d) × IfKnown (Drew d) there later → IsSupply with_ → has_ended state.end ≡ false
+  pub round_came : (so_far : SoFar a there (hold t).history (tells racer) state w (hold t).journal (hold t).tally count) → (d : RoundInput) × (d.due ≡ input_due state w) × (with_ ≡ supply_of w d) × IfKnown (Drew d) there later → IsSupply with_ → has_ended state.end ≡ false
       → state.steps < a.options.limit → plan ≡ plan_of a.options (hold t).tally.first state → a.options.mark ≡ (hold t).every → Came hold last_of a later (tells racer_after) with_ state count [] [] [] t u (taking_outcome (last_of u) answer)
   round_came so_far drew is_supply going left plan_is every =
       let by = by_plan tells (Takes hold last_of) a.options (hold t).tally.first state with_ plan racer racer_after t u answer streamed plan_is left in

@@ -11,12 +11,12 @@ use Rattle.epoch_runner.specs.Answering.{input_due}
 use Rattle.epoch_runner.specs.declared.epoch_run.EpochRun.{EpochRun}
 use Rattle.supply.specs.Supplied.{Supplied}
 use Rattle.racing_runner.specs.Offers.{Tells}
-use Rattle.recorder.specs.Drawing.{Draw, Round, answers_in, draws_of, epochs_of_rounds, squashes_of, supply_behind, supply_of}
+use Rattle.recorder.specs.Drawing.{RoundInput, Round, answers_in, round_inputs_of, epochs_of_rounds, squashes_of, supply_after, supply_of}
 use Rattle.recorder.specs.Keeping.{AreAnswers}
 use Rattle.guest_kernel.specs.declared.state.State.{State}
 use Rattle.guest_kernel.specs.Slices.{chain}
 use Rattle.recorder.specs.declared.options.Options.{Options}
-use Rattle.recorder.specs.Recording.{EachIsRound, GoesOn, IsRound, first_after, first_behind}
+use Rattle.recorder.specs.Recording.{EachIsRound, GoesOn, IsRound, first_after, thread_after}
 use Rattle.dp_base.proofs.Lists.{all_append}
 
 pub no_epochs : (start : State) → chain start [] ≡ Ok (start, [])
@@ -33,7 +33,7 @@ pub epochs-append : (xs ys : List Round) → epochs_of_rounds (xs ++ ys) ≡ epo
 epochs-append [] ys = refl
 epochs-append (x ∷ xs) ys = ap (λ (l : List Epoch). x.epochs ++ l) (epochs-append xs ys) ∙ sym (append_assoc x.epochs (epochs_of_rounds xs) (epochs_of_rounds ys))
 
-pub draws-push : (rounds : List Round) (r : Round) → draws_of (rounds ++ r ∷ []) ≡ draws_of rounds ++ r.draw ∷ []
+pub draws-push : (rounds : List Round) (r : Round) → round_inputs_of (rounds ++ r ∷ []) ≡ round_inputs_of rounds ++ r.draw ∷ []
 draws-push rounds r = map_push (λ (x : Round). x.draw) rounds r
 
 pub squashes-push : (rounds : List Round) (r : Round) → squashes_of (rounds ++ r ∷ []) ≡ squashes_of rounds + (if r.squashed then 1 else 0)
@@ -49,12 +49,12 @@ answers_in-push es e = answers_in-append es (e ∷ []) ∙ ap (λ (l : List Answ
 
 pub first-append : (first : ℕ) (xs ys : List Epoch) → first_after first (xs ++ ys) ≡ first_after (first_after first xs) ys
 first-append first [] ys = refl
-first-append first (x ∷ xs) ys = first-append (first_behind first x.slices) xs ys
+first-append first (x ∷ xs) ys = first-append (thread_after first x.slices) xs ys
 
 module _ (options : Options) where
   pub each-push : (tells mid after : Tells) (first : ℕ) (s t u : State) (w : Supplied) (rounds : List Round) (r : Round) → EachIsRound tells options first s w rounds t mid → GoesOn options t
-      → r.draw.due ≡ input_due t (supply_behind w (draws_of rounds))
-      → IsRound mid options (first_after first (epochs_of_rounds rounds)) t (supply_of (supply_behind w (draws_of rounds)) r.draw) r u after → EachIsRound tells options first s w (rounds ++ r ∷ []) u after
+      → r.draw.due ≡ input_due t (supply_after w (round_inputs_of rounds))
+      → IsRound mid options (first_after first (epochs_of_rounds rounds)) t (supply_of (supply_after w (round_inputs_of rounds)) r.draw) r u after → EachIsRound tells options first s w (rounds ++ r ∷ []) u after
   each-push tells mid after first s t u w [] r each goes_on due is =
       subst (λ (x : State). EachIsRound tells options first x w (r ∷ []) u after) each.0
       (subst (λ (x : Tells). EachIsRound x options first t w (r ∷ []) u after) each.1 (goes_on, due, u, after, is, (refl, refl)))
@@ -65,7 +65,7 @@ module _ (options : Options) where
     each.3,
     each.4,
     each-push each.3 mid after (first_after first x.epochs) each.2 t u (supply_of w x.draw) rounds r each.5 goes_on due
-        (subst (λ (n : ℕ). IsRound mid options n t (supply_of (supply_behind (supply_of w x.draw) (draws_of rounds)) r.draw) r u after) (first-append first x.epochs (epochs_of_rounds rounds)) is),
+        (subst (λ (n : ℕ). IsRound mid options n t (supply_of (supply_after (supply_of w x.draw) (round_inputs_of rounds)) r.draw) r u after) (first-append first x.epochs (epochs_of_rounds rounds)) is),
   )
 
   squash_is_one : (b : Bool) → (if b then 1 else 0) ≤ 1
@@ -80,16 +80,16 @@ module _ (options : Options) where
       let some : length r.epochs ≡ length each.4.runs = ap (λ (l : List Epoch). length l) each.4.epochs_are ∙ length-map each.4.runs (λ (x : EpochRun). epoch_of x.epoch) in
       omega (arith, rest, some, each.4.some, squash_is_one r.squashed, length-append r.epochs (epochs_of_rounds rounds))
 
-pub supply-push : (w : Supplied) (draws : List Draw) (d : Draw) → supply_behind w (draws ++ d ∷ []) ≡ supply_of (supply_behind w draws) d
+pub supply-push : (w : Supplied) (draws : List RoundInput) (d : RoundInput) → supply_after w (draws ++ d ∷ []) ≡ supply_of (supply_after w draws) d
 supply-push w [] d = refl
 supply-push w (x ∷ xs) d = supply-push (supply_of w x) xs d
 
 pub answers_are-push : (epochs : List Epoch) (e : Epoch) → AreAnswers epochs → AllByRecursion IsAnswer e.answers → AreAnswers (epochs ++ e ∷ [])
 answers_are-push epochs e are more = all_append (λ (x : Epoch). AllByRecursion IsAnswer x.answers) epochs (e ∷ []) are (more, tt)
 
-pub first_after-push : (first : ℕ) (epochs : List Epoch) (e : Epoch) → first_after first (epochs ++ e ∷ []) ≡ first_behind (first_after first epochs) e.slices
+pub first_after-push : (first : ℕ) (epochs : List Epoch) (e : Epoch) → first_after first (epochs ++ e ∷ []) ≡ thread_after (first_after first epochs) e.slices
 first_after-push first [] e = refl
-first_after-push first (x ∷ xs) e = first_after-push (first_behind first x.slices) xs e
+first_after-push first (x ∷ xs) e = first_after-push (thread_after first x.slices) xs e
 
 -- ---- an epoch that was run
 

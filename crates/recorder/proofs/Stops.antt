@@ -20,10 +20,10 @@ use Rattle.racing_runner.specs.Offers.{Tells}
 use Rattle.recorder.specs.declared.record_fault.RecordFault.{RecordFault}
 use Rattle.recorder.specs.declared.record_fault.RecordFault.TheVariants as faults
 use Rattle.recorder.specs.declared.tally.Tally.{Tally}
-use Rattle.recorder.specs.Drawing.{HasDrawn, answers_in, draws_of, epochs_of_rounds}
+use Rattle.recorder.specs.Drawing.{HaveRead, answers_in, round_inputs_of, epochs_of_rounds}
 use Rattle.recorder.specs.Keeping.{Setting, SoFar}
 use Rattle.recorder.specs.Moments.{EachMoment, HoldsAt}
-use Rattle.recorder.specs.Recording.{HasDrawnOn, HasRoom, IsRecorded, Recorded, Run, reported}
+use Rattle.recorder.specs.Recording.{RunMayHaveReadMore, FitsWithin, IsRecorded, Recorded, Run, reported}
 use Rattle.recorder.specs.Report.{HasSentReport, IsReportSent, report_at}
 use Rattle.journal_text.specs.Records.{Record}
 use Rattle.recorder.specs.Marking.{records_of}
@@ -49,18 +49,18 @@ module _ (a : Setting) (there : Option Input) (now : Option History) (racer : Te
     counted = so_far.kept.counted;
   }
 
-  fits : HasRoom a.guest a.options K
-  fits = fits_still a there now K E (draws_of so_far.rounds) so_far.output state w j tally so_far.kept
+  fits : FitsWithin a.guest a.options K
+  fits = fits_still a there now K E (round_inputs_of so_far.rounds) so_far.output state w j tally so_far.kept
 
-  drawn : IfKnown (HasDrawn (draws_of so_far.rounds) (answers_in E)) a.given there
-  drawn = drawn_still a there now K E (draws_of so_far.rounds) so_far.output state w j tally so_far.kept
+  drawn : IfKnown (HaveRead (round_inputs_of so_far.rounds) (answers_in E)) a.given there
+  drawn = drawn_still a there now K E (round_inputs_of so_far.rounds) so_far.output state w j tally so_far.kept
 
-  no_more : HasDrawnOn run_so_far a.given there
+  no_more : RunMayHaveReadMore run_so_far a.given there
   no_more = inl drawn
 
   -- every moment so far
   pub still_moments : (later : Option Input) → later ≡ there → EachMoment a.guest a.options.mark a.start a.given later a.before now
-  still_moments later same = moments_now a there now K E (draws_of so_far.rounds) so_far.output state w j tally so_far.kept later same
+  still_moments later same = moments_now a there now K E (round_inputs_of so_far.rounds) so_far.output state w j tally so_far.kept later same
 
   pub step_limit : has_ended state.end ≡ false → a.options.limit ≤ state.steps → Recorded a.guest a.tells a.start a.options a.given there a.before now (Err (faults.StepLimit state.steps))
   step_limit going reached = (run_so_far, going, refl, omega (arith, reached, so_far.kept.counted), fits, drawn, so_far.kept.history)
@@ -72,7 +72,7 @@ module _ (a : Setting) (there : Option Input) (now : Option History) (racer : Te
     (going, left),
     ap (input_due state) (sym so_far.supply_is) ∙ due,
     fits,
-    subst (λ (o : Option Input). IfKnown (HasDrawn (draws_of so_far.rounds) (answers_in E)) a.given o) (sym same) drawn,
+    subst (λ (o : Option Input). IfKnown (HaveRead (round_inputs_of so_far.rounds) (answers_in E)) a.given o) (sym same) drawn,
     so_far.kept.history,
   )
 
@@ -90,14 +90,14 @@ module _ (a : Setting) (there : Option Input) (now : Option History) (racer : Te
       inr (
         round.draw,
         round.due ∙ ap (input_due state) so_far.supply_is,
-        drawn_still a later now K E (draws_of so_far.rounds ++ round.draw ∷ []) so_far.output state with_ j tally (kept_drawn a there now K E (draws_of so_far.rounds) so_far.output state w j tally so_far.kept laws later with_ round),
+        drawn_still a later now K E (round_inputs_of so_far.rounds ++ round.draw ∷ []) so_far.output state with_ j tally (kept_drawn a there now K E (round_inputs_of so_far.rounds) so_far.output state w j tally so_far.kept laws later with_ round),
       ),
       so_far.kept.history,
     ))
 
     pub drawn_moments : EachMoment a.guest a.options.mark a.start a.given later a.before now
-    drawn_moments = moments_now a later now K E (draws_of so_far.rounds ++ round.draw ∷ []) so_far.output state with_ j tally
-        (kept_drawn a there now K E (draws_of so_far.rounds) so_far.output state w j tally so_far.kept laws later with_ round) later refl
+    drawn_moments = moments_now a later now K E (round_inputs_of so_far.rounds ++ round.draw ∷ []) so_far.output state with_ j tally
+        (kept_drawn a there now K E (round_inputs_of so_far.rounds) so_far.output state w j tally so_far.kept laws later with_ round) later refl
 
   -- ---- the guest has ended
 

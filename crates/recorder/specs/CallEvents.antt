@@ -26,7 +26,7 @@ use Rattle.journal_text.specs.Records.{Record, body_of}
 use Rattle.recorder.specs.Committing.{CommitCalls, HasCommitted}
 use Rattle.recorder.specs.declared.commit.CommitFault.{CommitFault}
 use Rattle.recorder.specs.declared.commit.CommitFault.TheVariants as commits
-use Rattle.recorder.specs.Drawing.{Draw, Drew, supply_of}
+use Rattle.recorder.specs.Drawing.{RoundInput, Drew, supply_of}
 use Rattle.recorder.specs.Machine.{MachineCall, MachineEvent, IsAtRest, IsReached, IsTakeable, Machine, Reaches, Step, after_machine_call, fails, first_machine, frame_sync, frame_write, gate_sync, gate_write, holds, in_round, journal_end, makes, output_of_runs, record_of_run, round, send_fails, sends}
 use Rattle.supply.specs.Supplied.{IsSupply, Supplied, end_of}
 
@@ -47,8 +47,8 @@ BegunIsFirst guest start i room j before after =
 
 -- A core that is made over the committed state, after `draw` has read the round's input, is a round. Its window doesn't
 -- begin after the input that the committed state has read.
-abbrev pub DrawIsRound : (guest : List ℕ) → (supplied : Bool) → Machine → Draw → (jobs : ℕ) → Input → Supplied → Core → Type 0
-DrawIsRound guest supplied m d jobs i w core =
+abbrev pub InputIsRound : (guest : List ℕ) → (supplied : Bool) → Machine → RoundInput → (jobs : ℕ) → Input → Supplied → Core → Type 0
+InputIsRound guest supplied m d jobs i w core =
     m.left ≡ None → IsAtRest m → (m.core.closed ≡ true) ⊎ (m.core.judged ≡ length m.core.jobs) → 0 < jobs → jobs ≤ MAX_JOBS
     → IsSupply m.supply → m.supply.place ≤ m.core.committed.input → m.core.committed.input ≤ end_of m.supply → d.due ≡ input_due m.core.committed m.supply
     → Drew d m.input i → w ≡ supply_of m.supply d → core ≡ new_core m.core.committed jobs

@@ -14,19 +14,19 @@ use Rattle.supply.specs.declared.TheConstants.{MAX_ROOM}
 -- ---- rounds
 
 -- the draw of a round: whether input was due, the bytes that it took then, and the reading of its clock
-pub record Draw : Type 0 where
+pub record RoundInput : Type 0 where
   pub due : Bool
   pub taken : List ℕ
   pub reading : ℕ
 
 -- a round: its draw, the epochs of it that were committed, in order, and whether the result after them was squashed
 pub record Round : Type 0 where
-  pub draw : Draw
+  pub draw : RoundInput
   pub epochs : List Epoch
   pub squashed : Bool
 
-abbrev pub draws_of : List Round → List Draw
-draws_of rounds = map (λ r. r.draw) rounds
+abbrev pub round_inputs_of : List Round → List RoundInput
+round_inputs_of rounds = map (λ r. r.draw) rounds
 
 abbrev pub epochs_of_rounds : List Round → List Epoch
 epochs_of_rounds rounds = flat_map (λ r. r.epochs) rounds
@@ -43,12 +43,12 @@ answers_in epochs = flat_map (λ e. e.answers) epochs
 -- ---- the supply
 
 -- the supply of a round: it is refilled exactly if input is due, and the round's reading is its stamp
-abbrev pub supply_of : Supplied → Draw → Supplied
+abbrev pub supply_of : Supplied → RoundInput → Supplied
 supply_of w d = record (if d.due then refilled d.taken w else w) { stamp = d.reading }
 
-abbrev pub supply_behind : Supplied → List Draw → Supplied
-supply_behind w [] = w
-supply_behind w (d ∷ draws) = supply_behind (supply_of w d) draws
+abbrev pub supply_after : Supplied → List RoundInput → Supplied
+supply_after w [] = w
+supply_after w (d ∷ draws) = supply_after (supply_of w d) draws
 
 -- ---- the input
 
@@ -57,10 +57,10 @@ TookIf true bytes i there = Took MAX_ROOM bytes i there
 TookIf false bytes i there = there ≡ i
 
 -- a round takes from the input once if some is due, and else not; and then reads the clock once
-abbrev pub Drew : Draw → Input → Input → Type 0
+abbrev pub Drew : RoundInput → Input → Input → Type 0
 Drew d i there = (mid : Input) × TookIf d.due d.taken i mid × ReadClock d.reading mid there
 
-abbrev pub DrewAll : List Draw → Input → Input → Type 0
+abbrev pub DrewAll : List RoundInput → Input → Input → Type 0
 DrewAll [] i there = there ≡ i
 DrewAll (d ∷ draws) i there = (mid : Input) × Drew d i mid × DrewAll draws mid there
 
@@ -73,7 +73,7 @@ AreFound (v ∷ values) readings = (place : ℕ) × (slice_get readings place �
 
 -- Answers that are faithful to an input that gave these bytes, whose end was seen or wasn't, and whose clock had these
 -- readings.
-pub record IsHonest (answers : List Answer) (given : List ℕ) (ended : Bool) (readings : List ℕ) : Type 0 where
+pub record IsFaithful (answers : List Answer) (given : List ℕ) (ended : Bool) (readings : List ℕ) : Type 0 where
   -- what reads took, joined, are the first bytes of the input
   pub reads : IsPrefixOf (bytes_read answers) given
   -- a read that took none came when all of them had been read, and the end was seen
@@ -85,9 +85,9 @@ abbrev pub readings_since : Input → Input → List ℕ
 readings_since i there = drop (min (length i.readings) (2 ^ 64 - 2)) there.readings
 
 -- by what an input gave from one moment to another
-abbrev pub IsHonestSince : List Answer → Input → Input → Type 0
-IsHonestSince answers i there = (given : List ℕ) × (there.given ≡ i.given ++ given) × IsHonest answers given there.ended (readings_since i there)
+abbrev pub IsFaithfulSince : List Answer → Input → Input → Type 0
+IsFaithfulSince answers i there = (given : List ℕ) × (there.given ≡ i.given ++ given) × IsFaithful answers given there.ended (readings_since i there)
 
 -- rounds had these draws, and the answers that were taken are faithful to the input
-abbrev pub HasDrawn : List Draw → List Answer → Input → Input → Type 0
-HasDrawn draws answers i there = DrewAll draws i there × IsHonestSince answers i there
+abbrev pub HaveRead : List RoundInput → List Answer → Input → Input → Type 0
+HaveRead draws answers i there = DrewAll draws i there × IsFaithfulSince answers i there

@@ -33,11 +33,11 @@ use Rattle.recorder.specs.declared.record_fault.RecordFault.{RecordFault}
 use Rattle.recorder.specs.declared.tally.AfterJudging.{AfterJudging}
 use Rattle.recorder.specs.declared.tally.AfterJudging.TheVariants.{Committed, Squashed, Over}
 use Rattle.recorder.specs.declared.tally.Tally.{Tally}
-use Rattle.recorder.specs.Drawing.{AreFound, Draw, DrewAll, Round, answers_in, draws_of, epochs_of_rounds, readings_since, squashes_of, supply_behind, supply_of}
+use Rattle.recorder.specs.Drawing.{AreFound, RoundInput, DrewAll, Round, answers_in, round_inputs_of, epochs_of_rounds, readings_since, squashes_of, supply_after, supply_of}
 use Rattle.recorder.specs.Machine.{epochs_of_runs}
 use Rattle.recorder.specs.Moments.{EachMoment}
 use Rattle.recorder.specs.Racing.{IsRaced}
-use Rattle.recorder.specs.Recording.{EachIsRound, GoesOn, IsRecorded, Recorded, Run, draws, epochs, first_after, first_next, squashes, supply}
+use Rattle.recorder.specs.Recording.{EachIsRound, GoesOn, IsRecorded, Recorded, Run, round_inputs, epochs, first_after, first_next, squashes, supply}
 use Rattle.recorder.specs.declared.due_mark.DueMark.{DueMark}
 use Rattle.recorder.specs.Marking.{base_after, base_then, is_due, mark_of, marks_at, records_of, records_unmarked, records_with, since_after, since_then}
 use Rattle.checkpoint.specs.State.{IsEncodable}
@@ -48,8 +48,8 @@ use Rattle.supply.specs.declared.TheConstants.{MAX_ROOM}
 -- ---- what was drawn
 
 -- A supply's window is the last of what was given since the input was i. The answers read its first bytes.
-pub record IsDrawn (w : Supplied) (place : ℕ) (draws : List Draw) (answers : List Answer) (i j : Input) : Type 0 where
-  pub drew : DrewAll draws i j
+pub record IsWindowOf (w : Supplied) (place : ℕ) (round_inputs : List RoundInput) (answers : List Answer) (i j : Input) : Type 0 where
+  pub drew : DrewAll round_inputs i j
   pub given : List ℕ
   pub given_is : j.given ≡ i.given ++ given
   pub left_is : given ++ bytes_left j.left ≡ bytes_left i.left
@@ -65,7 +65,7 @@ pub record IsDrawn (w : Supplied) (place : ℕ) (draws : List Draw) (answers : L
 
 -- The journal has the first of these epochs with their marks, but the last one may be missing, and of their output a
 -- prefix was sent.
-pub record IsFront (guest : List ℕ) (every : ℕ) (start : State) (epochs : List Epoch) (image said : List ℕ) : Type 0 where
+pub record IsFirstPart (guest : List ℕ) (every : ℕ) (start : State) (epochs : List Epoch) (image said : List ℕ) : Type 0 where
   pub front : List Epoch
   pub rest : List Epoch
   pub all : epochs ≡ front ++ rest
@@ -78,7 +78,7 @@ pub record IsFront (guest : List ℕ) (every : ℕ) (start : State) (epochs : Li
 
 abbrev pub IsPartly : (guest : List ℕ) → (every : ℕ) → (start : State) → List Epoch → History → (image sent : List ℕ) → Type 0
 IsPartly guest every start epochs before image sent =
-    (said : List ℕ) × (sent ≡ before.sent ++ said) × (((reads image ≡ None) × (said ≡ [])) ⊎ IsFront guest every start epochs image said)
+    (said : List ℕ) × (sent ≡ before.sent ++ said) × (((reads image ≡ None) × (said ≡ [])) ⊎ IsFirstPart guest every start epochs image said)
 
 abbrev pub AlwaysPartly : (guest : List ℕ) → (every : ℕ) → (start : State) → List Epoch → History → History → Type 0
 AlwaysPartly guest every start epochs s t = s.disk ≡ [] → IsSynced s → Always (IsPartly guest every start epochs s) s t
@@ -103,7 +103,7 @@ pub record Setting : Type 0 where
   pub before : Option History
 
 -- These epochs were committed and sent, in a journal of these records, and these were the draws.
-pub record Kept (a : Setting) (there : Option Input) (now : Option History) (records : List Record) (epochs : List Epoch) (draws : List Draw) (output : List ℕ) (state : State) (w : Supplied) (j : Journal) (tally : Tally) : Type 0 where
+pub record Kept (a : Setting) (there : Option Input) (now : Option History) (records : List Record) (epochs : List Epoch) (round_inputs : List RoundInput) (output : List ℕ) (state : State) (w : Supplied) (j : Journal) (tally : Tally) : Type 0 where
   pub is_guest : IsGuest a.guest
   pub chained : chain a.start epochs ≡ Ok (state, output)
   pub counted : state.steps ≤ a.options.limit
@@ -116,7 +116,7 @@ pub record Kept (a : Setting) (there : Option Input) (now : Option History) (rec
   pub are_answers : AreAnswers epochs
   pub are_records : AllByRecursion IsRecord records
   pub encodable : IsEncodable state
-  pub drawn : IfKnown (IsDrawn w state.input draws (answers_in epochs)) a.given there
+  pub drawn : IfKnown (IsWindowOf w state.input round_inputs (answers_in epochs)) a.given there
   pub history : IfKnown (IsRecorded a.guest records output []) a.before now
   pub moments : IfKnown (AlwaysPartly a.guest a.options.mark a.start epochs) a.before now
   pub place_is : j.end ≡ length (journal_of a.guest records)
@@ -146,10 +146,10 @@ pub record SoFar (a : Setting) (there : Option Input) (now : Option History) (ra
   pub rounds : List Round
   pub output : List ℕ
   pub each : EachIsRound a.tells a.options 1 a.start (empty MAX_ROOM) rounds state racer
-  pub supply_is : w ≡ supply_behind (empty MAX_ROOM) (draws_of rounds)
+  pub supply_is : w ≡ supply_after (empty MAX_ROOM) (round_inputs_of rounds)
   pub squashes_is : squashes ≡ squashes_of rounds
   pub since_is : IsSince true a (epochs_of_rounds rounds) state tally.since tally.base
-  pub kept : Kept a there now (records_of a.options a.start (epochs_of_rounds rounds)) (epochs_of_rounds rounds) (draws_of rounds) output state w j tally
+  pub kept : Kept a there now (records_of a.options a.start (epochs_of_rounds rounds)) (epochs_of_rounds rounds) (round_inputs_of rounds) output state w j tally
 
 -- ---- within a round
 
@@ -172,7 +172,7 @@ pub record Within (marked : Bool) (a : InRound) (now : Option History) (core : C
   pub from_is : run.end ≡ a.from
   pub squashes_is : a.squashes ≡ squashes run
   pub goes_on : GoesOn a.setting.options run.end
-  pub draw : Draw
+  pub draw : RoundInput
   pub due : draw.due ≡ input_due run.end (supply run)
   pub supply_is : a.supply ≡ supply_of (supply run) draw
   pub can : can_step run.end a.supply ≡ true
@@ -185,7 +185,7 @@ pub record Within (marked : Bool) (a : InRound) (now : Option History) (core : C
   pub judged : IsWithin run.end results runs core
   pub output : List ℕ
   pub since_is : IsSince marked a.setting (epochs run ++ epochs_of_runs runs) core.committed tally.since tally.base
-  pub kept : Kept a.setting a.later now (records_with marked a.setting.options.mark a.setting.start (epochs run ++ epochs_of_runs runs)) (epochs run ++ epochs_of_runs runs) (draws run ++ draw ∷ []) output core.committed a.supply j tally
+  pub kept : Kept a.setting a.later now (records_with marked a.setting.options.mark a.setting.start (epochs run ++ epochs_of_runs runs)) (epochs run ++ epochs_of_runs runs) (round_inputs run ++ draw ∷ []) output core.committed a.supply j tally
   pub last : IfKnown (λ s t. IsLast a.supply.stamp (readings_since s t)) a.setting.given a.later
   pub longer : run.end.steps + length runs ≤ core.committed.steps
 

@@ -24,7 +24,7 @@ use Rattle.guest_kernel.specs.declared.state.State.{State}
 use Rattle.guest_kernel.specs.State.{has_ended}
 use Rattle.journal_text.specs.Reading.{journal_of}
 use Rattle.journal_text.specs.Records.{IsRecord, Record, body_of, epoch, mark, partial}
-use Rattle.recorder.specs.Drawing.{Draw, Drew, supply_of}
+use Rattle.recorder.specs.Drawing.{RoundInput, Drew, supply_of}
 use Rattle.recorder.specs.Marking.{mark_of}
 use Rattle.supply.specs.Supplied.{Supplied, empty, end_of}
 use Rattle.supply.specs.declared.TheConstants.{MAX_ROOM}
@@ -123,7 +123,7 @@ IsAtRest m = (m.stopped ≡ false) × (m.hand ≡ nothing) × (m.released ≡ ou
 
 pub data MachineEvent : Type 0 where
   -- a round begins: what it reads from the input, and the number of its jobs at most
-  round : Draw → ℕ → MachineEvent
+  round : RoundInput → ℕ → MachineEvent
   -- a job is offered, claimed, done, or its result is taken; or the next result is judged
   in_round : rounds.Event → MachineEvent
   -- the mark of the committed state is to be written
@@ -142,7 +142,7 @@ pub data MachineEvent : Type 0 where
 
 -- It begins if the one before is closed or all of its jobs were judged. It takes a window only if the input's end
 -- wasn't seen.
-abbrev pub BeginsRound : Machine → Draw → ℕ → Machine → Type 0
+abbrev pub BeginsRound : Machine → RoundInput → ℕ → Machine → Type 0
 BeginsRound m d jobs n = IsAtRest m × ((m.core.closed ≡ true) ⊎ (m.core.judged ≡ length m.core.jobs)) × (0 < jobs) × (jobs ≤ MAX_JOBS) × (d.due ≡ true → m.supply.ended ≡ false)
     × Drew d m.input n.input × (n ≡ record m {
       input = n.input;

@@ -14,7 +14,7 @@ use Rattle.guest_kernel.specs.declared.state.State.{State}
 use Rattle.guest_kernel.specs.Slices.{chain}
 use Rattle.journal_text.specs.Records.{IsRecord, Record, epoch, mark, partial}
 use Rattle.partial_mark.specs.Base.{applied}
-use Rattle.recorder.specs.Drawing.{Draw}
+use Rattle.recorder.specs.Drawing.{RoundInput}
 use Rattle.recorder.specs.Machine.{MachineEvent, HeldRecord, Machine, TakenResult, crash, epochs_of_runs, fails, frame_sync, frame_write, gate_sync, gate_write, holds, in_round, judged_runs, makes, marks, nothing, output_of_runs, round, send_fails, sends}
 
 -- ---- the journal
@@ -22,13 +22,13 @@ use Rattle.recorder.specs.Machine.{MachineEvent, HeldRecord, Machine, TakenResul
 -- These are the records of these epochs, from one state to another, in order. Between them are marks, each of the state
 -- there, and a partial one against its base: the state of the mark before, or the base at the beginning. The next mark
 -- has this base then.
-abbrev pub StandFor : (base s : State) → List Record → List EpochRun → (then_ t : State) → Type 0
-StandFor base s [] [] then_ t = (then_ ≡ base) × (t ≡ s)
-StandFor base s (epoch e ∷ records) (r ∷ rs) then_ t = (e ≡ epoch_of r.epoch) × StandFor base r.end records rs then_ t
-StandFor base s (mark c ∷ records) rs then_ t = (c ≡ checkpoint_of s) × StandFor s s records rs then_ t
-StandFor base s (partial m ∷ records) rs then_ t = (applied (checkpoint_of base) m ≡ Some (checkpoint_of s)) × StandFor s s records rs then_ t
-StandFor base s (epoch e ∷ records) [] then_ t = ⊥
-StandFor base s [] (r ∷ rs) then_ t = ⊥
+abbrev pub AreRecordsOf : (base s : State) → List Record → List EpochRun → (then_ t : State) → Type 0
+AreRecordsOf base s [] [] then_ t = (then_ ≡ base) × (t ≡ s)
+AreRecordsOf base s (epoch e ∷ records) (r ∷ rs) then_ t = (e ≡ epoch_of r.epoch) × AreRecordsOf base r.end records rs then_ t
+AreRecordsOf base s (mark c ∷ records) rs then_ t = (c ≡ checkpoint_of s) × AreRecordsOf s s records rs then_ t
+AreRecordsOf base s (partial m ∷ records) rs then_ t = (applied (checkpoint_of base) m ≡ Some (checkpoint_of s)) × AreRecordsOf s s records rs then_ t
+AreRecordsOf base s (epoch e ∷ records) [] then_ t = ⊥
+AreRecordsOf base s [] (r ∷ rs) then_ t = ⊥
 
 abbrev pub record_in_hand : HeldRecord → Option Record
 record_in_hand nothing = None
@@ -91,9 +91,9 @@ pub record IsKept (guest : List ℕ) (start : State) (before : History) (m : Mac
   pub linked : AreLinked start (judged_runs m) m.core.committed
   pub chained : chain start (epochs_of_runs (judged_runs m)) ≡ Ok (m.core.committed, output_of_runs (judged_runs m))
   -- the acknowledged records and the one in hand are those of all of them, with right marks between
-  pub held : (base_after : State) × StandFor start start (with_held m.records m.hand) (judged_runs m) base_after m.core.committed
+  pub held : (base_after : State) × AreRecordsOf start start (with_held m.records m.hand) (judged_runs m) base_after m.core.committed
   -- the acknowledged records alone are those of the epochs that are written, with right marks between
-  pub journal : (there : State) × StandFor start start m.records m.written m.base there
+  pub journal : (there : State) × AreRecordsOf start start m.records m.written m.base there
   pub are_records : AllByRecursion IsRecord m.records
   -- what a crash may leave now, and what one has left
   pub images : (image sent : List ℕ) → MayLeave (now m.world) image sent → ReadsWith guest m.records (in_question m.hand m.stopped) image × (sent ≡ before.sent ++ m.released)
@@ -105,16 +105,16 @@ pub record IsKept (guest : List ℕ) (start : State) (before : History) (m : Mac
 -- ---- what was read from the input
 
 -- what the rounds among these events read
-abbrev pub draws_in : List MachineEvent → List Draw
-draws_in [] = []
-draws_in (round d jobs ∷ events) = d ∷ draws_in events
-draws_in (in_round e ∷ events) = draws_in events
-draws_in (marks ∷ events) = draws_in events
-draws_in (makes call ∷ events) = draws_in events
-draws_in (sends piece count ∷ events) = draws_in events
-draws_in (fails call ∷ events) = draws_in events
-draws_in (send_fails piece ∷ events) = draws_in events
-draws_in (crash image ∷ events) = draws_in events
+abbrev pub round_inputs_in : List MachineEvent → List RoundInput
+round_inputs_in [] = []
+round_inputs_in (round d jobs ∷ events) = d ∷ round_inputs_in events
+round_inputs_in (in_round e ∷ events) = round_inputs_in events
+round_inputs_in (marks ∷ events) = round_inputs_in events
+round_inputs_in (makes call ∷ events) = round_inputs_in events
+round_inputs_in (sends piece count ∷ events) = round_inputs_in events
+round_inputs_in (fails call ∷ events) = round_inputs_in events
+round_inputs_in (send_fails piece ∷ events) = round_inputs_in events
+round_inputs_in (crash image ∷ events) = round_inputs_in events
 
 -- all answers that these epochs took
 abbrev pub answers_of_runs : List EpochRun → List Answer

@@ -10,7 +10,7 @@ use Rattle.epoch_journal.specs.Images.{Reads}
 use Rattle.guest_kernel.specs.declared.state.State.{State}
 use Rattle.guest_kernel.specs.Slices.{chain}
 use Rattle.journal_text.specs.Reading.{reads}
-use Rattle.recorder.specs.Drawing.{IsHonestSince, answers_in}
+use Rattle.recorder.specs.Drawing.{IsFaithfulSince, answers_in}
 use Rattle.recorder.specs.Marking.{records_with}
 
 -- The image reads as this guest's journal, with a mark after every `every` epochs; the one after the last epoch may be
@@ -23,16 +23,16 @@ pub record IsRecording (guest : List ℕ) (every : ℕ) (start : State) (i j : O
   pub end : State
   pub output : List ℕ
   pub chained : chain start epochs ≡ Ok (end, output)
-  pub honest : IfKnown (IsHonestSince (answers_in epochs)) i j
+  pub honest : IfKnown (IsFaithfulSince (answers_in epochs)) i j
   pub sent : IsPrefixOf said output
 
 -- No journal yet, and nothing was said; or a recording.
-abbrev pub StandsAt : (guest : List ℕ) → (every : ℕ) → (start : State) → (i j : Option Input) → (image said : List ℕ) → Type 0
-StandsAt guest every start i j image said = ((reads image ≡ None) × (said ≡ [])) ⊎ IsRecording guest every start i j image said
+abbrev pub IsMoment : (guest : List ℕ) → (every : ℕ) → (start : State) → (i j : Option Input) → (image said : List ℕ) → Type 0
+IsMoment guest every start i j image said = ((reads image ≡ None) × (said ≡ [])) ⊎ IsRecording guest every start i j image said
 
 -- An image and all that Out has got since a recording began.
 abbrev pub HoldsAt : (guest : List ℕ) → (every : ℕ) → (start : State) → (i j : Option Input) → History → (image sent : List ℕ) → Type 0
-HoldsAt guest every start i j before image sent = (said : List ℕ) × (sent ≡ before.sent ++ said) × StandsAt guest every start i j image said
+HoldsAt guest every start i j before image sent = (said : List ℕ) × (sent ≡ before.sent ++ said) × IsMoment guest every start i j image said
 
 -- At every moment, if the disk was empty and nothing was pending on it.
 abbrev pub EachMoment : (guest : List ℕ) → (every : ℕ) → (start : State) → (i j : Option Input) → (before after : Option History) → Type 0

@@ -23,7 +23,7 @@ use Rattle.epoch_runner.specs.Schedule.{IsScheduled}
 use Rattle.supply.specs.Supplied.{Supplied, empty}
 use Rattle.sync_hints.specs.NoHints.{no_hints}
 use Rattle.supply.specs.declared.TheConstants.{MAX_ROOM}
-use Rattle.recorder.specs.Drawing.{Draw, HasDrawn, Round, answers_in, draws_of, epochs_of_rounds, squashes_of, supply_behind, supply_of}
+use Rattle.recorder.specs.Drawing.{RoundInput, HaveRead, Round, answers_in, round_inputs_of, epochs_of_rounds, squashes_of, supply_after, supply_of}
 use Rattle.recorder.specs.Machine.{epochs_of_runs}
 use Rattle.recorder.specs.Marking.{IsMarkDue, records_of, records_unmarked}
 use Rattle.recorder.specs.Racing.{IsRaced, epoch_steps}
@@ -45,14 +45,14 @@ use Rattle.partial_mark.specs.Partial.{Partial, partial_bytes}
 -- ---- a run in rounds
 
 -- The number of the thread that is tried first after these slices: one more than that of the last slice.
-abbrev pub first_behind : ℕ → List Slice → ℕ
-first_behind first [] = first
-first_behind first (x ∷ xs) = first_behind (x.tid.0 + 1) xs
+abbrev pub thread_after : ℕ → List Slice → ℕ
+thread_after first [] = first
+thread_after first (x ∷ xs) = thread_after (x.tid.0 + 1) xs
 
 -- the same after these epochs
 abbrev pub first_after : ℕ → List Epoch → ℕ
 first_after first [] = first
-first_after first (e ∷ epochs) = first_after (first_behind first e.slices) epochs
+first_after first (e ∷ epochs) = first_after (thread_after first e.slices) epochs
 
 -- the guest hasn't ended, and may have more steps
 abbrev pub GoesOn : (options : Options) → State → Type 0
@@ -105,14 +105,14 @@ records {tells} {options} {start} r = records_of options start (epochs r)
 abbrev pub squashes : {tells : Tells} {options : Options} {start : State} → Run tells options start → ℕ
 squashes r = squashes_of r.rounds
 
-abbrev pub draws : {tells : Tells} {options : Options} {start : State} → Run tells options start → List Draw
-draws r = draws_of r.rounds
+abbrev pub round_inputs : {tells : Tells} {options : Options} {start : State} → Run tells options start → List RoundInput
+round_inputs r = round_inputs_of r.rounds
 
 abbrev pub answers : {tells : Tells} {options : Options} {start : State} → Run tells options start → List Answer
 answers r = answers_in (epochs r)
 
 abbrev pub supply : {tells : Tells} {options : Options} {start : State} → Run tells options start → Supplied
-supply r = supply_behind (empty MAX_ROOM) (draws r)
+supply r = supply_after (empty MAX_ROOM) (round_inputs r)
 
 -- the thread that is tried first after it
 abbrev pub first_next : {tells : Tells} {options : Options} {start : State} → Run tells options start → ℕ
@@ -123,7 +123,7 @@ first_next r = first_after 1 (epochs r)
 pub record RunOn (tells : Tells) (options : Options) (start : State) : Type 0 where
   pub run : Run tells options start
   pub goes_on : GoesOn options run.end
-  pub draw : Draw
+  pub draw : RoundInput
   pub due : draw.due ≡ input_due run.end (supply run)
   pub results : List Ran
   pub after : Tells
@@ -140,8 +140,8 @@ pub record RunOn (tells : Tells) (options : Options) (start : State) : Type 0 wh
 abbrev pub epochs_on : {tells : Tells} {options : Options} {start : State} → RunOn tells options start → List Epoch
 epochs_on on = epochs on.run ++ epochs_of_runs on.runs
 
-abbrev pub draws_on : {tells : Tells} {options : Options} {start : State} → RunOn tells options start → List Draw
-draws_on on = draws on.run ++ on.draw ∷ []
+abbrev pub round_inputs_on : {tells : Tells} {options : Options} {start : State} → RunOn tells options start → List RoundInput
+round_inputs_on on = round_inputs on.run ++ on.draw ∷ []
 
 -- The next result of the round is an epoch that starts where the last one ended.
 pub record NextEpoch {tells : Tells} {options : Options} {start : State} (on : RunOn tells options start) : Type 0 where
@@ -176,32 +176,32 @@ pub record IsNextEpoch (options : Options) (first : ℕ) (s : State) (w : Suppli
 abbrev pub EachIsNextEpoch : Options → ℕ → State → Supplied → List Round → Type 0
 EachIsNextEpoch options first s w [] = ⊤
 EachIsNextEpoch options first s w (r ∷ rounds) = (e : Epoch) × (end : State) × (output : List ℕ) × (r.epochs ≡ e ∷ []) × (r.squashed ≡ false) × (r.draw.due ≡ input_due s w)
-    × IsNextEpoch options first s (supply_of w r.draw) e end output × EachIsNextEpoch options (first_behind first e.slices) end (supply_of w r.draw) rounds
+    × IsNextEpoch options first s (supply_of w r.draw) e end output × EachIsNextEpoch options (thread_after first e.slices) end (supply_of w r.draw) rounds
 
 -- ---- what was read from the input
 
 -- what the rounds of a run read, and the answers that their epochs took
-abbrev pub RunDrawn : {tells : Tells} {options : Options} {start : State} → Run tells options start → (i j : Option Input) → Type 0
-RunDrawn r i j = IfKnown (HasDrawn (draws r) (answers r)) i j
+abbrev pub RunHasRead : {tells : Tells} {options : Options} {start : State} → Run tells options start → (i j : Option Input) → Type 0
+RunHasRead r i j = IfKnown (HaveRead (round_inputs r) (answers r)) i j
 
 -- the same, and then one round read this
-abbrev pub DrawnOn : {tells : Tells} {options : Options} {start : State} → Run tells options start → Draw → (i j : Option Input) → Type 0
-DrawnOn r d i j = IfKnown (HasDrawn (draws r ++ d ∷ []) (answers r)) i j
+abbrev pub RunHasReadMore : {tells : Tells} {options : Options} {start : State} → Run tells options start → RoundInput → (i j : Option Input) → Type 0
+RunHasReadMore r d i j = IfKnown (HaveRead (round_inputs r ++ d ∷ []) (answers r)) i j
 
 -- A run in whole rounds, and maybe one round that only read: it took from the input exactly if some was due.
-abbrev pub HasDrawnOn : {tells : Tells} {options : Options} {start : State} → Run tells options start → (i j : Option Input) → Type 0
-HasDrawnOn r i j = RunDrawn r i j ⊎ ((d : Draw) × (d.due ≡ input_due r.end (supply r)) × DrawnOn r d i j)
+abbrev pub RunMayHaveReadMore : {tells : Tells} {options : Options} {start : State} → Run tells options start → (i j : Option Input) → Type 0
+RunMayHaveReadMore r i j = RunHasRead r i j ⊎ ((d : RoundInput) × (d.due ≡ input_due r.end (supply r)) × RunHasReadMore r d i j)
 
 -- What the rounds read by then, and the answers that these epochs took, all of a round's that were committed by then
 -- among them.
-abbrev pub DrawnWithin : {tells : Tells} {options : Options} {start : State} → RunOn tells options start → List Epoch → (i j : Option Input) → Type 0
-DrawnWithin on epochs i j = IfKnown (HasDrawn (draws_on on) (answers_in epochs)) i j
+abbrev pub ReadWithin : {tells : Tells} {options : Options} {start : State} → RunOn tells options start → List Epoch → (i j : Option Input) → Type 0
+ReadWithin on epochs i j = IfKnown (HaveRead (round_inputs_on on) (answers_in epochs)) i j
 
 -- ---- what is on the disk, and what was sent
 
 -- the journal of these records fits
-abbrev pub HasRoom : (guest : List ℕ) → Options → List Record → Type 0
-HasRoom guest options records = length (journal_of guest records) ≤ options.room
+abbrev pub FitsWithin : (guest : List ℕ) → Options → List Record → Type 0
+FitsWithin guest options records = length (journal_of guest records) ≤ options.room
 
 -- The disk was empty, and now holds the guest's journal with these records. This was sent on Out, and that on Note.
 pub record IsRecorded (guest : List ℕ) (records : List Record) (output note : List ℕ) (before after : History) : Type 0 where
@@ -246,33 +246,33 @@ abbrev pub reported : {tells : Tells} {options : Options} {start : State} → Ru
 reported r = record (report_of (epochs r) r.end r.output) { squashes = squashes r }
 
 -- The header doesn't fit, or the record of the epoch that is next, or the mark that is due.
-abbrev pub HasNoRoom : (guest : List ℕ) → (tells : Tells) → (start : State) → Options → (end need : ℕ) → (i j : Option Input) → (before after : Option History) → Type 0
-HasNoRoom guest tells start options end need i j before after =
+abbrev pub DoesNotFit : (guest : List ℕ) → (tells : Tells) → (start : State) → Options → (end need : ℕ) → (i j : Option Input) → (before after : Option History) → Type 0
+DoesNotFit guest tells start options end need i j before after =
     ((end ≡ 0) × (need ≡ 10 + length guest) × (options.room < need) × (j ≡ i) × IfKnown IsUntouched before after)
-    ⊎ ((on : RunOn tells options start) × (n : NextEpoch on) × HasRoom guest options (records_of options start (epochs_on on))
+    ⊎ ((on : RunOn tells options start) × (n : NextEpoch on) × FitsWithin guest options (records_of options start (epochs_on on))
     × (end ≡ length (journal_of guest (records_of options start (epochs_on on)))) × (need ≡ length (frame (epoch_body (next_epoch n)))) × (options.room < end + need)
-    × DrawnWithin on (epochs_on on) i j × IfKnown (IsRecorded guest (records_of options start (epochs_on on)) on.output []) before after)
-    ⊎ ((on : RunOn tells options start) × (m : Partial) × IsMarkDue options start (epochs_on on) m × HasRoom guest options (records_unmarked options start (epochs_on on))
+    × ReadWithin on (epochs_on on) i j × IfKnown (IsRecorded guest (records_of options start (epochs_on on)) on.output []) before after)
+    ⊎ ((on : RunOn tells options start) × (m : Partial) × IsMarkDue options start (epochs_on on) m × FitsWithin guest options (records_unmarked options start (epochs_on on))
     × (end ≡ length (journal_of guest (records_unmarked options start (epochs_on on)))) × (need ≡ length (frame (partial_bytes m))) × (options.room < end + need)
-    × DrawnWithin on (epochs_on on) i j × IfKnown (IsRecorded guest (records_unmarked options start (epochs_on on)) on.output []) before after)
+    × ReadWithin on (epochs_on on) i j × IfKnown (IsRecorded guest (records_unmarked options start (epochs_on on)) on.output []) before after)
 
 -- The disk failed before the first epoch, or while the epoch that is next was appended, or the mark that is due.
 abbrev pub HasLostDisk : (guest : List ℕ) → (tells : Tells) → (start : State) → Options → (i j : Option Input) → (before after : Option History) → Type 0
 HasLostDisk guest tells start options i j before after =
     ((j ≡ i) × IfKnown (IsUnbegun guest) before after)
-    ⊎ ((on : RunOn tells options start) × (n : NextEpoch on) × HasRoom guest options (records_unmarked options start (epochs_on on ++ next_epoch n ∷ []))
-    × DrawnWithin on (epochs_on on) i j × IfKnown (IsInterrupted guest (records_of options start (epochs_on on)) on.output (epoch (next_epoch n))) before after)
-    ⊎ ((on : RunOn tells options start) × (m : Partial) × IsMarkDue options start (epochs_on on) m × HasRoom guest options (records_of options start (epochs_on on))
-    × DrawnWithin on (epochs_on on) i j × IfKnown (IsInterrupted guest (records_unmarked options start (epochs_on on)) on.output (partial m)) before after)
+    ⊎ ((on : RunOn tells options start) × (n : NextEpoch on) × FitsWithin guest options (records_unmarked options start (epochs_on on ++ next_epoch n ∷ []))
+    × ReadWithin on (epochs_on on) i j × IfKnown (IsInterrupted guest (records_of options start (epochs_on on)) on.output (epoch (next_epoch n))) before after)
+    ⊎ ((on : RunOn tells options start) × (m : Partial) × IsMarkDue options start (epochs_on on) m × FitsWithin guest options (records_of options start (epochs_on on))
+    × ReadWithin on (epochs_on on) i j × IfKnown (IsInterrupted guest (records_unmarked options start (epochs_on on)) on.output (partial m)) before after)
 
 -- The epoch that is next was committed, and a part of its output was sent; or the guest has ended, and a part of the
 -- report's line was sent. The mark after that epoch isn't there.
 abbrev pub HasLostSink : (guest : List ℕ) → (tells : Tells) → (start : State) → Options → (i j : Option Input) → (before after : Option History) → Type 0
 HasLostSink guest tells start options i j before after =
-    ((on : RunOn tells options start) × (n : NextEpoch on) × HasRoom guest options (records_unmarked options start (epochs_on on ++ next_epoch n ∷ []))
-    × DrawnWithin on (epochs_on on ++ next_epoch n ∷ []) i j
+    ((on : RunOn tells options start) × (n : NextEpoch on) × FitsWithin guest options (records_unmarked options start (epochs_on on ++ next_epoch n ∷ []))
+    × ReadWithin on (epochs_on on ++ next_epoch n ∷ []) i j
     × IfKnown (λ s t. (count : ℕ) × IsRecorded guest (records_unmarked options start (epochs_on on ++ next_epoch n ∷ [])) (on.output ++ take count n.run.out) [] s t) before after)
-    ⊎ ((r : Run tells options start) × (has_ended r.end.end ≡ true) × HasRoom guest options (records r) × RunDrawn r i j
+    ⊎ ((r : Run tells options start) × (has_ended r.end.end ≡ true) × FitsWithin guest options (records r) × RunHasRead r i j
     × IfKnown (λ s t. (count : ℕ) × IsRecorded guest (records r) r.output (take count (report_line (reported r))) s t) before after)
 
 -- Memory ran out before the first epoch, between two rounds, or within a round: while its jobs were made and run, or
@@ -281,24 +281,24 @@ abbrev pub HasLostMemory : (guest : List ℕ) → (tells : Tells) → (start : S
 HasLostMemory guest tells start options i j before after =
     ((j ≡ i) × IfKnown IsUntouched before after)
     ⊎ ((r : Run tells options start) × ((has_ended r.end.end ≡ true) ⊎ GoesOn options r.end)
-    × HasRoom guest options (records r) × HasDrawnOn r i j × IfKnown (IsRecorded guest (records r) r.output []) before after)
-    ⊎ ((on : RunOn tells options start) × HasRoom guest options (records_of options start (epochs_on on))
-    × DrawnWithin on (epochs_on on) i j × IfKnown (IsRecorded guest (records_of options start (epochs_on on)) on.output []) before after)
+    × FitsWithin guest options (records r) × RunMayHaveReadMore r i j × IfKnown (IsRecorded guest (records r) r.output []) before after)
+    ⊎ ((on : RunOn tells options start) × FitsWithin guest options (records_of options start (epochs_on on))
+    × ReadWithin on (epochs_on on) i j × IfKnown (IsRecorded guest (records_of options start (epochs_on on)) on.output []) before after)
 
 -- By the answer: the run that was recorded, by a racer with these known offers at first, what the journal holds and
 -- what was sent of it, and what was read from the input.
 abbrev pub Recorded : (guest : List ℕ) → (tells : Tells) → (start : State) → Options → (i j : Option Input) → (before after : Option History) → Result Report RecordFault → Type 0
 Recorded guest tells start options i j before after (Ok report) =
-    (r : Run tells options start) × (has_ended r.end.end ≡ true) × (report ≡ reported r) × HasRoom guest options (records r)
-    × RunDrawn r i j × IfKnown (IsRecorded guest (records r) r.output (report_line report)) before after
+    (r : Run tells options start) × (has_ended r.end.end ≡ true) × (report ≡ reported r) × FitsWithin guest options (records r)
+    × RunHasRead r i j × IfKnown (IsRecorded guest (records r) r.output (report_line report)) before after
 Recorded guest tells start options i j before after (Err (faults.StepLimit n)) =
-    (r : Run tells options start) × (has_ended r.end.end ≡ false) × (n ≡ r.end.steps) × (n ≡ options.limit) × HasRoom guest options (records r)
-    × RunDrawn r i j × IfKnown (IsRecorded guest (records r) r.output []) before after
+    (r : Run tells options start) × (has_ended r.end.end ≡ false) × (n ≡ r.end.steps) × (n ≡ options.limit) × FitsWithin guest options (records r)
+    × RunHasRead r i j × IfKnown (IsRecorded guest (records r) r.output []) before after
 Recorded guest tells start options i j before after (Err faults.InputFault) =
-    (r : Run tells options start) × GoesOn options r.end × (input_due r.end (supply r) ≡ true) × HasRoom guest options (records r)
-    × RunDrawn r i j × IfKnown (IsRecorded guest (records r) r.output []) before after
+    (r : Run tells options start) × GoesOn options r.end × (input_due r.end (supply r) ≡ true) × FitsWithin guest options (records r)
+    × RunHasRead r i j × IfKnown (IsRecorded guest (records r) r.output []) before after
 Recorded guest tells start options i j before after (Err faults.OutOfMemory) = HasLostMemory guest tells start options i j before after
 Recorded guest tells start options i j before after (Err (faults.JournalInUse len)) = (0 < len) × (j ≡ i) × IfKnown (IsInUse len) before after
-Recorded guest tells start options i j before after (Err (faults.JournalFull end need)) = HasNoRoom guest tells start options end need i j before after
+Recorded guest tells start options i j before after (Err (faults.JournalFull end need)) = DoesNotFit guest tells start options end need i j before after
 Recorded guest tells start options i j before after (Err faults.DiskFault) = HasLostDisk guest tells start options i j before after
 Recorded guest tells start options i j before after (Err faults.OutputFault) = HasLostSink guest tells start options i j before after

@@ -22,14 +22,14 @@ ghost use Rattle.guest_kernel.specs.Answers.{bytes_read};
 ghost use Rattle.guest_kernel.specs.declared.state.State.{State};
 ghost use Rattle.recorder.specs.declared.options.Options.{Options};
 ghost use Rattle.recorder.specs.declared.commit.CommitFault.{CommitFault};
-ghost use Rattle.recorder.specs.Drawing.{Draw, HasDrawn};
+ghost use Rattle.recorder.specs.Drawing.{RoundInput, HaveRead};
 ghost use Rattle.journal_text.specs.Reading.{journal_of};
-ghost use Rattle.recorder.specs.CallEvents.{AppendIsEvents, AppliedIsEvent, BegunIsFirst, CommitIsEvents, CommitIsInHand, DrawIsRound, SendIsEvents};
+ghost use Rattle.recorder.specs.CallEvents.{AppendIsEvents, AppliedIsEvent, BegunIsFirst, CommitIsEvents, CommitIsInHand, InputIsRound, SendIsEvents};
 ghost use Rattle.recorder.specs.Machine.{MachineEvent, IsTakeable, Machine, Reaches, first_machine, judged_runs};
-ghost use Rattle.recorder.specs.MachineKept.{IsKept, answers_of_runs, draws_in};
+ghost use Rattle.recorder.specs.MachineKept.{IsKept, answers_of_runs, round_inputs_in};
 ghost use Rattle.racing_runner.specs.declared.plan.Plan.{Plan};
 ghost use Rattle.racing_runner.specs.Offers.{Tells};
-ghost use Rattle.recorder.specs.Recording.{EachIsNextEpoch, IsNextEpoch, NextEpoch, Run, RunOn, TellsAll, draws, draws_on, epochs, epochs_on, next_epoch, squashes};
+ghost use Rattle.recorder.specs.Recording.{EachIsNextEpoch, IsNextEpoch, NextEpoch, Run, RunOn, TellsAll, round_inputs, round_inputs_on, epochs, epochs_on, next_epoch, squashes};
 ghost use Rattle.supply.specs.declared.TheConstants.{MAX_ROOM};
 ghost use Rattle.supply.specs.Supplied.{Supplied, empty};
 ghost use Rattle.sync_hints.specs.declared.hints.Hints.{Hints};
@@ -49,7 +49,7 @@ pub fn an_epoch_is_determined()
 /// round: whatever the number of workers and whichever of them ends first, the same epochs are committed, the same
 /// results squashed, and the end is the same.
 pub fn a_told_racer_leaves_no_choice()
-    ensures { (tells : Tells) → TellsAll tells → (options : Options) (start : State) (r q : Run tells options start) → draws r ≡ draws q →
+    ensures { (tells : Tells) → TellsAll tells → (options : Options) (start : State) (r q : Run tells options start) → round_inputs r ≡ round_inputs q →
         (r.rounds ≡ q.rounds) × (r.end ≡ q.end) × (squashes r ≡ squashes q) }
 {
     epoch_runner::laws::a_schedule_is_determined();
@@ -60,11 +60,11 @@ pub fn a_told_racer_leaves_no_choice()
 /// (`next`).
 pub fn a_told_racer_gives_the_first_epochs()
     ensures rounds { (tells : Tells) → TellsAll tells → (options : Options) (start : State) (r q : Run tells options start) →
-        IsPrefixOf (draws r) (draws q) → IsPrefixOf r.rounds q.rounds }
+        IsPrefixOf (round_inputs r) (round_inputs q) → IsPrefixOf r.rounds q.rounds }
     ensures within { (tells : Tells) → TellsAll tells → (options : Options) (start : State) (on : RunOn tells options start) (q : Run tells options start) →
-        IsPrefixOf (draws_on on) (draws q) → IsPrefixOf (epochs_on on) (epochs q) }
+        IsPrefixOf (round_inputs_on on) (round_inputs q) → IsPrefixOf (epochs_on on) (epochs q) }
     ensures next { (tells : Tells) → TellsAll tells → (options : Options) (start : State) (on : RunOn tells options start) (n : NextEpoch on) (q : Run tells options start) →
-        IsPrefixOf (draws_on on) (draws q) → IsPrefixOf (epochs_on on ++ next_epoch n ∷ []) (epochs q) }
+        IsPrefixOf (round_inputs_on on) (round_inputs q) → IsPrefixOf (epochs_on on ++ next_epoch n ∷ []) (epochs q) }
 {
     epoch_runner::laws::a_schedule_is_determined();
 }
@@ -84,9 +84,9 @@ pub fn a_round_commits_an_epoch()
 /// However the input is cut into pieces, the answers to a recording's reads, joined, are the first of the bytes that
 /// were left, and a read that took none came when all of them had been read.
 pub fn reads_take_the_input()
-    ensures joined { (draws : List Draw) (answers : List Answer) (i j : Input) → HasDrawn draws answers i j →
+    ensures joined { (round_inputs : List RoundInput) (answers : List Answer) (i j : Input) → HaveRead round_inputs answers i j →
         IsPrefixOf (bytes_read answers) (bytes_left i.left) }
-    ensures end { (draws : List Draw) (answers : List Answer) (i j : Input) → HasDrawn draws answers i j →
+    ensures end { (round_inputs : List RoundInput) (answers : List Answer) (i j : Input) → HaveRead round_inputs answers i j →
         (i.ended ≡ true → is_at_end i.left ≡ true) → (before after : List Answer) →
         answers ≡ before ++ Read [] ∷ after → bytes_read before ≡ bytes_left i.left }
 {
@@ -108,7 +108,7 @@ pub fn answers_are_honest()
     ensures { (guest : List ℕ) (start : State) (h : History) (i : Input) (events : List MachineEvent) (m : Machine) →
         IsGuest guest → length (journal_of guest []) ≤ MAX_JOURNAL_BYTES → Stands guest [] h → start.input ≡ 0 →
         Reaches guest true (first_machine start h i) events m →
-        HasDrawn (draws_in events) (answers_of_runs (judged_runs m)) i m.input }
+        HaveRead (round_inputs_in events) (answers_of_runs (judged_runs m)) i m.input }
 {
     supply::an_answer_is_of_the_input();
     supply::the_windows_are_the_input();
@@ -122,8 +122,8 @@ pub fn a_begun_journal_is_a_beginning()
 
 /// A core that is made over the committed state after `draw` has read the round's input is the machine's next round.
 pub fn a_new_core_is_a_round()
-    ensures { (guest : List ℕ) (supplied : Bool) (m : Machine) (d : Draw) (jobs : ℕ) (i : Input) (w : Supplied) (core : Core) →
-        DrawIsRound guest supplied m d jobs i w core }
+    ensures { (guest : List ℕ) (supplied : Bool) (m : Machine) (d : RoundInput) (jobs : ℕ) (i : Input) (w : Supplied) (core : Core) →
+        InputIsRound guest supplied m d jobs i w core }
 {
     epoch_runner::laws::a_supply_lets_a_guest_step();
 }

@@ -3,7 +3,7 @@ ghost use Rattle.std.specs.Prelude.{◌≡◌, ◌<◌, ◌≤◌, ◌^◌, true
 ghost use Rattle.dp_base.specs.Counts.{Rose};
 ghost use Rattle.disk_model.specs.Known.{IfKnown};
 ghost use Rattle.epoch_runner.specs.Answering.{input_due};
-ghost use Rattle.recorder.specs.Drawing.{Draw, Drew, supply_of};
+ghost use Rattle.recorder.specs.Drawing.{RoundInput, Drew, supply_of};
 ghost use Rattle.supply.specs.Supplied.{IsSupply, end_of};
 ghost use Rattle.supply.specs.declared.TheConstants.{MAX_ROOM};
 
@@ -28,7 +28,7 @@ pub(crate) fn draw<I: Inlet>(
     requires place { supply.old.place ≤ state.now.input }
     requires within { state.now.input ≤ end_of supply.old }
     requires early { state.now.input < 2 ^ 63 }
-    ensures drew { OnOk result ((d : Draw) × (d.due ≡ input_due state.now supply.old) × (supply.new ≡ supply_of supply.old d)
+    ensures drew { OnOk result ((d : RoundInput) × (d.due ≡ input_due state.now supply.old) × (supply.new ≡ supply_of supply.old d)
         × IfKnown (Drew d) (I.input inlet.old) (I.input inlet.new)) }
     ensures is_supply { OnOk result (IsSupply supply.new) }
     ensures kept { OnErr result (I.input inlet.new ≡ I.input inlet.old) }

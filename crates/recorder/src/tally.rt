@@ -1,7 +1,7 @@
 // What was committed so far.
 ghost use Rattle.std.specs.Prelude.{◌≡◌, ◌<◌, ◌+◌, ◌^◌};
 ghost use Rattle.std.specs.List.{AllByRecursion};
-ghost use Rattle.recorder.specs.Recording.{first_behind};
+ghost use Rattle.recorder.specs.Recording.{thread_after};
 
 use dp_base::Slice;
 use guest_kernel::State;
@@ -32,7 +32,7 @@ pub(crate) enum AfterJudging {
 impl Tally {
     // Counts an epoch that was committed. What a recording counts is far below these limits.
     pub(crate) fn count(&mut self, slices: &[Slice], sent: u64)
-        ensures first { AllByRecursion (λ x. x.tid.0 < 65535) slices.now → self.new.first ≡ first_behind self.old.first slices.now }
+        ensures first { AllByRecursion (λ x. x.tid.0 < 65535) slices.now → self.new.first ≡ thread_after self.old.first slices.now }
         ensures epochs { self.old.epochs + 1 < 2 ^ 32 → self.new.epochs ≡ self.old.epochs + 1 }
         ensures since { self.old.since + 1 < 2 ^ 32 → self.new.since ≡ self.old.since + 1 }
         ensures sent { self.old.sent + sent < 2 ^ 64 → self.new.sent ≡ self.old.sent + sent }
@@ -47,7 +47,7 @@ impl Tally {
 
 // The thread that is first after these slices: one more than that of the last of them.
 fn next_first(first: u16, slices: &[Slice]) -> u16
-    ensures { AllByRecursion (λ x. x.tid.0 < 65535) slices.now → result ≡ first_behind first slices.now }
+    ensures { AllByRecursion (λ x. x.tid.0 < 65535) slices.now → result ≡ thread_after first slices.now }
 {
     let mut next = first;
     for slice in slices {

@@ -3,9 +3,9 @@ use Rattle.std.specs.Prelude.{ℕ, zero, suc, List, [], ◌∷◌, ◌++◌}
 use Rattle.disk_model.specs.Input.{Input, taken, took}
 
 -- the input after `count` takes into a buffer of this size
-unfoldable pub behind_takes : (room count : ℕ) → Input → Input
-behind_takes room zero i = i
-behind_takes room (suc n) i = behind_takes room n (took room i)
+unfoldable pub input_after_takes : (room count : ℕ) → Input → Input
+input_after_takes room zero i = i
+input_after_takes room (suc n) i = input_after_takes room n (took room i)
 
 -- what these takes give, a window for each
 unfoldable pub windows : (room count : ℕ) → Input → List (List ℕ)

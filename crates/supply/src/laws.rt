@@ -5,17 +5,17 @@ ghost use Rattle.std.specs.Prelude.{◌≡◌, ◌<◌, ◌≤◌, ◌⊎◌, �
 ghost use Rattle.std.specs.List.{concat};
 ghost use Rattle.disk_model.specs.Input.{Input, is_at_end, taken, took};
 ghost use Rattle.supply.specs.Supplied.{Supplied, HasByte, IsInputEnd, IsLastOf, window_answer, empty, refilled, unfilled};
-ghost use Rattle.supply.specs.Windows.{behind_takes, bytes_left, windows};
+ghost use Rattle.supply.specs.Windows.{input_after_takes, bytes_left, windows};
 
 /// The windows that takes give, one after another and joined, are what the input gave. With what is left after them
 /// they are what was left before, however it is cut into pieces. So windows up to the end are all of it. A take into a
 /// buffer that isn't empty gives no byte exactly at the end.
 pub fn the_windows_are_the_input()
     ensures given { (room count : ℕ) (i : Input) →
-        (behind_takes room count i).given ≡ i.given ++ concat (windows room count i) }
+        (input_after_takes room count i).given ≡ i.given ++ concat (windows room count i) }
     ensures left { (room count : ℕ) (i : Input) →
-        concat (windows room count i) ++ bytes_left (behind_takes room count i).left ≡ bytes_left i.left }
-    ensures whole { (room count : ℕ) (i : Input) → is_at_end (behind_takes room count i).left ≡ true →
+        concat (windows room count i) ++ bytes_left (input_after_takes room count i).left ≡ bytes_left i.left }
+    ensures whole { (room count : ℕ) (i : Input) → is_at_end (input_after_takes room count i).left ≡ true →
         concat (windows room count i) ≡ bytes_left i.left }
     ensures end { (room : ℕ) (left : List (List ℕ)) → 0 < room → (length (taken room left) ≡ 0) ↔ (is_at_end left ≡ true) }
     ensures seen { (room : ℕ) (i : Input) → 0 < room → i.ended ≡ false →

@@ -16,7 +16,7 @@ use Rattle.epoch_runner.specs.declared.epoch_run.EpochRun.{EpochRun}
 use Rattle.guest_kernel.specs.declared.state.State.{State}
 use Rattle.recorder.specs.Committing.{Committed}
 use Rattle.recorder.specs.Keeping.{IsDueMark, IsOver}
-use Rattle.recorder.specs.Recording.{first_behind}
+use Rattle.recorder.specs.Recording.{thread_after}
 use Rattle.recorder.proofs.RoundRuns.{commit_failed, committed, few_written, is_over, low_here, no_memory}
 use Rattle.recorder.proofs.Takings.{based_there, commit_of, encodable_there, few_counts, is_body_of, is_epoch_of, judged_so, no_other_verdict, one_more, ready_there, starts_known, taken_in}
 use Rattle.recorder.proofs.judged_result.commit_next.Goals as goal
@@ -78,7 +78,7 @@ returns-in_err-append_mark-in-Commit-clause-says g c = λ a is w next.
     let size : c.len.result ≡ length s.0.out = c.len.ensures ∙ ap (λ (l : List ℕ). length l) s.1.1.0 in
     let within = committed a _ c.take_one.new.core c.args.journal.now c.args.tally.now here c.epoch_laws.ensures s.0 c.judge_next.new.core s.1.1.1.1 s.1.1.1.0 added framed c.commit_epoch.new.journal _ c.in_ok-frame-in-Commit.ensures.some
     c.in_ok-commit_epoch-in-Commit.ensures.numbers known c.count.new.self
-    (c.count.ensures.first low ∙ ap (λ xs. first_behind c.args.tally.now.first xs) (c.as_slice.ensures ∙ ap (λ (e : Epoch). (epoch_of e).slices) s.1.0))
+    (c.count.ensures.first low ∙ ap (λ xs. thread_after c.args.tally.now.first xs) (c.as_slice.ensures ∙ ap (λ (e : Epoch). (epoch_of e).slices) s.1.0))
     (c.count.ensures.epochs (omega (arith, few.0)))
     (c.count.ensures.sent (omega (arith, few.0, few.1, few.2, written, size)) ∙ omega (arith, size))
     (c.count.ensures.since (omega (arith, few.0, few.2))) c.count.ensures.base in
@@ -103,7 +103,7 @@ returns-in_ok-append_mark-in-Commit-clause-says g c = λ a is w next.
     let size : c.len.result ≡ length s.0.out = c.len.ensures ∙ ap (λ (l : List ℕ). length l) s.1.1.0 in
     let within = committed a _ c.take_one.new.core c.args.journal.now c.args.tally.now here c.epoch_laws.ensures s.0 c.judge_next.new.core s.1.1.1.1 s.1.1.1.0 added framed c.commit_epoch.new.journal _ c.in_ok-frame-in-Commit.ensures.some
     c.in_ok-commit_epoch-in-Commit.ensures.numbers known c.count.new.self
-    (c.count.ensures.first low ∙ ap (λ xs. first_behind c.args.tally.now.first xs) (c.as_slice.ensures ∙ ap (λ (e : Epoch). (epoch_of e).slices) s.1.0))
+    (c.count.ensures.first low ∙ ap (λ xs. thread_after c.args.tally.now.first xs) (c.as_slice.ensures ∙ ap (λ (e : Epoch). (epoch_of e).slices) s.1.0))
     (c.count.ensures.epochs (omega (arith, few.0)))
     (c.count.ensures.sent (omega (arith, few.0, few.1, few.2, written, size)) ∙ omega (arith, size))
     (c.count.ensures.since (omega (arith, few.0, few.2))) c.count.ensures.base in
