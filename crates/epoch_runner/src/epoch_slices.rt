@@ -8,7 +8,7 @@ use crate::course::Course;
 use crate::epoch_run::{EpochRun, Ran};
 use crate::hint_phase::{Begun, begin};
 use crate::kernel_laws::{run_laws, turn_laws};
-use crate::readiness::can_step;
+use crate::ready_threads::can_step;
 use crate::schedule::next_thread;
 use crate::slice::take_slice;
 use dp_base::{Bytes, OutOfMemory, Slice};

@@ -4,7 +4,7 @@ ghost use Rattle.epoch_runner.specs.Hinted.{first_stage, goes_plain, is_plain, i
 ghost use Rattle.epoch_runner.specs.Lowest.{lowest_from};
 
 use crate::hint_stage::HintStage;
-use crate::readiness::ready_at;
+use crate::ready_threads::ready_at;
 use crate::steps_left::left_of;
 use dp_base::Tid;
 use guest_kernel::{Peek, State};

@@ -5,7 +5,7 @@ ghost use Rattle.epoch_runner.specs.Lowest.{lowest_from};
 ghost use Rattle.epoch_runner.specs.Schedule.{begins_with};
 ghost use Rattle.epoch_runner.specs.SliceRun.{next_slice};
 
-use crate::readiness::{can_step, ready_at};
+use crate::ready_threads::{can_step, ready_at};
 use dp_base::Tid;
 use dp_base::limits::EPOCH_END_BYTES;
 use guest_kernel::State;

@@ -14,7 +14,7 @@ ghost use Rattle.epoch_runner.specs.Trace.{traced};
 
 use crate::bounds::Bounds;
 use crate::kernel_laws::turn_laws;
-use crate::readiness::{answer_to, can_take};
+use crate::ready_threads::{answer_to, can_take};
 use crate::schedule::is_long;
 use crate::trace::Trace;
 use dp_base::{OutOfMemory, Tid};

@@ -12,7 +12,7 @@ ghost use Rattle.sync_hints.specs.NoHints.{no_hints};
 
 use crate::bounds::Bounds;
 use crate::kernel_laws::turn_laws;
-use crate::readiness::{can_step, ready_at};
+use crate::ready_threads::{can_step, ready_at};
 use crate::schedule::{is_long, lowest_from};
 use crate::slice::one_turn;
 use crate::sync::sync_of;

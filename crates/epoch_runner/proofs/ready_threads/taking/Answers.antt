@@ -1,7 +1,7 @@
 use Rattle.std.proofs.Common.{◌≡◌, ◌≤◌, ℕ, List, length, subst, sym, ◌∙◌, arith}
 use Rattle.dp_base.specs.declared.limits.TheConstants.{MAX_CALL_BYTES}
 use Rattle.dp_base.specs.Field.{AreBytes}
-use Rattle.epoch_runner.proofs.readiness.taking.Goals as goal
+use Rattle.epoch_runner.proofs.ready_threads.taking.Goals as goal
 
 pub returns-clause-is_answer : goal.returns-clause-is_answer
 returns-clause-is_answer c =

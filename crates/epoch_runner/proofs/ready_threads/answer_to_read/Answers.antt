@@ -1,6 +1,6 @@
 use Rattle.std.proofs.Common.{◌≤◌, length, sym, arith}
 use Rattle.epoch_runner.proofs.Readiness.{answer_few, answer_within}
-use Rattle.epoch_runner.proofs.readiness.answer_to_read.Goals as goal
+use Rattle.epoch_runner.proofs.ready_threads.answer_to_read.Goals as goal
 
 pub taking-requires : goal.taking-requires
 taking-requires c =
