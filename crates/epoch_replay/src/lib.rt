@@ -1,7 +1,8 @@
 //! The replayer. It reads a journal whole, runs its epochs in order from the guest's start, sends their output, and
 //! compares each mark with the guest's state. A partial mark is taken against the guest's state at the mark before it,
 //! or at its start. With several workers the stretches between marks run side by side, each from its mark, and a
-//! stretch is used only if the replay reaches its start in the same state and over the same base (`stretch`, `window`).
+//! stretch is used only if the replay reaches its start in the same state and over the same base (`journal_stretch`,
+//! `parallel_stretches`).
 //!
 //! Promises (the contract of `replay`): `specs/Play.antt` defines what a journal plays to. Each answer but a device's
 //! fault and `OutOfMemory` is the one that the definition gives, and the output sent is then exactly the output that it
