@@ -1,5 +1,6 @@
 use Rattle.std.proofs.Common.{◌∙◌}
-use Rattle.epoch_stream.proofs.Handing.{count_kept, count_more, longer_kept, longer_more, waiting_kept, waiting_more}
+use Rattle.job_board.specs.Passes.{collected}
+use Rattle.epoch_stream.proofs.Handing.{count_kept, count_more, longer_kept, longer_more, waiting_fewer, waiting_kept, waiting_more}
 use Rattle.epoch_stream.proofs.taker_part.wait_for.Goals as goal
 
 pub turns-preserved-in-Result : goal.turns-preserved-in-Result
@@ -19,3 +20,7 @@ turns-preserved-in-Count g c = let i = c.turns.invariant in let e = c.in-Count.e
   longer = longer_kept _ _ _ i.longer e.0;
   places = c.pick.ensures.places ∙ i.places;
 }
+
+pub returns-in-Some-pick-clause-waiting : goal.returns-in-Some-pick-clause-waiting
+returns-in-Some-pick-clause-waiting g c =
+    waiting_fewer c.turns.tray.waiting.items c.pick.new.waiting.items (collected c.turns.tray.collector) c.turns.invariant.waiting c.pick.ensures.rest
