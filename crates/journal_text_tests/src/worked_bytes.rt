@@ -21,8 +21,8 @@ fn fields()
 
 // A prefix may have more after it, and no less.
 fn prefixes()
-    ensures more { IsPrefixOf (1 ∷ []) (1 ∷ 2 ∷ []) }
-    ensures less { IsPrefixOf (1 ∷ 2 ∷ []) (1 ∷ []) → ⊥ }
+    ensures more { IsPrefixOf {A = ℕ} (1 ∷ []) (1 ∷ 2 ∷ []) }
+    ensures less { IsPrefixOf {A = ℕ} (1 ∷ 2 ∷ []) (1 ∷ []) → ⊥ }
 {}
 
 // A value is decoded from all of the bytes, or there is none.
