@@ -8,8 +8,8 @@ use Rattle.dp_words.specs.declared.command.Command.TheVariants.{Inspect, Record,
 use Rattle.recorder.specs.declared.options.Options.{Options}
 
 -- a recording of this guest into this journal with these options
-abbrev pub record_command : (guest journal : List ℕ) → Options → Command
-record_command guest journal o = Record guest journal o.workers o.epoch o.slice o.ahead o.mark o.limit
+abbrev pub command_of_options : (guest journal : List ℕ) → Options → Command
+command_of_options guest journal o = Record guest journal o.workers o.epoch o.slice o.ahead o.mark o.limit
 
 -- the words ask for a recording
 pub record Asked (words : List (String Global)) : Type 0 where
@@ -17,7 +17,7 @@ pub record Asked (words : List (String Global)) : Type 0 where
   pub journal : List ℕ
   pub options : Options
   pub taken : are_taken words ≡ true
-  pub said : command_of words ≡ Some (record_command guest journal options)
+  pub said : command_of words ≡ Some (command_of_options guest journal options)
   pub room : options.room ≡ MAX_JOURNAL_BYTES
 
 -- the words ask for a replay of this journal

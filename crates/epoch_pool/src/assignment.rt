@@ -1,4 +1,4 @@
-// Jobs, assigned to workers in turn.
+// Jobs, assigned to workers in turn, and run by each worker in order.
 ghost use Rattle.std.specs.Prelude.{◌≡◌, ◌<◌, IfOk, map};
 ghost use Rattle.epoch_pool.specs.Assigning.{assigned, no_jobs};
 ghost use Rattle.epoch_pool.specs.Pool.{HaveRun};

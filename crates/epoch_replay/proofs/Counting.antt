@@ -11,7 +11,7 @@ use Rattle.guest_state.specs.Checkpoint.{Checkpoint, IsCheckpoint, checkpoint_by
 use Rattle.journal_text.specs.Records.{mark_kind}
 use Rattle.epoch_replay.specs.declared.counts.EpochCounts.{EpochCounts}
 use Rattle.partial_mark.specs.Partial.{IsPartial, Partial, counted_bytes, partial_bytes, partial_kind, partial_page_bytes}
-use Rattle.epoch_replay.specs.Counting.{counts_at, counts_of, marked_steps_at}
+use Rattle.epoch_replay.specs.Counting.{counts_at, epoch_counts, marked_steps_at}
 
 abbrev counts_end : ℕ × List ℕ → List Slice × List ℕ → ℕ × List ℕ → Option EpochCounts
 counts_end slice_count slices answer_count = Some (record { slices = slice_count.0; steps = steps_of slices.0; answers = answer_count.0 })
@@ -25,7 +25,7 @@ counts_slices slice_count = many_at slice_at slice_count.0 slice_count.1 >>= cou
 abbrev counts_kind : ℕ × List ℕ → Option EpochCounts
 counts_kind kind = number_at 4 kind.1 >>= counts_slices
 
-pub counted : (e : Epoch) → IsEpoch e → counts_at (epoch_body e) ≡ Some (counts_of e)
+pub counted : (e : Epoch) → IsEpoch e → counts_at (epoch_body e) ≡ Some (epoch_counts e)
 unfolding counts_at
 counted e fits =
     let answers : List ℕ = word (length e.answers) ++ flat_map answer e.answers in
@@ -33,7 +33,7 @@ counted e fits =
     let slice_count : ℕ × List ℕ = (length e.slices, flat_map slice e.slices ++ answers) in
     let slices : List Slice × List ℕ = (e.slices, answers) in
     let answer_count : ℕ × List ℕ = (length e.answers, flat_map answer e.answers) in
-    let found = Some (counts_of e) in
+    let found = Some (epoch_counts e) in
     bind_at (number_at 1 (epoch_body e)) counts_kind kind found (number_found 1 0 kind.1 (omega arith))
     (bind_at (number_at 4 kind.1) counts_slices slice_count found (number_found 4 (length e.slices) slice_count.1 (omega (arith, fits.slice_count)))
     (bind_at (many_at slice_at slice_count.0 slice_count.1) (counts_answers slice_count) slices found (many_found slice_at slice IsSlice slice_code e.slices answers fits.slices)

@@ -21,7 +21,7 @@ use Rattle.epoch_replay.proofs.Moments.{further_moments, quiet, sent_moments}
 use Rattle.epoch_replay.proofs.Starting.{reads_first}
 use Rattle.epoch_journal.specs.ReadWhole.{IsReadWhole}
 use Rattle.epoch_replay.specs.declared.counts.EpochCounts.{EpochCounts}
-use Rattle.epoch_replay.specs.Counting.{counts_of}
+use Rattle.epoch_replay.specs.Counting.{epoch_counts}
 use Rattle.std.proofs.lemmas.Option.{same_Some}
 use Rattle.dp_base.specs.Journal.{Epoch}
 
@@ -174,7 +174,7 @@ pub never : (reading : Reading) (file : List ℕ) (first now : Option History) (
 never reading file first now here answer impossible = absurd impossible
 
 -- the line of an epoch, by its counts
-pub epoch_said : (number : ℕ) (o : Option EpochCounts) (counts : EpochCounts) (e : Epoch) (ok : Bool) (now later : Option History) → o ≡ Some counts → o ≡ Some (counts_of e)
+pub epoch_said : (number : ℕ) (o : Option EpochCounts) (counts : EpochCounts) (e : Epoch) (ok : Bool) (now later : Option History) → o ≡ Some counts → o ≡ Some (epoch_counts e)
     → IfKnown (Sent Out (epoch_line number counts.slices counts.steps counts.answers) ok) now later → IfKnown (Sent Out (record_line number (epoch e)) ok) now later
 epoch_said number o counts e ok now later found is known =
     sent_as Out (epoch_line number counts.slices counts.steps counts.answers) (record_line number (epoch e)) ok ok now later

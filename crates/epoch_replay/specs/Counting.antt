@@ -5,8 +5,8 @@ use Rattle.dp_base.specs.Field.{◌>>=◌, number_at}
 use Rattle.dp_base.specs.Journal.{Epoch, many_at, slice_at, steps_of}
 use Rattle.epoch_replay.specs.declared.counts.EpochCounts.{EpochCounts}
 
-abbrev pub counts_of : Epoch → EpochCounts
-counts_of e = record { slices = length e.slices; steps = steps_of e.slices; answers = length e.answers }
+abbrev pub epoch_counts : Epoch → EpochCounts
+epoch_counts e = record { slices = length e.slices; steps = steps_of e.slices; answers = length e.answers }
 
 -- in the body of an epoch
 unfoldable pub counts_at : List ℕ → Option EpochCounts

@@ -4,7 +4,7 @@ ghost use Rattle.dp_base.specs.Journal.{Epoch, IsEpoch, epoch_body};
 ghost use Rattle.guest_state.specs.Checkpoint.{Checkpoint, IsCheckpoint, checkpoint_bytes};
 ghost use Rattle.journal_text.specs.Records.{mark_kind};
 ghost use Rattle.partial_mark.specs.Partial.{IsPartial, Partial, partial_bytes};
-ghost use Rattle.epoch_replay.specs.Counting.{counts_at, counts_of, marked_steps_at};
+ghost use Rattle.epoch_replay.specs.Counting.{counts_at, epoch_counts, marked_steps_at};
 
 use dp_base::journal_reader::skip_slices;
 use dp_base::little_endian::{read_u8, read_u32, read_u64};
@@ -20,7 +20,7 @@ pub(crate) struct EpochCounts {
 
 /// Returns what the epoch with this body holds.
 pub(crate) fn epoch_counts(body: &[u8]) -> Option<EpochCounts>
-    ensures { (e : Epoch) → IsEpoch e → body.now ≡ epoch_body e → result ≡ Some (counts_of e) }
+    ensures { (e : Epoch) → IsEpoch e → body.now ≡ epoch_body e → result ≡ Some (epoch_counts e) }
 {
     count_epoch(body)
 }

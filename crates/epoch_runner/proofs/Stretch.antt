@@ -1,5 +1,5 @@
 -- Turns of a thread within its slice are a course.
-use Rattle.std.proofs.Common.{◌≡◌, ◌+◌, ◌<◌, ◌≤◌, ℕ, zero, suc, Bool, true, false, List, [], ◌++◌, length, Option, Some, None, Result, Ok, Err, refl, sym, ap, subst, ◌∙◌, arith}
+use Rattle.std.proofs.Common.{◌≡◌, ◌+◌, ◌<◌, ◌≤◌, ℕ, zero, suc, Bool, true, false, List, [], ◌++◌, length, Option, Some, None, Ok, refl, sym, ap, subst, ◌∙◌, arith}
 use Rattle.std.specs.List.{AllByRecursion}
 use Rattle.std.proofs.lemmas.List.{append-nil, length-append, nil_from_length}
 use Rattle.dp_base.specs.declared.answer.Answer.{Answer}
@@ -11,11 +11,11 @@ use Rattle.guest_kernel.specs.declared.turn.Turn.{Turn}
 use Rattle.guest_kernel.specs.declared.turn.Turn.TheVariants as answers
 use Rattle.guest_kernel.specs.declared.state.State.{State}
 use Rattle.guest_kernel.specs.Answers.{bytes_read}
-use Rattle.guest_kernel.specs.Call.{After, TurnRefusal}
-use Rattle.guest_kernel.specs.Slices.{new_after, by_result, joined, turns}
+use Rattle.guest_kernel.specs.Call.{After}
+use Rattle.guest_kernel.specs.Slices.{new_after, joined, turns}
 use Rattle.guest_kernel.specs.State.{has_ended}
 use Rattle.guest_kernel.specs.Turn.{output_after, state_after, turn, turn_answer, yields}
-use Rattle.guest_kernel.proofs.SliceRuns.{first_turn}
+use Rattle.guest_kernel.proofs.SliceRuns.{first_turn, turns-first}
 use Rattle.epoch_runner.specs.declared.bounds.Bounds.{Bounds}
 use Rattle.epoch_runner.specs.Answering.{answers_for, ready_at}
 use Rattle.epoch_runner.specs.Hinted.{Following}
@@ -28,10 +28,6 @@ use Rattle.epoch_runner.specs.KernelLaws.{TurnLaws}
 use Rattle.epoch_runner.proofs.Nexts.{same_next}
 use Rattle.epoch_runner.proofs.Readiness.{ready_some, ready_turn, silent_turn}
 use Rattle.supply.specs.Supplied.{Supplied}
-
-turn_first : (taken n : ℕ) (tid : Tid) (here after : After) → turn here.state tid here.rest ≡ Ok after → turns taken (suc n) tid here ≡ turns (taken + 1) n tid (joined here after)
-unfolding turns
-turn_first taken n tid here after is = ap (λ (r : Result After TurnRefusal). by_result r (λ refusal. Err (taken, here)) (λ b. turns (taken + 1) n tid (joined here b))) is
 
 no_turns : (taken : ℕ) (tid : Tid) (here there : After) → turns taken zero tid here ≡ Ok there → here ≡ there
 unfolding turns
@@ -52,7 +48,7 @@ unfolding turns
 turns_taken zero a b tid here there is = let same = no_turns a tid here there is in ap (λ (x : After). Ok x) same
 turns_taken (suc n) a b tid here there is =
     let one = first_turn a n tid here there is in
-    turn_first b n tid here one.0 one.1 ∙ turns_taken n (a + 1) (b + 1) tid (joined here one.0) there one.2
+    turns-first b n tid here one.0 one.1 ∙ turns_taken n (a + 1) (b + 1) tid (joined here one.0) there one.2
 
 -- output only grows
 turns_write : (n taken : ℕ) (tid : Tid) (here there : After) → turns taken n tid here ≡ Ok there → length here.output ≤ length there.output
@@ -122,7 +118,7 @@ module _ (laws : TurnLaws) where
       ∙ ap (λ y. Some (inside_by after.state t done tid (before + 1) y (hints (before + 1)))) no_yield_now in
       let count : (before + 1) + n ≡ before + suc n = omega arith in
       let first : (k : ℕ) (mid : After) → turns 0 k tid (new_after after.state [] []) ≡ Ok mid → turns 0 (suc k) tid (new_after s [] []) ≡ Ok mid =
-      λ k mid ran. turn_first 0 k tid (new_after s [] []) after one.1 ∙ ap (turns (0 + 1) k tid) here ∙ turns_taken k 0 (0 + 1) tid (new_after after.state [] []) mid ran in
+      λ k mid ran. turns-first 0 k tid (new_after s [] []) after one.1 ∙ ap (turns (0 + 1) k tid) here ∙ turns_taken k 0 (0 + 1) tid (new_after after.state [] []) mid ran in
       course-step n w bounds (inside_by s t done tid before false (hints before)) (inside_by after.state t done tid (before + 1) false (hints (before + 1))) stepped
       ∙ stretch_by n (taken + 1) w bounds after.state there t done tid (before + 1) hints
       (λ j m mid within m_is ran alive ready. keeps (suc j) m mid (omega (arith, within)) (omega (arith, m_is)) (first j mid ran) alive ready) others

@@ -11,7 +11,8 @@ use Rattle.guest_kernel.specs.declared.state.State.{State}
 use Rattle.guest_kernel.specs.Answers.{bytes_read}
 use Rattle.guest_kernel.specs.Call.{After, TurnRefusal}
 use Rattle.guest_kernel.specs.Peek.{peeked}
-use Rattle.guest_kernel.specs.Slices.{new_after, by_result, joined, one_slice, turns}
+use Rattle.guest_kernel.specs.Laws.{one_slice}
+use Rattle.guest_kernel.specs.Slices.{new_after, by_result, joined, turns}
 use Rattle.guest_kernel.specs.State.{has_ended, without_reservation}
 use Rattle.guest_kernel.specs.Threads.{thread_at}
 use Rattle.guest_kernel.specs.Turn.{turn, yields}
@@ -77,7 +78,7 @@ abbrev undefined_at : After → TurnRefusal → Result After (ℕ × After)
 undefined_at here refusal = Err (0, here)
 
 abbrev one_turn_from : After → Result After TurnRefusal → Result After (ℕ × After)
-one_turn_from here r = by_result r (undefined_at here) (λ after. Ok (joined here after))
+one_turn_from here r = by_result (by_result r (undefined_at here) (λ after. Ok (joined here after))) Err (λ there. Ok there)
 
 -- a turn with answers left
 turn_longer : RunLaws → (s : State) (tid : Tid) (log more : List Answer) (there : After) → turn s tid log ≡ Ok there → turn s tid (log ++ more) ≡ Ok (record there { rest = there.rest ++ more })

@@ -11,7 +11,8 @@ use Rattle.guest_kernel.specs.declared.state.State.{State}
 use Rattle.guest_kernel.specs.Answers.{bytes_read}
 use Rattle.guest_kernel.specs.Call.{After}
 use Rattle.guest_kernel.specs.Peek.{peeked, rest_by, rest_of}
-use Rattle.guest_kernel.specs.Slices.{new_after, joined, one_slice, run, slice_ended, turns}
+use Rattle.guest_kernel.specs.Laws.{one_slice}
+use Rattle.guest_kernel.specs.Slices.{new_after, joined, run, slice_ended, turns}
 use Rattle.guest_kernel.specs.State.{has_ended}
 use Rattle.guest_kernel.specs.Threads.{runs_at}
 use Rattle.guest_kernel.specs.Turn.{turn}

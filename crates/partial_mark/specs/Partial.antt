@@ -123,15 +123,15 @@ counted_from item bytes = do
   count ← number_at 2 bytes
   many_at item count.0 count.1
 
-abbrev pub if_bounded : Partial → List ℕ → Option (Partial × List ℕ)
-if_bounded m rest = if is_bounded (outline m) then Some (m, rest) else None
+abbrev pub if_outline_bounded : Partial → List ℕ → Option (Partial × List ℕ)
+if_outline_bounded m rest = if is_bounded (outline m) then Some (m, rest) else None
 
 unfoldable pub parts_from : List ℕ → Option (Partial × List ℕ)
 parts_from bytes = do
   fields ← fields_from bytes
   threads ← counted_from thread_from fields.1
   pages ← counted_from partial_page_from threads.1
-  if_bounded (record { fields = fields.0; threads = threads.0; pages = pages.0 }) pages.1
+  if_outline_bounded (record { fields = fields.0; threads = threads.0; pages = pages.0 }) pages.1
 
 unfoldable pub partial_from : List ℕ → Option (Partial × List ℕ)
 partial_from bytes = do

@@ -4,7 +4,8 @@ use Rattle.std.proofs.lemmas.List.{append-nil}
 use Rattle.dp_base.specs.Journal.{Epoch}
 use Rattle.guest_kernel.specs.declared.state.State.{State}
 use Rattle.guest_kernel.specs.Call.{After}
-use Rattle.guest_kernel.specs.Slices.{Stop, new_after, chain, by_result, output_before, run}
+use Rattle.guest_kernel.specs.Laws.{output_before}
+use Rattle.guest_kernel.specs.Slices.{Stop, new_after, chain, by_result, run}
 use Rattle.journal_text.specs.Records.{Record, epoch}
 use Rattle.recorder.specs.Marking.{base_after, base_then, kept, marked_from, marks_at, since_after, since_then}
 

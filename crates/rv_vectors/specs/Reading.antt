@@ -19,8 +19,8 @@ field_at text =
     else Some (before_first (λ b. b == 0x20) text, after_first (λ b. b == 0x20) text)
 
 -- eight hexadecimal digits
-unfoldable pub number : List ℕ → Option ℕ
-number field = option_map (from_be_bytes w32) (result_ok (decode_sized field 4))
+unfoldable pub hex_number : List ℕ → Option ℕ
+hex_number field = option_map (from_be_bytes w32) (result_ok (decode_sized field 4))
 
 -- sixteen bytes, or - for zeros
 unfoldable pub sixteen : List ℕ → Option (List ℕ)
@@ -30,10 +30,10 @@ sixteen field = if bytes_eq field (codes "-") then Some (replicate 16 0) else re
 unfoldable pub distance : List ℕ → Option ℕ
 distance field = if bytes_eq field (codes "0") then Some 4 else if bytes_eq field (codes "1") then Some 16 else None
 
-unfoldable pub number_at : List ℕ → Option (ℕ × List ℕ)
-number_at text = do
+unfoldable pub hex_number_at : List ℕ → Option (ℕ × List ℕ)
+hex_number_at text = do
   field ← field_at text
-  value ← number field.0
+  value ← hex_number field.0
   Some (value, field.1)
 
 unfoldable pub sixteen_at : List ℕ → Option (List ℕ × List ℕ)
@@ -46,17 +46,17 @@ sixteen_at text = do
 
 unfoldable pub before_at : List ℕ → Option (Before × List ℕ)
 before_at text = do
-  x5 ← number_at text
-  x6 ← number_at x5.1
+  x5 ← hex_number_at text
+  x6 ← hex_number_at x5.1
   bytes ← sixteen_at x6.1
   Some (record { x5 = x5.0; x6 = x6.0; bytes = bytes.0 }, bytes.1)
 
 -- up to the line's end
 unfoldable pub after_from : List ℕ → Option After
 after_from text = do
-  x5 ← number_at text
-  x6 ← number_at x5.1
-  x7 ← number_at x6.1
+  x5 ← hex_number_at text
+  x6 ← hex_number_at x5.1
+  x7 ← hex_number_at x6.1
   field ← field_at x7.1
   far ← distance field.0
   bytes ← sixteen field.1
@@ -66,7 +66,7 @@ after_from text = do
 unfoldable pub row_of : List ℕ → Option Row
 row_of line = do
   name ← field_at line
-  word ← number_at name.1
+  word ← hex_number_at name.1
   before ← before_at word.1
   left ← after_from before.1
   Some (record { word = word.0; before = before.0; after = left })

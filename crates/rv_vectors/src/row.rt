@@ -1,6 +1,6 @@
 // A row of the vectors, as it is read.
 ghost use Rattle.std.specs.Prelude.{◌≡◌, option_map};
-ghost use Rattle.rv_vectors.specs.Reading.{after_from, before_at, distance, field_at, number, number_at, row_of, sixteen, sixteen_at};
+ghost use Rattle.rv_vectors.specs.Reading.{after_from, before_at, distance, field_at, hex_number, hex_number_at, row_of, sixteen, sixteen_at};
 
 use hex::FromHex;
 
@@ -37,7 +37,7 @@ pub(crate) fn parse(line: &str) -> Option<Row>
     ensures { result ≡ row_of line.now }
 {
     let (_name, rest) = field_at(line)?;
-    let (word, rest) = number_at(rest)?;
+    let (word, rest) = hex_number_at(rest)?;
     let (before, rest) = before_at(rest)?;
     let after = after_from(rest)?;
     Some(Row {
@@ -51,8 +51,8 @@ pub(crate) fn parse(line: &str) -> Option<Row>
 fn before_at(text: &str) -> Option<(Before, &str)>
     ensures { option_map (λ x. (x.0, x.1.now)) result ≡ before_at text.now }
 {
-    let (x5, rest) = number_at(text)?;
-    let (x6, rest) = number_at(rest)?;
+    let (x5, rest) = hex_number_at(text)?;
+    let (x6, rest) = hex_number_at(rest)?;
     let (bytes, rest) = sixteen_at(rest)?;
     Some((Before { x5, x6, bytes }, rest))
 }
@@ -61,9 +61,9 @@ fn before_at(text: &str) -> Option<(Before, &str)>
 fn after_from(text: &str) -> Option<After>
     ensures { result ≡ after_from text.now }
 {
-    let (x5, rest) = number_at(text)?;
-    let (x6, rest) = number_at(rest)?;
-    let (x7, rest) = number_at(rest)?;
+    let (x5, rest) = hex_number_at(text)?;
+    let (x6, rest) = hex_number_at(rest)?;
+    let (x7, rest) = hex_number_at(rest)?;
     let (far, rest) = field_at(rest)?;
     let distance = distance(far)?;
     let bytes = sixteen(rest)?;
@@ -76,12 +76,12 @@ fn after_from(text: &str) -> Option<After>
     })
 }
 
-#[tactic(auto, unfolding(crate::specs::Reading::number_at))]
-fn number_at(text: &str) -> Option<(u32, &str)>
-    ensures { option_map (λ x. (x.0, x.1.now)) result ≡ number_at text.now }
+#[tactic(auto, unfolding(crate::specs::Reading::hex_number_at))]
+fn hex_number_at(text: &str) -> Option<(u32, &str)>
+    ensures { option_map (λ x. (x.0, x.1.now)) result ≡ hex_number_at text.now }
 {
     let (field, rest) = field_at(text)?;
-    let value = number(field)?;
+    let value = hex_number(field)?;
     Some((value, rest))
 }
 
@@ -103,9 +103,9 @@ fn field_at(text: &str) -> Option<(&str, &str)>
 }
 
 // Eight hexadecimal digits.
-#[tactic(auto, unfolding(crate::specs::Reading::number))]
-fn number(field: &str) -> Option<u32>
-    ensures { result ≡ number field.now }
+#[tactic(auto, unfolding(crate::specs::Reading::hex_number))]
+fn hex_number(field: &str) -> Option<u32>
+    ensures { result ≡ hex_number field.now }
 {
     let bytes = <[u8; 4] as FromHex>::from_hex(field).ok()?;
     Some(u32::from_be_bytes(bytes))

@@ -7,7 +7,7 @@ use Rattle.std.proofs.lemmas.List.{get_or-map, length-map}
 use Rattle.std.proofs.lemmas.List.Sums.{position_or_len_is}
 use Rattle.std.proofs.lemmas.Option.{slice_get_within, get_or_from_slice_get}
 use Rattle.shared_words.proofs.PagesMade.{rises}
-use Rattle.shared_words.specs.Layout.{AreMapped, has_number, page_index}
+use Rattle.shared_words.specs.Layout.{AreMapped, is_page_numbered, page_index}
 use Rattle.shared_words.specs.declared.mapped_page.MappedPage.{MappedPage}
 
 below : (mapped : List MappedPage) (p : MappedPage) (i k : ℕ) → IsStrictlyIncreasing (map (λ (q : MappedPage). q.number) mapped) → k < i → i < length mapped → (get_or mapped k p).number < (get_or mapped i p).number
@@ -21,7 +21,7 @@ below mapped p i k rising before within =
     let right = get_or-map (λ (q : MappedPage). q.number) mapped i p 0 within in
     omega (arith, left, right, ap (λ n. get_or ns n 0) there, less)
 
-by_slot : (mapped : List MappedPage) (number i : ℕ) (x : Option MappedPage) → AreMapped mapped → slice_get mapped i ≡ x → has_number number x ≡ true → page_index mapped number ≡ Some i
+by_slot : (mapped : List MappedPage) (number i : ℕ) (x : Option MappedPage) → AreMapped mapped → slice_get mapped i ≡ x → is_page_numbered number x ≡ true → page_index mapped number ≡ Some i
 by_slot mapped number i None are at has = absurd cc
 by_slot mapped number i (Some p) are at has =
     let within = slice_get_within mapped i p at in
@@ -32,5 +32,5 @@ by_slot mapped number i (Some p) are at has =
     (λ _. ap (λ (q : MappedPage). q.number == number) here ∙ has) in
     ap (λ m. cond (nat_lt m (length mapped)) (Some m) None) first ∙ ap (λ b. cond b (Some i) None) (lt-ltb i (length mapped) within)
 
-pub page_index_is : (mapped : List MappedPage) (number i : ℕ) → AreMapped mapped → has_number number (slice_get mapped i) ≡ true → page_index mapped number ≡ Some i
+pub page_index_is : (mapped : List MappedPage) (number i : ℕ) → AreMapped mapped → is_page_numbered number (slice_get mapped i) ≡ true → page_index mapped number ≡ Some i
 page_index_is mapped number i are has = by_slot mapped number i (slice_get mapped i) are refl has

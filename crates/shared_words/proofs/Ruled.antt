@@ -6,7 +6,7 @@ use Rattle.std.specs.Prelude.{◌==◌}
 use mathlib.Core.Option.{none, some}
 use lib.ListN.{get_elem?}
 use Rattle.atomic_table.specs.Table.{Me, step, keeps, Allows, Splits, Joins}
-use Rattle.shared_words.specs.Rule.{HasSource, KeepsRule, times, stores_of, total, once_below, seat_after_load, after_store, after_exchange, loads_word, stores_word, exchanges, with_ticket, takes_ticket, reduced, new_seat_view, joined_seats, spent}
+use Rattle.shared_words.specs.Rule.{HasSource, KeepsRule, times, stores_of, sum_over, once_below, seat_after_load, after_store, after_exchange, loads_word, stores_word, exchanges, with_ticket, takes_ticket, reduced, new_seat_view, joined_seats, spent}
 use Rattle.shared_words.specs.declared.view.Stored.{Stored}
 use Rattle.shared_words.specs.declared.view.View.{View}
 use Rattle.shared_words.proofs.Views.{total_set, total_append, part_of, times_append, stores_append, stored_last, above_all, once_more, once_below_lt, set_at}
@@ -15,12 +15,12 @@ abbrev M : Type 0
 M = Me (Unit {0}) View
 
 -- a view with the same number as before
-same_total : (f : View → ℕ) (views : List View) (i : ℕ) (v w : View) → get_elem? views i ≡ some v → f w ≡ f v → total f (set views i w) ≡ total f views
+same_total : (f : View → ℕ) (views : List View) (i : ℕ) (v w : View) → get_elem? views i ≡ some v → f w ≡ f v → sum_over f (set views i w) ≡ sum_over f views
 same_total f views i v w at is = let s = total_set f views i v w at in omega arith
 
 -- words keep their sources where no view has stored less
 kept_source : (start : List ℕ) (views after : List View) (word value : ℕ)
-    → total (λ v. stores_of word value v.stored) views ≤ total (λ v. stores_of word value v.stored) after
+    → sum_over (λ v. stores_of word value v.stored) views ≤ sum_over (λ v. stores_of word value v.stored) after
     → HasSource start views word value → HasSource start after word value
 kept_source start views after word value more source = ⊎_elim (λ same. inl same) (λ some_seat. inr (omega arith)) source
 
@@ -36,7 +36,7 @@ stepping start slots id word m f w then pos fits tickets budget more source says
     let n : ℕ = get_or s.words word 0 in
     let small = kept.guest_words word pos in
     let count : ℕ → ℕ → View → ℕ = λ x y v. stores_of x y v.stored in
-    let grows : (x y : ℕ) → total (count x y) s.views ≤ total (count x y) (set s.views id (w n)) = λ x y. (let e = total_set (count x y) s.views id m.0 (w n) at in let g = more n x y in omega arith) in
+    let grows : (x y : ℕ) → sum_over (count x y) s.views ≤ sum_over (count x y) (set s.views id (w n)) = λ x y. (let e = total_set (count x y) s.views id m.0 (w n) at in let g = more n x y in omega arith) in
     let zeroth : get_or (set s.words word (f n)) 0 0 ≡ get_or s.words 0 0 = get_or-set_other s.words word 0 (f n) 0 (λ e. omega arith) in
     let stays : (i : ℕ) → 0 < i → HasSource start (set s.views id (w n)) i (get_or s.words i 0) = λ i p. kept_source start s.views (set s.views id (w n)) i (get_or s.words i 0) (grows i (get_or s.words i 0)) (kept.sources i p) in
     let here : HasSource start (set s.views id (w n)) word (f n) =
@@ -94,7 +94,7 @@ pub taking : (start : List ℕ) (slots id : ℕ) (m : M) → 0 < m.0.budget → 
 taking start slots id m some_left s kept _ at _ =
     let n : ℕ = get_or s.words 0 0 in
     let w : View = with_ticket m.0 n in
-    let b : n + total (λ v. v.budget) s.views ≡ 2 ^ 62 = kept.budgets in
+    let b : n + sum_over (λ v. v.budget) s.views ≡ 2 ^ 62 = kept.budgets in
     let next : (n + 1) % 2 ^ 64 ≡ n + 1 = omega arith in
     let other : (i : ℕ) → 0 < i → get_or (set s.words 0 ((n + 1) % 2 ^ 64)) i 0 ≡ get_or s.words i 0 = λ i p. get_or-set_other s.words 0 i ((n + 1) % 2 ^ 64) 0 (λ e. omega arith) in
     let here : get_or (set s.words 0 ((n + 1) % 2 ^ 64)) 0 0 ≡ n + 1 = get_or-set_same s.words 0 ((n + 1) % 2 ^ 64) 0 kept.ticket_word ∙ next in (
@@ -105,7 +105,7 @@ taking start slots id m some_left s kept _ at _ =
         ticket_word = rw (length-set s.words 0 ((n + 1) % 2 ^ 64)) kept.ticket_word;
         guest_words = λ i p. rw (other i p) (kept.guest_words i p);
         tickets = λ x. (let e = total_set (λ v. times x v.tickets) s.views id m.0 w at in let k = kept.tickets x in let a = times_append x m.0.tickets (n ∷ []) in let o = once_more x n in
-            let goal : total (λ v. times x v.tickets) (set s.views id w) ≡ once_below x (n + 1) = omega arith in goal ∙ ap (once_below x) (sym here));
+            let goal : sum_over (λ v. times x v.tickets) (set s.views id w) ≡ once_below x (n + 1) = omega arith in goal ∙ ap (once_below x) (sym here));
         budgets = (let e = total_set (λ v. v.budget) s.views id m.0 w at in omega arith);
         sources = λ i p. subst (λ (v : ℕ). HasSource start (set s.views id w) i v) (sym (other i p))
             (kept_source start s.views (set s.views id w) i (get_or s.words i 0) (let e = same_total (λ v. stores_of i (get_or s.words i 0) v.stored) s.views id m.0 w at refl in omega arith) (kept.sources i p));

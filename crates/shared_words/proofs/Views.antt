@@ -5,20 +5,20 @@ use mathlib.Core.Option.{some, some-injective, some-ne-none}
 use lib.ListN.{get_elem?}
 use Rattle.std.proofs.lemmas.Bool.Decides.{nat_tests}
 use Rattle.std.proofs.lemmas.List.Elements.{All-cons}
-use Rattle.shared_words.specs.Rule.{times, stores_of, total, once_below}
+use Rattle.shared_words.specs.Rule.{times, stores_of, sum_over, once_below}
 use Rattle.shared_words.specs.declared.view.Stored.{Stored}
 use Rattle.shared_words.specs.declared.view.View.{View}
 
-pub total_set : (f : View → ℕ) (views : List View) (i : ℕ) (v w : View) → get_elem? views i ≡ some v → total f (set views i w) + f v ≡ total f views + f w
+pub total_set : (f : View → ℕ) (views : List View) (i : ℕ) (v w : View) → get_elem? views i ≡ some v → sum_over f (set views i w) + f v ≡ sum_over f views + f w
 total_set f [] i v w e = absurd (some-ne-none v (sym e))
 total_set f (x ∷ xs) zero v w e = let is : f x ≡ f v = ap f (some-injective x v e) in omega arith
 total_set f (x ∷ xs) (suc i) v w e = let r = total_set f xs i v w e in omega arith
 
-pub total_append : (f : View → ℕ) (views : List View) (v : View) → total f (views ++ v ∷ []) ≡ total f views + f v
+pub total_append : (f : View → ℕ) (views : List View) (v : View) → sum_over f (views ++ v ∷ []) ≡ sum_over f views + f v
 total_append f [] v = omega arith
 total_append f (x ∷ xs) v = let r = total_append f xs v in omega arith
 
-pub part_of : (f : View → ℕ) (views : List View) (i : ℕ) (v : View) → get_elem? views i ≡ some v → f v ≤ total f views
+pub part_of : (f : View → ℕ) (views : List View) (i : ℕ) (v : View) → get_elem? views i ≡ some v → f v ≤ sum_over f views
 part_of f [] i v e = absurd (some-ne-none v (sym e))
 part_of f (x ∷ xs) zero v e = let is : f x ≡ f v = ap f (some-injective x v e) in omega arith
 part_of f (x ∷ xs) (suc i) v e = let r = part_of f xs i v e in omega arith

@@ -23,9 +23,9 @@ pub record AreMapped (pages : List MappedPage) : Type 0 where
   pub rising : IsStrictlyIncreasing (map (λ page. page.number) pages)
   pub few : length pages ≤ MAX_PAGES
 
-abbrev pub has_number : ℕ → Option MappedPage → Bool
-has_number number None = false
-has_number number (Some page) = page.number == number
+abbrev pub is_page_numbered : ℕ → Option MappedPage → Bool
+is_page_numbered number None = false
+is_page_numbered number (Some page) = page.number == number
 
 -- the index of the page with this number
 abbrev pub page_index : List MappedPage → ℕ → Option ℕ

@@ -18,9 +18,9 @@ stores_of word value [] = 0
 stores_of word value (s ∷ stored) = (if (s.word == word) && (s.value == value) then 1 else 0) + stores_of word value stored
 
 -- the sum of a number of each view
-abbrev pub total : (View → ℕ) → List View → ℕ
-total f [] = 0
-total f (v ∷ views) = f v + total f views
+abbrev pub sum_over : (View → ℕ) → List View → ℕ
+sum_over f [] = 0
+sum_over f (v ∷ views) = f v + sum_over f views
 
 -- each number below n once
 abbrev pub once_below : ℕ → ℕ → ℕ
@@ -28,7 +28,7 @@ once_below x n = if nat_lt x n then 1 else 0
 
 -- a word is what it was at the start, or what some seat has stored there
 abbrev pub HasSource : (start : List ℕ) (views : List View) (word value : ℕ) → Type 0
-HasSource start views word value = (value ≡ slice_index start word) ⊎ (0 < total (λ v. stores_of word value v.stored) views)
+HasSource start views word value = (value ≡ slice_index start word) ⊎ (0 < sum_over (λ v. stores_of word value v.stored) views)
 
 -- Every guest word is below 2^32. The tickets that seats have are the numbers below the ticket word, each once. The
 -- ticket word and the budgets of all seats are 2^62 in all. Each guest word is that of the start, or one that a seat
@@ -36,8 +36,8 @@ HasSource start views word value = (value ≡ slice_index start word) ⊎ (0 < t
 pub record AreRuled (start words : List ℕ) (views : List View) : Type 0 where
   pub ticket_word : 0 < length words
   pub guest_words : (i : ℕ) → 0 < i → slice_index words i < 2 ^ 32
-  pub tickets : (x : ℕ) → total (λ v. times x v.tickets) views ≡ once_below x (slice_index words 0)
-  pub budgets : slice_index words 0 + total (λ v. v.budget) views ≡ 2 ^ 62
+  pub tickets : (x : ℕ) → sum_over (λ v. times x v.tickets) views ≡ once_below x (slice_index words 0)
+  pub budgets : slice_index words 0 + sum_over (λ v. v.budget) views ≡ 2 ^ 62
   pub sources : (i : ℕ) → 0 < i → HasSource start views i (slice_index words i)
 
 abbrev pub KeepsRule : List ℕ → State (Unit {0}) View → Type 0

@@ -1,6 +1,6 @@
 // Pages without their bytes.
 ghost use Rattle.std.specs.Prelude.{◌≡◌, ◌<◌, IfSome, length, slice_get};
-ghost use Rattle.shared_words.specs.Layout.{has_number, page_index};
+ghost use Rattle.shared_words.specs.Layout.{is_page_numbered, page_index};
 
 /// The number and the flags of a page.
 #[derive(Clone, Copy, PartialEq, Eq)]
@@ -14,7 +14,7 @@ pub struct MappedPage {
 // Whether the page at an index has this number.
 #[inline(always)]
 pub(crate) fn is_at(pages: &[MappedPage], number: u32, index: usize) -> bool
-    ensures { result ≡ has_number number (slice_get pages.now index) }
+    ensures { result ≡ is_page_numbered number (slice_get pages.now index) }
 {
     match pages.get(index) {
         Some(page) => page.number == number,

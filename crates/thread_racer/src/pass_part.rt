@@ -1,4 +1,4 @@
-// What a thread does in a pass.
+// The parts of a pass: what each thread does in it, and how they run side by side.
 ghost use Rattle.std.specs.Prelude.{◌<◌, ◌≤◌};
 
 use crate::noted_words::NotedWords;
