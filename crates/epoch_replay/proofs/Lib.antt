@@ -1,6 +1,7 @@
 pub mod Going
 pub mod Moments
 pub mod Stretches
+pub mod Links
 pub mod Parts
 mod Finding
 mod Marks

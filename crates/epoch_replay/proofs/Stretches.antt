@@ -26,7 +26,7 @@ use Rattle.epoch_replay.specs.declared.replay_fault.ReplayFault.TheVariants as f
 use Rattle.epoch_replay.specs.Play.{Played, played_after, is_right, is_right_if, play_from, play_of}
 use Rattle.epoch_replay.specs.Playing.{PlayedSoFar, left_at}
 use Rattle.epoch_replay.specs.Replaying.{EachReplayMoment, Replayed, epochs_of, output_of}
-use Rattle.epoch_replay.specs.Stretches.{ArePartJobs, ArePartResults, IsAtMark, IsRun, IsStretch}
+use Rattle.epoch_replay.specs.Stretches.{ArePartJobs, ArePartResults, IsAtMark, IsRun, IsStretch, PartResult}
 use Rattle.epoch_replay.proofs.Moments.{each_moment, sent_moments}
 use Rattle.epoch_replay.proofs.Going.{IsMark, accepted_plays, behind_twice, epoch_plays, full_is, partial_is, sent_more, sent_some}
 
@@ -166,7 +166,7 @@ module _ (reading : Reading) (file : List ℕ) (before now : Option History) (p 
 
 -- ---- results of jobs
 
-pub other_results : (file : List ℕ) (results rest : List (Result (Option Stretch) OutOfMemory)) → ArePartResults file results → rest ≡ drop 1 results → ArePartResults file rest
+pub other_results : (file : List ℕ) (results rest : List PartResult) → ArePartResults file results → rest ≡ drop 1 results → ArePartResults file rest
 other_results file [] rest are is = subst (ArePartResults file) (sym is) tt
 other_results file (r ∷ rs) rest are is = subst (ArePartResults file) (sym is) are.1
 

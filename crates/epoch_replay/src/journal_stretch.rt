@@ -1,8 +1,8 @@
 // A stretch of a journal, run on its own.
-ghost use Rattle.std.specs.Prelude.{◌≡◌, ◌≤◌, ◌<◌, ℕ, List, IfOk, IfSome, IsTrue, length};
+ghost use Rattle.std.specs.Prelude.{◌≡◌, ◌≤◌, ◌<◌, ℕ, List, IfOk, IfSome, IsTrue, Some, length, true};
 ghost use Rattle.dp_base.specs.declared.limits.TheConstants.{MAX_JOURNAL_BYTES};
 ghost use Rattle.checkpoint.specs.State.{IsEncodable};
-ghost use Rattle.epoch_replay.specs.Stretches.{IsAtMark, IsBegun, IsPartResult, IsStretch};
+ghost use Rattle.epoch_replay.specs.Stretches.{IsAtMark, IsBegun, IsOfJob, IsPartResult, IsStretch};
 
 use crate::epoch::play_epoch;
 use crate::mark::{open_mark, open_partial};
@@ -10,6 +10,7 @@ use disk_model::Gate;
 use dp_base::OutOfMemory;
 use guest_kernel::State;
 use journal_text::{Rec, next_record};
+use state_compare::equal;
 use std::alloc::Global;
 
 // A stretch ends when its output has this many bytes or more.
@@ -24,6 +25,17 @@ pub(crate) struct PartJob {
     /// Its number among those that run side by side, from 1.
     pub index: u32,
     pub stretch: Stretch,
+    /// The state in which the next of them begins. `None` for the last.
+    pub next: Option<State>,
+}
+
+/// A job that was run.
+#[derive(Drop)]
+pub(crate) struct PartRun {
+    pub stretch: Stretch,
+    /// Whether the stretch ends in the state in which the next one begins. The worker compares them, so that the replay
+    /// needn't.
+    pub meets: bool,
 }
 
 /// A stretch that was run, and its results. It says nothing of what precedes it.
@@ -54,13 +66,18 @@ pub(crate) fn run_job<G: Gate>(
     file: &[u8],
     job: PartJob,
     gate: &G,
-) -> Result<Option<Stretch>, OutOfMemory>
+) -> Result<Option<PartRun>, OutOfMemory>
     requires few { length file.now ≤ MAX_JOURNAL_BYTES }
     requires is { IsStretch file.now job.stretch }
-    ensures { IsPartResult file.now result }
+    ensures is { IsPartResult file.now result }
+    ensures of_job { IsOfJob job result }
 {
     gate.pass(job.index, job.index);
-    let mut stretch = job.stretch;
+    let PartJob {
+        index: _,
+        mut stretch,
+        next,
+    } = job;
     let mut more = true;
     'epochs: while more {
         let Some(again) = grow(alloc, file, &mut stretch)? else {
@@ -68,7 +85,18 @@ pub(crate) fn run_job<G: Gate>(
         };
         more = again;
     }
-    Ok(Some(stretch))
+    let meets = is_same(&next, &stretch.state);
+    Ok(Some(PartRun { stretch, meets }))
+}
+
+// Whether there is a next state and it is this one.
+fn is_same(next: &Option<State>, state: &State) -> bool
+    ensures { result ≡ true → next.now ≡ Some state.now }
+{
+    match next {
+        Some(next) => equal(next, state),
+        None => false,
+    }
 }
 
 /// Begins a stretch at this gate in this state, which is also the base.
@@ -107,7 +135,8 @@ pub(crate) fn begin_at_mark(
 ) -> Result<Option<Stretch>, OutOfMemory>
     requires few { length file.now ≤ MAX_JOURNAL_BYTES }
     requires base { IsEncodable base.now }
-    ensures { IfOk result (IsBegun file.now) }
+    ensures begun { IfOk result (IsBegun file.now) }
+    ensures base { IfOk result (λ begun. IfSome begun (λ stretch. stretch.base ≡ base.now)) }
 {
     journal_text::laws::reading_goes_on();
     journal_text::laws::a_record_stands_at_its_gate();
@@ -128,7 +157,8 @@ fn begin_after(
     base: &State,
     next: u64,
 ) -> Result<Option<Stretch>, OutOfMemory>
-    ensures { (file : List ℕ) → IfSome state (λ s. IsAtMark file at base.now next s) → IfOk result (IsBegun file) }
+    ensures begun { (file : List ℕ) → IfSome state (λ s. IsAtMark file at base.now next s) → IfOk result (IsBegun file) }
+    ensures base { IfOk result (λ begun. IfSome begun (λ stretch. stretch.base ≡ base.now)) }
 {
     let Some(state) = state else {
         return Ok(None);
@@ -152,6 +182,7 @@ fn grow(alloc: Global, file: &[u8], stretch: &mut Stretch) -> Result<Option<bool
     requires few { length file.now ≤ MAX_JOURNAL_BYTES }
     requires is { IsStretch file.now stretch.old }
     ensures is { IfOk result (λ found. IfSome found (λ more. IsStretch file.now stretch.new)) }
+    ensures same { IfOk result (λ found. (stretch.new.base ≡ stretch.old.base) × (stretch.new.start ≡ stretch.old.start)) }
     ensures goes_on { IfOk result (λ found. IfSome found (λ more. IsTrue more → stretch.old.at < stretch.new.at)) }
     ensures stays { IfOk result (λ found. IfSome found (λ more. stretch.old.at ≤ stretch.new.at)) }
 {

@@ -1,5 +1,5 @@
 // Stretches of a journal, run side by side.
-ghost use Rattle.std.specs.Prelude.{◌≡◌, ◌<◌, ◌≤◌, ◌+◌, ℕ, Err, IfOk, IsErrOf, IsTrue, length, Option, Some, slice_index_or};
+ghost use Rattle.std.specs.Prelude.{◌≡◌, ◌<◌, ◌≤◌, ◌+◌, ℕ, Err, IfOk, IfSome, IsErrOf, IsTrue, length, Option, Some, slice_index_or, true};
 ghost use Rattle.dp_base.specs.declared.limits.TheConstants.{MAX_JOURNAL_BYTES};
 ghost use Rattle.dp_base.specs.Counts.{Rose};
 ghost use Rattle.disk_model.specs.History.{History};
@@ -8,9 +8,9 @@ ghost use Rattle.epoch_replay.specs.declared.replay_fault.ReplayFault.TheVariant
 ghost use Rattle.epoch_replay.specs.Playing.{IsBounded, PlayedSoFar};
 ghost use Rattle.epoch_replay.specs.Faults.{ReplayMetNoOther};
 ghost use Rattle.epoch_replay.specs.Replaying.{EachReplayMoment};
-ghost use Rattle.epoch_replay.specs.Stretches.{ArePartJobs, ArePartResults, IsBegun, IsPartResult, IsStretch, WasPartTaken};
+ghost use Rattle.epoch_replay.specs.Stretches.{AreLinked, AreLinkedJobs, ArePartJobs, ArePartResults, HasTaken, IsBegun, IsFirstReachedBy, IsHere, IsOfJob, IsOneMore, IsPartResult, IsReachedBy, IsStretch, WasPartTaken};
 
-use crate::journal_stretch::{PartJob, Stretch, begin_at, begin_at_mark, run_job};
+use crate::journal_stretch::{PartJob, PartRun, Stretch, begin_at, begin_at_mark, run_job};
 use crate::progress::Progress;
 use crate::replay_fault::ReplayFault;
 use device::send_all;
@@ -19,6 +19,7 @@ use dp_base::OutOfMemory;
 use dp_base::journal_writer::OPEN_GATE;
 use dp_base::limits::MAX_WORKERS;
 use dp_base::little_endian::{read_u32, read_u64};
+use guest_kernel::State;
 use journal_text::MARK_KIND;
 use partial_mark::PARTIAL_KIND;
 use state_compare::equal;
@@ -91,37 +92,49 @@ fn jobs_from(
 ) -> Result<Vec<PartJob>, OutOfMemory>
     requires few { length file.now ≤ MAX_JOURNAL_BYTES }
     requires bounded { IsBounded file.now progress.now }
-    ensures { IfOk result (λ jobs. ArePartJobs file.now jobs.items) }
+    ensures jobs { IfOk result (λ jobs. ArePartJobs file.now jobs.items) }
+    ensures linked { IfOk result (λ jobs. AreLinkedJobs jobs.items) }
 {
     let mut jobs = Vec::new(alloc);
     let (marks, last) = last_mark(file, progress.at, ahead);
     if marks == 0 || work_up_to(file, progress, last) < u64::from(marks) * WORTH_A_THREAD {
         return Ok(jobs);
     }
-    let Some(first) = begin_here(alloc, file, progress)? else {
+    let Some(mut stretch) = begin_here(alloc, file, progress)? else {
         return Ok(jobs);
     };
-    let mut base = first.start.share(alloc)?;
-    jobs.push(PartJob {
-        index: 1,
-        stretch: first,
-    })?;
     let mut gate = progress.at;
-    'jobs: for number in 0..marks {
+    'jobs: for _ in 0..marks {
         let Some(mark) = next_mark(file, gate) else {
-            return Ok(jobs);
+            break;
         };
-        let Some(stretch) = begin_at_mark(alloc, file, mark, &base)? else {
-            return Ok(jobs);
+        let Some(after) = begin_at_mark(alloc, file, mark, &stretch.start)? else {
+            break;
         };
-        base = stretch.start.share(alloc)?;
-        jobs.push(PartJob {
-            index: number.saturating_add(2),
-            stretch,
-        })?;
+        let next = Some(after.start.share(alloc)?);
+        push_job(&mut jobs, stretch, next)?;
+        stretch = after;
         gate = mark;
     }
+    push_job(&mut jobs, stretch, None)?;
     Ok(jobs)
+}
+
+// Adds a job, numbered from 1 on.
+fn push_job(
+    jobs: &mut Vec<PartJob>,
+    stretch: Stretch,
+    next: Option<State>,
+) -> Result<(), OutOfMemory>
+    ensures { IfOk result (λ done. IsOneMore jobs.old.items stretch next jobs.new.items) }
+{
+    let index = jobs.len().saturating_add(1).min(u32::MAX as usize) as u32;
+    jobs.push(PartJob {
+        index,
+        stretch,
+        next,
+    })?;
+    Ok(())
 }
 
 // A stretch from the replay's offset: with the mark there, or else in the replay's state.
@@ -221,11 +234,13 @@ fn run_jobs<R: Threads + Sync, G: Gate + Sync>(
     file: &[u8],
     jobs: Vec<PartJob>,
     gate: &G,
-) -> Result<Vec<Result<Option<Stretch>, OutOfMemory>>, AllocError>
+) -> Result<Vec<Result<Option<PartRun>, OutOfMemory>>, AllocError>
     requires few { length file.now ≤ MAX_JOURNAL_BYTES }
     requires jobs { ArePartJobs file.now jobs.items }
     ensures len { IfOk result (λ all. length all.items ≡ length jobs.items) }
     ensures each { IfOk result (λ all. (i : ℕ) (d : _) → i < length jobs.items → IsPartResult file.now (slice_index_or all.items i d)) }
+    ensures of_jobs { IfOk result (λ all. (i : ℕ) (e : _) (d : _) → i < length jobs.items →
+        IsOfJob (slice_index_or jobs.items i e) (slice_index_or all.items i d)) }
 {
     thread::map_vec(rt, jobs, &|job| run_job(alloc, file, job, gate))
 }
@@ -234,12 +249,13 @@ fn run_jobs<R: Threads + Sync, G: Gate + Sync>(
 fn take_all<W: World>(
     world: &mut W,
     file: &[u8],
-    mut results: Vec<Result<Option<Stretch>, OutOfMemory>>,
+    mut results: Vec<Result<Option<PartRun>, OutOfMemory>>,
     progress: &mut Progress,
 ) -> Result<(), ReplayFault>
     requires few { length file.now ≤ MAX_JOURNAL_BYTES }
     requires bounded { IsBounded file.now progress.old }
     requires results { ArePartResults file.now results.items }
+    requires linked { AreLinked results.items }
     ensures taken { (reading : Reading) (first : Option History) →
         PlayedSoFar reading file.now first (W.history world.old) progress.old →
         WasPartTaken reading file.now first (W.history world.new) progress.new result }
@@ -257,26 +273,40 @@ fn take_all<W: World>(
     ensures sink_count { W.sink_faults world.old ≤ W.sink_faults world.new }
 {
     let mut more = true;
+    let mut known = false;
     'results: while more && !results.is_empty() {
-        more = match results.remove(0) {
-            Ok(Some(stretch)) => take(world, file, stretch, progress)?,
-            _ => false,
-        };
+        let part = results.remove(0);
+        let taken = take_part(world, file, part, known, progress)?;
+        more = taken.is_some();
+        known = is_met(taken);
     }
     Ok(())
 }
 
-// Takes a stretch if it begins at the replay's offset, in the same state and over the same base. Returns whether it was
+// Whether a run was taken and says that it meets the next one.
+fn is_met(taken: Option<bool>) -> bool
+    ensures { result ≡ true → taken ≡ Some true }
+{
+    match taken {
+        Some(meets) => meets,
+        None => false,
+    }
+}
+
+// Takes a run if it begins at the replay's offset, in the same state and over the same base. If those two are known to
+// be the same, they aren't compared. Returns whether the run says that it meets the next one, or `None` if it wasn't
 // taken.
-fn take<W: World>(
+fn take_part<W: World>(
     world: &mut W,
     file: &[u8],
-    stretch: Stretch,
+    part: Result<Option<PartRun>, OutOfMemory>,
+    known: bool,
     progress: &mut Progress,
-) -> Result<bool, ReplayFault>
+) -> Result<Option<bool>, ReplayFault>
     requires few { length file.now ≤ MAX_JOURNAL_BYTES }
     requires bounded { IsBounded file.now progress.old }
-    requires is { IsStretch file.now stretch }
+    requires part { IsPartResult file.now part }
+    requires known { known ≡ true → IsReachedBy progress.old part }
     ensures taken { (reading : Reading) (first : Option History) →
         PlayedSoFar reading file.now first (W.history world.old) progress.old →
         WasPartTaken reading file.now first (W.history world.new) progress.new result }
@@ -292,15 +322,57 @@ fn take<W: World>(
         Rose (W.sink_faults world.old) (W.sink_faults world.new) }
     ensures disk_count { W.disk_faults world.new ≡ W.disk_faults world.old }
     ensures sink_count { W.sink_faults world.old ≤ W.sink_faults world.new }
+    ensures next { IfOk result (λ taken. IfSome taken (λ meets. HasTaken progress.new meets part)) }
 {
-    if stretch.first != progress.at || !equal(&stretch.start, &progress.state) {
-        return Ok(false);
+    let Ok(Some(PartRun { stretch, meets })) = part else {
+        return Ok(None);
+    };
+    if !is_reached(&stretch, known, progress) {
+        return Ok(None);
     }
-    // A partial mark says what it does only over its own base.
-    let same_base = equal(&stretch.base, &progress.base);
-    if !same_base {
-        return Ok(false);
-    }
+    take(world, file, stretch, progress)?;
+    Ok(Some(meets))
+}
+
+// Whether a stretch begins at the replay's offset, in the same state and over the same base: a partial mark says what
+// it does only over its own base.
+fn is_reached(stretch: &Stretch, known: bool, progress: &Progress) -> bool
+    requires { known ≡ true → (stretch.now.start ≡ progress.now.state) × (stretch.now.base ≡ progress.now.base) }
+    ensures { result ≡ true → IsHere progress.now stretch.now }
+{
+    stretch.first == progress.at
+        && (known || equal(&stretch.start, &progress.state) && equal(&stretch.base, &progress.base))
+}
+
+// Takes a stretch that begins where the replay is: sends its output, and goes on to its end.
+fn take<W: World>(
+    world: &mut W,
+    file: &[u8],
+    stretch: Stretch,
+    progress: &mut Progress,
+) -> Result<(), ReplayFault>
+    requires few { length file.now ≤ MAX_JOURNAL_BYTES }
+    requires bounded { IsBounded file.now progress.old }
+    requires is { IsStretch file.now stretch }
+    requires here { IsHere progress.old stretch }
+    ensures taken { (reading : Reading) (first : Option History) →
+        PlayedSoFar reading file.now first (W.history world.old) progress.old →
+        WasPartTaken reading file.now first (W.history world.new) progress.new result }
+    ensures moments { (reading : Reading) (first : Option History) →
+        PlayedSoFar reading file.now first (W.history world.old) progress.old →
+        EachReplayMoment (Some reading) first (W.history world.new) }
+    ensures others { ReplayMetNoOther result (W.disk_faults world.old) (W.disk_faults world.new)
+        (W.sink_faults world.old) (W.sink_faults world.new) }
+    ensures bounded { IfOk result (λ _. IsBounded file.now progress.new) }
+    ensures stays { IfOk result (λ _. progress.old.at ≤ progress.new.at) }
+    ensures no_disk_fault { IsErrOf result ReplayFault.DiskFault → ⊥ }
+    ensures sink_cause { IsErrOf result ReplayFault.OutputFault →
+        Rose (W.sink_faults world.old) (W.sink_faults world.new) }
+    ensures disk_count { W.disk_faults world.new ≡ W.disk_faults world.old }
+    ensures sink_count { W.sink_faults world.old ≤ W.sink_faults world.new }
+    ensures state { IfOk result (λ done. progress.new.state ≡ stretch.state) }
+    ensures base { IfOk result (λ done. progress.new.base ≡ stretch.start) }
+{
     if send_all(world, Stream::Out, &stretch.output).is_err() {
         return Err(ReplayFault::OutputFault);
     }
@@ -310,5 +382,5 @@ fn take<W: World>(
     progress.sent += stretch.output.len() as u64;
     progress.base = stretch.start;
     progress.state = stretch.state;
-    Ok(true)
+    Ok(())
 }

@@ -3,6 +3,7 @@ use Rattle.std.proofs.lemmas.List.Elements.{recursion_from_All}
 use Rattle.std.proofs.lemmas.Result.{err_from_is_err_and}
 use Rattle.epoch_replay.specs.Stretches.{IsPartResult}
 use Rattle.epoch_replay.proofs.Going.{so_far_moments}
+use Rattle.epoch_replay.proofs.Links.{linked}
 use Rattle.epoch_replay.proofs.parallel_stretches.play_window.Goals as goal
 
 pub returns-in_err-take_all-clause-taken : goal.returns-in_err-take_all-clause-taken
@@ -26,3 +27,8 @@ pub take_all-requires-clause-results : goal.take_all-requires-clause-results
 take_all-requires-clause-results g c =
     let e = c.in-Ok-run_jobs.ensures in
     recursion_from_All (IsPartResult c.args.file.now) c.in-Ok-run_jobs.results.items (λ i d small. e.each i d (omega (arith, small, e.len)))
+
+pub take_all-requires-clause-linked : goal.take_all-requires-clause-linked
+take_all-requires-clause-linked g c =
+    let e = c.in-Ok-run_jobs.ensures in
+    linked c.in-Ok.jobs.items c.in-Ok-run_jobs.results.items e.len e.of_jobs c.in-Ok.ensures.linked
