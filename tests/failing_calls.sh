@@ -115,14 +115,15 @@ may_end() {
 }
 
 # each NAME OUTPUT ARGUMENTS..: a command with each of its calls failing. OUTPUT is a file with its whole output, or `replayed` if that may
-# differ from run to run. After as many in a row as a command makes at most by chance more than another time there are no more.
+# differ from run to run. First all later calls fail too. That is over after as many runs in a row that don't end by it as there are calls
+# that a command makes at most by chance more than another time. Then each call fails alone.
 each() {
-  local name=$1 output=$2 later number ended unharmed squashes enough=200
+  local name=$1 output=$2 later number ended unharmed squashes last=0 enough=200
   [[ $kind == memory ]] || enough=50
   shift 2
-  for later in one all; do
+  for later in all one; do
     ended=0 unharmed=0 squashes=0
-    for ((number = 1; unharmed < enough; number++)); do
+    for ((number = 1; unharmed < enough || number <= last; number++)); do
       rm -f journal
       fails "$number" "$later" "$@"
       at="$name, $kind call $number and $later"
@@ -132,7 +133,8 @@ each() {
           read -r _ _ _ squashed _ <note
           [[ $1 != record ]] || squashes=$((squashes + squashed)) ;;
         *) may_end "$later" || wrong "$at: status $status"
-          ended=$((ended + 1)) unharmed=0 ;;
+          ended=$((ended + 1)) unharmed=0
+          ((last < number)) && last=$number ;;
       esac
       [[ $output == replayed ]] || is_prefix out "$output" || wrong "$at: another output"
       [[ $1 != record ]] || left_right "$at" "$output" "$status"

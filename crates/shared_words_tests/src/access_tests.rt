@@ -169,3 +169,38 @@ fn accesses_of_one_hart(rt: HostRuntime) -> Result<(), Fail> {
     );
     Ok(())
 }
+
+// The log of an LR and an SC on the same word, and the seat.
+fn pair<J: Naming>(
+    alloc: Global,
+    words: &SharedWords,
+    seat: Seat,
+) -> Result<(Seat, Log<(u64, Sc)>), OutOfMemory>
+    requires named { table_of words.now ≡ J.table }
+    requires seat { IsSeatAt J.table seat }
+    requires budget { 2 ^ 32 ≤ (view_of seat).budget }
+    requires stored { (view_of seat).stored ≡ [] }
+    ensures { IfOk result (λ r. IsSeatAt J.table r.0) }
+{
+    let mut memory = RacingMem::<J>::new(alloc, words, seat)?;
+    memory.load_reserved(0x0001_0000);
+    memory.store_conditional(0x0001_0000, 1)?;
+    let (seat, log, _marks) = memory.into_parts();
+    Ok((seat, log))
+}
+
+fn pair_log(alloc: Global) -> Result<Log<(u64, Sc)>, OutOfMemory> {
+    let pages = two_pages(alloc, 6, 6)?;
+    let (words, seat) = SharedWords::of_pages(alloc, &pages)?;
+    let (seat, log) = pair::<Brand>(alloc, &words, seat)?;
+    let _back = words.into_pages(alloc, seat)?;
+    Ok(log)
+}
+
+// The same of an LR that is the first in the log.
+#[test]
+fn a_pair_first_in_the_log(rt: HostRuntime) -> Result<(), Fail> {
+    let log = pair_log(rt.alloc())?;
+    assert_eq!(rt; log.as_slice(), [(1, Sc::NotSc), (1, Sc::Won)].as_slice());
+    Ok(())
+}
