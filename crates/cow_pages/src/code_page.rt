@@ -8,7 +8,7 @@ use std::alloc::Global;
 use std::marker::Model;
 
 #[derive(Drop)]
-pub struct CodePage {
+pub(crate) struct CodePage {
     kept: Vec<SharedPage>,
 }
 
@@ -23,7 +23,7 @@ impl Model for CodePage {
 
 impl CodePage {
     // No page.
-    pub fn none(alloc: Global) -> CodePage
+    pub(crate) fn none(alloc: Global) -> CodePage
         ensures { result ≡ None }
     {
         CodePage {
@@ -32,14 +32,14 @@ impl CodePage {
     }
 
     #[inline(always)]
-    pub fn get(&self) -> Option<&SharedPage>
+    pub(crate) fn get(&self) -> Option<&SharedPage>
         ensures { option_copied result ≡ self.now }
     {
         self.kept.get(0)
     }
 
     // Keeps this page instead of the one before. If memory runs out it keeps none.
-    pub fn keep(&mut self, page: Option<SharedPage>)
+    pub(crate) fn keep(&mut self, page: Option<SharedPage>)
         ensures { IfSome self.new (λ kept. page ≡ Some kept) }
     {
         self.kept.clear();
@@ -51,7 +51,7 @@ impl CodePage {
     }
 
     // Forgets the page if it has this number.
-    pub fn forget(&mut self, number: u32)
+    pub(crate) fn forget(&mut self, number: u32)
         ensures { IfSome self.new (λ page. (number ≡ page.number → ⊥) × (self.old ≡ Some page)) }
     {
         let is_it = match self.get() {

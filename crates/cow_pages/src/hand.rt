@@ -21,7 +21,7 @@ use std::marker::Model;
 const ENTRIES: usize = 16;
 
 #[derive(Drop)]
-pub struct Hand {
+pub(crate) struct Hand {
     entries: Vec<Option<SharedPage>>,
 }
 
@@ -99,7 +99,7 @@ fn put_part_entry(
 
 impl Hand {
     // No pages.
-    pub fn new(alloc: Global) -> Result<Hand, OutOfMemory>
+    pub(crate) fn new(alloc: Global) -> Result<Hand, OutOfMemory>
         ensures { IfOk result (λ hand. hand ≡ replicate ENTRIES None) }
     {
         let mut entries = Vec::with_capacity(alloc, ENTRIES)?;
@@ -108,7 +108,7 @@ impl Hand {
     }
 
     // Equal pages, which have the same bytes in memory.
-    pub fn share(&self, alloc: Global) -> Result<Hand, OutOfMemory>
+    pub(crate) fn share(&self, alloc: Global) -> Result<Hand, OutOfMemory>
         ensures { IfOk result (λ hand. hand ≡ self.now) }
     {
         let entries = shared(alloc, &self.entries)?;
@@ -117,7 +117,7 @@ impl Hand {
 
     // The page with a number.
     #[inline(always)]
-    pub fn at(&self, number: u32) -> Option<&SharedPage>
+    pub(crate) fn at(&self, number: u32) -> Option<&SharedPage>
         ensures { option_copied result ≡ held self.now number }
     {
         match &self.entries[hand_entry(number)] {
@@ -127,7 +127,7 @@ impl Hand {
     }
 
     #[inline(always)]
-    pub fn has(&self, number: u32) -> bool
+    pub(crate) fn has(&self, number: u32) -> bool
         ensures { result ≡ is_some (held self.now number) }
     {
         self.at(number).is_some()
@@ -153,7 +153,7 @@ impl Hand {
     // Writes the low bytes of a value to the page with a number, if it is in hand and may be written. Returns whether
     // it is and may. An `Err` changes nothing.
     #[inline(always)]
-    pub fn write(
+    pub(crate) fn write(
         &mut self,
         alloc: Global,
         number: u32,
@@ -186,7 +186,7 @@ impl Hand {
     }
 
     // The page of the tree with a number, which has the same bytes in memory. `None` if the page is in hand.
-    pub fn aside(&self, root: &Root, number: u32) -> Option<SharedPage>
+    pub(crate) fn aside(&self, root: &Root, number: u32) -> Option<SharedPage>
         requires { IfSome (found self.now root.now number) (λ p. p.number ≡ number) }
         ensures { IfSome result (IsAside self.now root.now) }
     {
@@ -241,7 +241,7 @@ impl Hand {
 
     // Writes the low bytes of a value to the page with a number, if it may be written, and takes the page in hand
     // before. Returns whether it may be written. An `Err` changes no page.
-    pub fn take_and_write(
+    pub(crate) fn take_and_write(
         &mut self,
         root: &mut Root,
         alloc: Global,
@@ -262,7 +262,7 @@ impl Hand {
     }
 
     // Writes bytes to the page with a number, if there is one. An `Err` changes no page.
-    pub fn put_part(
+    pub(crate) fn put_part(
         &mut self,
         root: &mut Root,
         alloc: Global,

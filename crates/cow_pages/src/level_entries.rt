@@ -5,7 +5,7 @@ ghost use Rattle.cow_pages.specs.Tree.{padded};
 use dp_base::OutOfMemory;
 
 // Appends empty entries up to a number of them. An `Err` changes nothing.
-pub fn grow<T: Drop>(entries: &mut Vec<Option<T>>, count: usize) -> Result<(), OutOfMemory>
+pub(crate) fn grow<T: Drop>(entries: &mut Vec<Option<T>>, count: usize) -> Result<(), OutOfMemory>
     ensures ok { OnOk result (entries.new.items ≡ padded count entries.old.items) }
     ensures err { OnErr result (entries.new.items ≡ entries.old.items) }
 {

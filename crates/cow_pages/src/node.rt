@@ -11,7 +11,7 @@ use std::marker::Model;
 use std::sync::Arc;
 
 #[derive(Drop)]
-pub struct Slots {
+pub(crate) struct Slots {
     slots: Vec<Option<SharedPage>>,
 }
 
@@ -25,7 +25,7 @@ impl Model for Slots {
 }
 
 #[derive(Drop)]
-pub struct Node {
+pub(crate) struct Node {
     slots: Arc<Slots, Global>,
 }
 
@@ -81,7 +81,7 @@ impl Slots {
 }
 
 // Equal slots, whose pages have the same bytes in memory.
-pub fn shared(
+pub(crate) fn shared(
     alloc: Global,
     slots: &[Option<SharedPage>],
 ) -> Result<Vec<Option<SharedPage>>, OutOfMemory>
@@ -106,7 +106,7 @@ fn share_slot(slot: &Option<SharedPage>) -> Result<Option<SharedPage>, OutOfMemo
 
 impl Node {
     // A node of one page.
-    pub fn new(alloc: Global, place: usize, page: SharedPage) -> Result<Node, OutOfMemory>
+    pub(crate) fn new(alloc: Global, place: usize, page: SharedPage) -> Result<Node, OutOfMemory>
         requires { place < 1024 }
         ensures { IfOk result (λ node. node ≡ entry_put place page []) }
     {
@@ -128,7 +128,7 @@ impl Node {
 
     // An equal node, which is the same in memory.
     #[inline(always)]
-    pub fn share(&self) -> Result<Node, OutOfMemory>
+    pub(crate) fn share(&self) -> Result<Node, OutOfMemory>
         ensures { IfOk result (λ node. node ≡ self.now) }
     {
         let slots = Arc::try_clone(&self.slots)?;
@@ -137,7 +137,7 @@ impl Node {
 
     // The page at a place.
     #[inline(always)]
-    pub fn at(&self, place: usize) -> Option<&SharedPage>
+    pub(crate) fn at(&self, place: usize) -> Option<&SharedPage>
         ensures { option_copied result ≡ entry_at self.now place }
     {
         let slots: &Slots = &self.slots;
@@ -145,7 +145,12 @@ impl Node {
     }
 
     // Puts a page at a place. An `Err` changes nothing.
-    pub fn put(&mut self, alloc: Global, place: usize, page: SharedPage) -> Result<(), OutOfMemory>
+    pub(crate) fn put(
+        &mut self,
+        alloc: Global,
+        place: usize,
+        page: SharedPage,
+    ) -> Result<(), OutOfMemory>
         requires { place < 1024 }
         ensures ok { OnOk result (self.new ≡ entry_put place page self.old) }
         ensures err { OnErr result (self.new ≡ self.old) }
@@ -163,7 +168,11 @@ impl Node {
     }
 
     // Takes the page at a place out, if there is one. An `Err` changes nothing.
-    pub fn take(&mut self, alloc: Global, place: usize) -> Result<Option<SharedPage>, OutOfMemory>
+    pub(crate) fn take(
+        &mut self,
+        alloc: Global,
+        place: usize,
+    ) -> Result<Option<SharedPage>, OutOfMemory>
         ensures page { IfOk result (λ page. page ≡ entry_at self.old place) }
         ensures ok { OnOk result (self.new ≡ slots_without place self.old) }
         ensures err { OnErr result (self.new ≡ self.old) }

@@ -10,7 +10,7 @@ use std::marker::Model;
 use std::sync::Arc;
 
 #[derive(Drop)]
-pub struct Rising {
+pub(crate) struct Rising {
     numbers: Vec<u32>,
 }
 
@@ -23,7 +23,7 @@ impl Model for Rising {
 }
 
 #[derive(Drop)]
-pub struct Numbers {
+pub(crate) struct Numbers {
     rising: Arc<Rising, Global>,
 }
 
@@ -91,7 +91,7 @@ fn number_in(numbers: &[u32], place: usize) -> Option<u32>
 }
 
 impl Numbers {
-    pub fn new(alloc: Global) -> Result<Numbers, OutOfMemory>
+    pub(crate) fn new(alloc: Global) -> Result<Numbers, OutOfMemory>
         ensures { IfOk result (λ numbers. numbers ≡ []) }
     {
         Numbers::of_rising(
@@ -112,21 +112,21 @@ impl Numbers {
     }
 
     // Equal numbers, which are the same in memory.
-    pub fn share(&self) -> Result<Numbers, OutOfMemory>
+    pub(crate) fn share(&self) -> Result<Numbers, OutOfMemory>
         ensures { IfOk result (λ numbers. numbers ≡ self.now) }
     {
         let rising = Arc::try_clone(&self.rising)?;
         Ok(Numbers { rising })
     }
 
-    pub fn at(&self, place: usize) -> Option<u32>
+    pub(crate) fn at(&self, place: usize) -> Option<u32>
         ensures { result ≡ slice_get self.now place }
     {
         let rising: &Rising = &self.rising;
         number_in(&rising.numbers, place)
     }
 
-    pub fn as_slice(&self) -> &[u32]
+    pub(crate) fn as_slice(&self) -> &[u32]
         ensures { result.now ≡ self.now }
     {
         let rising: &Rising = &self.rising;
@@ -134,7 +134,7 @@ impl Numbers {
     }
 
     // Puts a page into a tree, and its number after all others. An `Err` changes nothing.
-    pub fn put_page(
+    pub(crate) fn put_page(
         &mut self,
         alloc: Global,
         root: &mut Root,

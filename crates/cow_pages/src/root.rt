@@ -13,7 +13,7 @@ use std::marker::Model;
 use std::sync::Arc;
 
 #[derive(Drop)]
-pub struct Nodes {
+pub(crate) struct Nodes {
     nodes: Vec<Option<Node>>,
 }
 
@@ -27,7 +27,7 @@ impl Model for Nodes {
 }
 
 #[derive(Drop)]
-pub struct Root {
+pub(crate) struct Root {
     nodes: Arc<Nodes, Global>,
 }
 
@@ -180,7 +180,7 @@ fn take_node(
 
 impl Root {
     // A root of no nodes.
-    pub fn new(alloc: Global) -> Result<Root, OutOfMemory>
+    pub(crate) fn new(alloc: Global) -> Result<Root, OutOfMemory>
         ensures { IfOk result (λ root. root ≡ []) }
     {
         Root::of_nodes(
@@ -201,7 +201,7 @@ impl Root {
     }
 
     // An equal root, which is the same in memory.
-    pub fn share(&self) -> Result<Root, OutOfMemory>
+    pub(crate) fn share(&self) -> Result<Root, OutOfMemory>
         ensures { IfOk result (λ root. root ≡ self.now) }
     {
         let nodes = Arc::try_clone(&self.nodes)?;
@@ -210,7 +210,7 @@ impl Root {
 
     // The page with a number.
     #[inline(always)]
-    pub fn at(&self, number: u32) -> Option<&SharedPage>
+    pub(crate) fn at(&self, number: u32) -> Option<&SharedPage>
         ensures { option_copied result ≡ leaf self.now number }
     {
         let nodes: &Nodes = &self.nodes;
@@ -218,7 +218,7 @@ impl Root {
     }
 
     // Puts a page at its number. An `Err` changes nothing.
-    pub fn put(&mut self, alloc: Global, page: SharedPage) -> Result<(), OutOfMemory>
+    pub(crate) fn put(&mut self, alloc: Global, page: SharedPage) -> Result<(), OutOfMemory>
         ensures ok { OnOk result (self.new ≡ leaf_put page self.old) }
         ensures err { OnErr result (self.new ≡ self.old) }
     {
@@ -235,7 +235,11 @@ impl Root {
     }
 
     // Takes the page with a number out, if there is one. An `Err` changes nothing.
-    pub fn take(&mut self, alloc: Global, number: u32) -> Result<Option<SharedPage>, OutOfMemory>
+    pub(crate) fn take(
+        &mut self,
+        alloc: Global,
+        number: u32,
+    ) -> Result<Option<SharedPage>, OutOfMemory>
         ensures page { IfOk result (λ page. page ≡ leaf self.old number) }
         ensures ok { OnOk result (self.new ≡ leaf_without number self.old) }
         ensures err { OnErr result (self.new ≡ self.old) }

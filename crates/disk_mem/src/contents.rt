@@ -43,7 +43,7 @@ impl Model for Contents {
 
 impl Contents {
     /// Makes an empty disk, with an empty record.
-    pub fn new(alloc: Global) -> Contents
+    pub(crate) fn new(alloc: Global) -> Contents
         ensures { result ≡ new_recording [] }
     {
         Contents {
@@ -57,7 +57,7 @@ impl Contents {
     }
 
     /// Makes a disk with these bytes, and an empty record.
-    pub fn of_disk(alloc: Global, bytes: &[u8]) -> Result<Contents, OutOfMemory>
+    pub(crate) fn of_disk(alloc: Global, bytes: &[u8]) -> Result<Contents, OutOfMemory>
         ensures { IfOk result (λ c. c ≡ new_recording bytes.now) }
     {
         let first = bytes.to_vec(alloc)?;
@@ -73,7 +73,7 @@ impl Contents {
     }
 
     /// Returns what a read of the whole disk gives. It is one of the images that a crash may leave now.
-    pub fn disk(&self) -> &[u8]
+    pub(crate) fn disk(&self) -> &[u8]
         ensures whole { result.now ≡ self.now.history.disk }
         ensures image { IsImage self.now.history.pending result.now }
     {
@@ -84,7 +84,7 @@ impl Contents {
 
     /// Returns one of the images that a crash may leave now: 0 picks the disk without what is pending, 1 what a read
     /// gives, any other number the disk with each pending byte 1.
-    pub fn crash(&self, alloc: Global, pick: u32) -> Result<Vec<u8>, OutOfMemory>
+    pub(crate) fn crash(&self, alloc: Global, pick: u32) -> Result<Vec<u8>, OutOfMemory>
         ensures left { IfOk result (λ bytes. bytes.items ≡ left_by pick self.now.history) }
         ensures image { IfOk result (λ bytes. IsImage self.now.history.pending bytes.items) }
     {
@@ -103,7 +103,7 @@ impl Contents {
     }
 
     /// Returns what a stream has got.
-    pub fn sent(&self, to: Stream) -> &[u8]
+    pub(crate) fn sent(&self, to: Stream) -> &[u8]
         ensures { result.now ≡ stream_of to self.now.history }
     {
         match to {
@@ -113,7 +113,7 @@ impl Contents {
     }
 
     /// Returns the record of all calls, in order. The history is their replay over the bytes that the disk had first.
-    pub fn calls(&self) -> &[Call]
+    pub(crate) fn calls(&self) -> &[Call]
         ensures record { result.now ≡ self.now.calls }
         ensures replay { self.now.history ≡ replay (start self.now.first) result.now }
     {
@@ -121,7 +121,7 @@ impl Contents {
     }
 
     /// Copies bytes of the disk from an offset on into the start of a buffer. Returns how many.
-    pub fn copy_to(&self, at: u64, buf: &mut [u8]) -> usize
+    pub(crate) fn copy_to(&self, at: u64, buf: &mut [u8]) -> usize
         ensures count { result ≡ min (length buf.old) (length self.now.history.disk - at) }
         ensures copied { buf.new ≡ take result (drop at self.now.history.disk) ++ drop result buf.old }
     {
@@ -133,7 +133,7 @@ impl Contents {
     }
 
     /// Records a call that leaves the disk and the streams as they are.
-    pub fn keep(&mut self, call: Call) -> Result<(), OutOfMemory>
+    pub(crate) fn keep(&mut self, call: Call) -> Result<(), OutOfMemory>
         requires { IsQuiet call self.old.history }
         ensures ok { OnOk result (self.new ≡ recorded call self.old) }
         ensures err { OnErr result (self.new ≡ self.old) }
@@ -143,7 +143,7 @@ impl Contents {
     }
 
     /// Writes bytes at an offset, after zero bytes if it is past the end. If not `ok` it only records the write.
-    pub fn write(&mut self, at: u64, bytes: &[u8], ok: bool) -> Result<(), OutOfMemory>
+    pub(crate) fn write(&mut self, at: u64, bytes: &[u8], ok: bool) -> Result<(), OutOfMemory>
         ensures ok { OnOk result (self.new ≡ recorded (Write at bytes.now ok) self.old) }
         ensures err { OnErr result (self.new ≡ self.old) }
     {
@@ -162,7 +162,7 @@ impl Contents {
     }
 
     /// Cuts the disk to a length. If not `ok` it only records the cut.
-    pub fn cut(&mut self, len: u64, ok: bool) -> Result<(), OutOfMemory>
+    pub(crate) fn cut(&mut self, len: u64, ok: bool) -> Result<(), OutOfMemory>
         ensures ok { OnOk result (self.new ≡ recorded (Cut len ok) self.old) }
         ensures err { OnErr result (self.new ≡ self.old) }
     {
@@ -174,7 +174,7 @@ impl Contents {
     }
 
     /// Sends the first bytes of a piece.
-    pub fn emit(
+    pub(crate) fn emit(
         &mut self,
         to: Stream,
         piece: &[u8],

@@ -16,7 +16,7 @@ pub(crate) struct Counter {
 
 impl Counter {
     /// Makes a counter before the first call.
-    pub fn new(fails: Fails) -> Counter
+    pub(crate) fn new(fails: Fails) -> Counter
         ensures { result ≡ record { fails = fails; calls = 0; faults = 0 } }
     {
         Counter {
@@ -27,7 +27,7 @@ impl Counter {
     }
 
     /// Counts a call. Returns `false` if it is to fail by its number.
-    pub fn count_call(&mut self) -> bool
+    pub(crate) fn count_call(&mut self) -> bool
         ensures answer { result ≡ not (fails_at self.old.fails (counted_up self.old.calls)) }
         ensures after { self.new ≡ record self.old { calls = counted_up self.old.calls } }
     {
@@ -36,7 +36,7 @@ impl Counter {
     }
 
     /// Counts a fault.
-    pub fn count_fault(&mut self)
+    pub(crate) fn count_fault(&mut self)
         ensures after { self.new ≡ record self.old { faults = counted_up self.old.faults } }
         ensures cause { Rose self.old.faults self.new.faults }
         ensures count { self.old.faults ≤ self.new.faults }

@@ -26,7 +26,7 @@ impl Model for Pieces {
 
 impl Pieces {
     /// Makes pieces of which none was given.
-    pub fn new(pieces: Vec<Vec<u8>>) -> Pieces
+    pub(crate) fn new(pieces: Vec<Vec<u8>>) -> Pieces
         ensures given { result.given ≡ [] }
         ensures left { result.left ≡ map (λ v. v.items) pieces.items }
     {
@@ -38,7 +38,7 @@ impl Pieces {
     }
 
     /// Returns `true` if no piece is left, or an empty one is in front.
-    pub fn is_at_end(&self) -> bool
+    pub(crate) fn is_at_end(&self) -> bool
         ensures { result ≡ is_at_end self.now.left }
     {
         if self.pieces.len() <= self.at {
@@ -49,7 +49,7 @@ impl Pieces {
 
     /// Gives the next piece, or as much of it as the buffer holds, into the start of the buffer. Returns how many
     /// bytes.
-    pub fn give(&mut self, buf: &mut [u8]) -> usize
+    pub(crate) fn give(&mut self, buf: &mut [u8]) -> usize
         ensures count { result ≡ length (taken (length buf.old) self.old.left) }
         ensures bytes { buf.new ≡ taken (length buf.old) self.old.left ++ drop result buf.old }
         ensures after { self.new ≡ gave (length buf.old) self.old }

@@ -15,7 +15,7 @@ pub(crate) struct FaultCount {
 
 impl FaultCount {
     /// Makes a count before the first fault.
-    pub fn new() -> FaultCount
+    pub(crate) fn new() -> FaultCount
         ensures { result.faults ≡ 0 }
     {
         FaultCount {
@@ -25,7 +25,7 @@ impl FaultCount {
     }
 
     /// Counts a fault.
-    pub fn count_fault(&mut self, refusal: Refusal)
+    pub(crate) fn count_fault(&mut self, refusal: Refusal)
         ensures number { self.new.faults ≡ min (self.old.faults + 1) (2 ^ 64 - 1) }
         ensures cause { Rose self.old.faults self.new.faults }
         ensures count { self.old.faults ≤ self.new.faults }
@@ -36,7 +36,7 @@ impl FaultCount {
     }
 
     /// Returns a call's answer, and counts a fault if the call failed.
-    pub fn counted<T>(&mut self, answer: Result<T, Refusal>) -> Result<T, Failed>
+    pub(crate) fn counted<T>(&mut self, answer: Result<T, Refusal>) -> Result<T, Failed>
         ensures value { IfOk result (λ value. answer ≡ Ok value) }
         ensures fault { OnErr result (IsErr answer) }
         ensures cause { IsErr result → Rose self.old.faults self.new.faults }

@@ -15,7 +15,7 @@ pub(crate) struct Bell {
 }
 
 impl Bell {
-    pub fn new() -> Bell {
+    pub(crate) fn new() -> Bell {
         Bell {
             rings: Mutex::new(0),
             rung: Condvar::new(),
@@ -23,7 +23,7 @@ impl Bell {
     }
 
     /// Wakes all that wait.
-    pub fn ring<R: Wait>(&self, rt: &R) {
+    pub(crate) fn ring<R: Wait>(&self, rt: &R) {
         {
             let mut rings = self.rings.lock(rt);
             *rings = rings.wrapping_add(1);
@@ -33,13 +33,13 @@ impl Bell {
 
     /// Returns how often it was rung. A thread that reads this before it looks at a queue sleeps through no ring after
     /// the look.
-    pub fn rings<R: Wait>(&self, rt: &R) -> u32 {
+    pub(crate) fn rings<R: Wait>(&self, rt: &R) -> u32 {
         *self.rings.lock(rt)
     }
 
     /// Waits after a look that found nothing, after `looks` such looks in a row: yields the processor at first, and
     /// later sleeps until the bell is rung once more than it was then.
-    pub fn wait<R: Wait>(&self, rt: &R, looks: u32, rings: u32) {
+    pub(crate) fn wait<R: Wait>(&self, rt: &R, looks: u32, rings: u32) {
         if looks < LOOKS {
             thread::yield_now();
             return;
@@ -60,7 +60,7 @@ pub(crate) struct Bells {
 }
 
 impl Bells {
-    pub fn new() -> Bells {
+    pub(crate) fn new() -> Bells {
         Bells {
             jobs: Bell::new(),
             results: Bell::new(),

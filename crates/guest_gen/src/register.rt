@@ -23,7 +23,7 @@ pub(crate) enum Register {
 
 impl Register {
     /// Returns its number.
-    pub fn number(self) -> u32
+    pub(crate) fn number(self) -> u32
         ensures number { result ≡ register_number self }
         ensures small { result < 32 }
     {

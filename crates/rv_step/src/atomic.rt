@@ -27,7 +27,7 @@ impl AtomicEnd {
     /// Returns the outcome of the step. It is made apart from the functions below, so that each step's outcome is kept
     /// in registers: one that a function writes through a pointer isn't.
     #[inline(always)]
-    pub fn outcome(self, at: u32) -> Result<Stepped, OutOfMemory>
+    pub(crate) fn outcome(self, at: u32) -> Result<Stepped, OutOfMemory>
         ensures { result ≡ outcome self at }
     {
         match self {
