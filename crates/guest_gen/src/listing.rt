@@ -10,6 +10,9 @@ use crate::instruction::Instruction::{
     Addi, Andi, Beq, Bge, Blt, Bne, Ecall, Jal, Jalr, LrW, Lui, Lw, Sb, ScW, Srl, Sw,
 };
 use crate::register::Register::{A0, A1, A2, A3, A7, Ra, S0, S1, S2, S3, S4, T0, T1, Zero};
+use turn_peek::calls::{
+    EXIT_ALL, EXIT_THREAD, FUTEX_WAIT, FUTEX_WAKE, SPAWN, STANDARD_OUTPUT, WRITE, YIELD,
+};
 
 /// The address at which the file is mapped.
 pub(crate) const FILE_ADDRESS: u32 = 0x0001_0000;
@@ -40,23 +43,6 @@ const COUNTER: u32 = 4;
 const TEXT: u32 = 8;
 
 const CLEAR_WORDS: u32 = 32;
-
-// The numbers of the kernel's calls.
-const EXIT_THREAD: u32 = 0;
-
-const EXIT_ALL: u32 = 1;
-
-const WRITE: u32 = 2;
-
-const SPAWN: u32 = 4;
-
-const FUTEX_WAIT: u32 = 5;
-
-const FUTEX_WAKE: u32 = 6;
-
-const YIELD: u32 = 7;
-
-const STANDARD_OUTPUT: u32 = 1;
 
 // Characters: 0, a and the end of a line.
 const DIGITS: u32 = 0x30;

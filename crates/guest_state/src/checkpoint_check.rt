@@ -11,8 +11,8 @@ use crate::thread::Thread;
 use dp_base::limits::{MAX_LIVE_THREADS, MAX_PAGES, MAX_THREADS, PAGE_BYTES, PAGE_NUMBERS};
 use dp_base::little_endian::{read_u16, read_u32, read_u64};
 
-// No heap ends past this.
-const HEAP_END: u32 = PAGE_NUMBERS * PAGE_BYTES;
+/// The address past which no heap ends: the end of memory.
+pub const HEAP_END: u32 = PAGE_NUMBERS * PAGE_BYTES;
 
 /// Returns whether the bytes are one checkpoint, and nothing follows it. Takes no memory.
 pub fn is_checkpoint(bytes: &[u8]) -> bool

@@ -20,7 +20,7 @@ mod hart;
 pub mod laws;
 mod thread;
 
-pub use checkpoint_check::{CheckpointBounds, alive_count, is_checkpoint, live_count};
+pub use checkpoint_check::{CheckpointBounds, HEAP_END, alive_count, is_checkpoint, live_count};
 pub use checkpoint_reader::{read_end, read_page, read_thread};
 pub use end::End;
 pub use hart::Hart;

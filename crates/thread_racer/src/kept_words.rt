@@ -10,7 +10,7 @@ use shared_words::{Seat, SharedWords};
 use std::alloc::Global;
 
 // How many passes may use the same words: each may take 2^43 tickets of 2^62.
-const MAX_PASSES: u32 = 0x0008_0000;
+const MAX_KEPT_PASSES: u32 = 0x0008_0000;
 
 // Shared words, the pages of which they have the words, and how many more passes may use them.
 #[derive(Drop)]
@@ -34,7 +34,7 @@ impl KeptWords {
         Ok(KeptWords {
             words,
             seat,
-            passes: MAX_PASSES,
+            passes: MAX_KEPT_PASSES,
             pages: Pages::new(alloc)?,
             blocks: 0,
         })

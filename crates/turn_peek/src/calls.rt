@@ -1,4 +1,5 @@
-//! The kernel's calls: their numbers, the registers of their number and arguments, and the answers of those that fail.
+//! The kernel's calls: their numbers, the registers of their number and arguments, the file descriptors that they take,
+//! and the answers of those that fail.
 
 /// The stack pointer.
 pub const SP: u8 = 2;
@@ -50,6 +51,12 @@ pub const BRK: u32 = 9;
 
 /// The number of the call gettid.
 pub const GETTID: u32 = 10;
+
+/// The file descriptor that read takes: standard input.
+pub const STANDARD_INPUT: u32 = 0;
+
+/// The file descriptor that write takes: standard output.
+pub const STANDARD_OUTPUT: u32 = 1;
 
 /// The answer -9, bad file descriptor.
 pub const EBADF: u32 = 0xffff_fff7;

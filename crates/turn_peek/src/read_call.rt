@@ -2,13 +2,10 @@
 ghost use Rattle.std.specs.Prelude.{◌≡◌};
 ghost use Rattle.turn_peek.specs.ReadCall.{read_at_once};
 
-use crate::calls::{A0, A1, A2, EBADF, EFAULT};
+use crate::calls::{A0, A1, A2, EBADF, EFAULT, STANDARD_INPUT};
 use cow_pages::Pages;
 use dp_base::limits::MAX_CALL_BYTES;
 use guest_state::Hart;
-
-// A file descriptor.
-const STANDARD_INPUT: u32 = 0;
 
 /// Returns what the call read answers at once, or `None` if it takes input. `hart` has its arguments.
 pub fn read_at_once(hart: &Hart, pages: &Pages) -> Option<u32>
