@@ -1,8 +1,8 @@
 #!/usr/bin/env bash
-# Runs the built program with one of its calls failing: with the first one, then with the second, and so on until the program makes fewer.
-# Then the same with all later ones failing too. `memory` is its allocations, `device` its calls on files and streams (reads, writes, syncs,
+# Runs the built program with a call and all later ones failing: from the first one on, then from the second, and so on until the program
+# makes fewer. Then the same with each call failing alone. `memory` is its allocations, `device` its calls on files and streams (reads, writes, syncs,
 # cuts and opens, of which each fails with EIO). Recordings of one thread and of racing threads by four workers, which squash epochs, with
-# and without marks; replays of marked journals by one and by four workers; inspections and self-tests. Each has to end with a status that
+# and without marks; replays of marked journals by one and by four workers; inspections; and self-tests, of which only memory fails. Each has to end with a status that
 # its command has for that. What is sent has to be a prefix of the output, and what is left of a journal has to replay to what was sent, or
 # to more. Prints how many runs of each command ended so, or what went wrong, and ends with 1 then.
 # The gate doesn't run this. It takes some minutes, and needs a C compiler, cc, for the calls that fail.
@@ -19,7 +19,6 @@ cd "$work" || exit 1
 
 cat >failing.c <<'C'
 #define _GNU_SOURCE
-#include <dlfcn.h>
 #include <errno.h>
 #include <fcntl.h>
 #include <stdarg.h>
@@ -59,28 +58,18 @@ int posix_memalign(void **to, size_t alignment, size_t size) {
 #define DEVICE fails("device", EIO) ? -1 :
 ssize_t read(int fd, void *to, size_t size) { return DEVICE syscall(SYS_read, fd, to, size); }
 ssize_t write(int fd, const void *of, size_t size) { return DEVICE syscall(SYS_write, fd, of, size); }
+ssize_t __write(int fd, const void *of, size_t size) { return write(fd, of, size); }
 ssize_t pread(int fd, void *to, size_t size, off_t at) { return DEVICE syscall(SYS_pread64, fd, to, size, at); }
 ssize_t pwrite(int fd, const void *of, size_t size, off_t at) { return DEVICE syscall(SYS_pwrite64, fd, of, size, at); }
-ssize_t pread64(int fd, void *to, size_t size, off_t at) { return DEVICE syscall(SYS_pread64, fd, to, size, at); }
-ssize_t pwrite64(int fd, const void *of, size_t size, off_t at) { return DEVICE syscall(SYS_pwrite64, fd, of, size, at); }
 int fsync(int fd) { return DEVICE syscall(SYS_fsync, fd); }
 int fdatasync(int fd) { return DEVICE syscall(SYS_fdatasync, fd); }
 int ftruncate(int fd, off_t size) { return DEVICE syscall(SYS_ftruncate, fd, size); }
-int ftruncate64(int fd, off_t size) { return DEVICE syscall(SYS_ftruncate, fd, size); }
-static int open_at(const char *name, int flags, mode_t mode) { return DEVICE syscall(SYS_openat, AT_FDCWD, name, flags, mode); }
 int open(const char *name, int flags, ...) {
   va_list rest;
   va_start(rest, flags);
   mode_t mode = va_arg(rest, mode_t);
   va_end(rest);
-  return open_at(name, flags, mode);
-}
-int open64(const char *name, int flags, ...) {
-  va_list rest;
-  va_start(rest, flags);
-  mode_t mode = va_arg(rest, mode_t);
-  va_end(rest);
-  return open_at(name, flags, mode);
+  return DEVICE syscall(SYS_openat, AT_FDCWD, name, flags, mode);
 }
 C
 cc -O2 -shared -fPIC -o failing.so failing.c || exit 1
