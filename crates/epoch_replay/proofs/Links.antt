@@ -8,7 +8,7 @@ use Rattle.epoch_replay.specs.declared.journal_stretch.PartJob.{PartJob}
 use Rattle.epoch_replay.specs.declared.journal_stretch.PartRun.{PartRun}
 use Rattle.epoch_replay.specs.declared.journal_stretch.Stretch.{Stretch}
 use Rattle.epoch_replay.specs.declared.progress.Progress.{Progress}
-use Rattle.epoch_replay.specs.Stretches.{AreBefore, AreLinked, AreLinkedJobs, ArePartJobs, HasTaken, IsAfterResult, IsFirstReachedBy, IsNext, IsOfJob, IsOneMore, IsReachedBy, IsStretch, PartResult}
+use Rattle.epoch_replay.specs.Stretches.{AreBefore, AreLinkedResults, AreLinkedJobs, ArePartJobs, IsAtEndOf, IsAfterResult, IsFirstReachedBy, IsNext, IsOfJob, IsOneMore, IsReachedBy, IsStretch, PartResult}
 use Rattle.epoch_replay.proofs.Stretches.{one_job_more}
 
 -- ---- one more job
@@ -49,7 +49,7 @@ after_result job other (Err fault) s of_job of_other is = tt
 abbrev Each : List PartJob → List PartResult → Type 0
 Each jobs results = (i : ℕ) (e : PartJob) (d : PartResult) → i < length jobs → IsOfJob (slice_index_or jobs i e) (slice_index_or results i d)
 
-pub linked : (jobs : List PartJob) (results : List PartResult) → length results ≡ length jobs → Each jobs results → AreLinkedJobs jobs → AreLinked results
+pub linked : (jobs : List PartJob) (results : List PartResult) → length results ≡ length jobs → Each jobs results → AreLinkedJobs jobs → AreLinkedResults results
 linked jobs [] same each are = tt
 linked jobs (r ∷ []) same each are = tt
 linked [] (r ∷ s ∷ results) same each are = absurd (omega (arith, same))
@@ -61,23 +61,23 @@ linked (job ∷ other ∷ jobs) (r ∷ s ∷ results) same each are = (
 
 -- ---- taking one
 
-pub linked_rest : (results rest : List PartResult) → AreLinked results → rest ≡ drop 1 results → AreLinked rest
-linked_rest [] rest are is = subst AreLinked (sym is) tt
-linked_rest (r ∷ []) rest are is = subst AreLinked (sym is) tt
-linked_rest (r ∷ s ∷ results) rest are is = subst AreLinked (sym is) are.1
+pub linked_rest : (results rest : List PartResult) → AreLinkedResults results → rest ≡ drop 1 results → AreLinkedResults rest
+linked_rest [] rest are is = subst AreLinkedResults (sym is) tt
+linked_rest (r ∷ []) rest are is = subst AreLinkedResults (sym is) tt
+linked_rest (r ∷ s ∷ results) rest are is = subst AreLinkedResults (sym is) are.1
 
 by_run : (before : PartRun) (s : PartResult) (p : Progress) → IsAfterResult (Ok (Some before)) s → p.state ≡ before.stretch.state → p.base ≡ before.stretch.start → before.meets ≡ true → IsReachedBy p s
 by_run before (Ok (Some run)) p after state base meets = (after.1 meets ∙ sym state, after.0 ∙ sym base)
 by_run before (Ok None) p after state base meets = tt
 by_run before (Err fault) p after state base meets = tt
 
-by_taken : (r s : PartResult) (p : Progress) → IsAfterResult r s → HasTaken p true r → IsReachedBy p s
+by_taken : (r s : PartResult) (p : Progress) → IsAfterResult r s → IsAtEndOf p true r → IsReachedBy p s
 by_taken (Ok (Some before)) s p after has = by_run before s p after has.0 has.1 (sym has.2)
 by_taken (Ok None) s p after has = absurd has
 by_taken (Err fault) s p after has = absurd has
 
 -- after a result was taken the play is where the next one begins, if the run says so
-pub next_reached : (r : PartResult) (results rest : List PartResult) (p : Progress) → r ≡ slice_index_or results 0 r → rest ≡ drop 1 results → AreLinked results → HasTaken p true r → IsFirstReachedBy p rest
+pub next_reached : (r : PartResult) (results rest : List PartResult) (p : Progress) → r ≡ slice_index_or results 0 r → rest ≡ drop 1 results → AreLinkedResults results → IsAtEndOf p true r → IsFirstReachedBy p rest
 next_reached r [] rest p value is are has = subst (IsFirstReachedBy p) (sym is) tt
 next_reached r (x ∷ []) rest p value is are has = subst (IsFirstReachedBy p) (sym is) tt
-next_reached r (x ∷ s ∷ results) rest p value is are has = subst (IsFirstReachedBy p) (sym is) (by_taken x s p are.0 (subst (HasTaken p true) value has))
+next_reached r (x ∷ s ∷ results) rest p value is are has = subst (IsFirstReachedBy p) (sym is) (by_taken x s p are.0 (subst (IsAtEndOf p true) value has))

@@ -8,7 +8,7 @@ ghost use Rattle.epoch_replay.specs.declared.replay_fault.ReplayFault.TheVariant
 ghost use Rattle.epoch_replay.specs.Playing.{IsBounded, PlayedSoFar};
 ghost use Rattle.epoch_replay.specs.Faults.{ReplayMetNoOther};
 ghost use Rattle.epoch_replay.specs.Replaying.{EachReplayMoment};
-ghost use Rattle.epoch_replay.specs.Stretches.{AreLinked, AreLinkedJobs, ArePartJobs, ArePartResults, HasTaken, IsBegun, IsFirstReachedBy, IsHere, IsOfJob, IsOneMore, IsPartResult, IsReachedBy, IsStretch, WasPartTaken};
+ghost use Rattle.epoch_replay.specs.Stretches.{AreLinkedResults, AreLinkedJobs, ArePartJobs, ArePartResults, IsAtEndOf, IsBegun, IsFirstReachedBy, IsHere, IsOfJob, IsOneMore, IsPartResult, IsReachedBy, IsStretch, WasPartTaken};
 
 use crate::journal_stretch::{PartJob, PartRun, Stretch, begin_at, begin_at_mark, run_job};
 use crate::progress::Progress;
@@ -255,7 +255,7 @@ fn take_all<W: World>(
     requires few { length file.now ≤ MAX_JOURNAL_BYTES }
     requires bounded { IsBounded file.now progress.old }
     requires results { ArePartResults file.now results.items }
-    requires linked { AreLinked results.items }
+    requires linked { AreLinkedResults results.items }
     ensures taken { (reading : Reading) (first : Option History) →
         PlayedSoFar reading file.now first (W.history world.old) progress.old →
         WasPartTaken reading file.now first (W.history world.new) progress.new result }
@@ -322,7 +322,7 @@ fn take_part<W: World>(
         Rose (W.sink_faults world.old) (W.sink_faults world.new) }
     ensures disk_count { W.disk_faults world.new ≡ W.disk_faults world.old }
     ensures sink_count { W.sink_faults world.old ≤ W.sink_faults world.new }
-    ensures next { IfOk result (λ taken. IfSome taken (λ meets. HasTaken progress.new meets part)) }
+    ensures next { IfOk result (λ taken. IfSome taken (λ meets. IsAtEndOf progress.new meets part)) }
 {
     let Ok(Some(PartRun { stretch, meets })) = part else {
         return Ok(None);

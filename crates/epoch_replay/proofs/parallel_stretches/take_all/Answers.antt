@@ -1,7 +1,7 @@
 use Rattle.std.proofs.Common.{◌≡◌, Bool, Err, Option, Some, true, ap, subst, ◌∙◌, arith}
 use Rattle.std.specs.Prelude.{IfSome}
 use Rattle.std.proofs.lemmas.Result.{err_from_is_err_and}
-use Rattle.epoch_replay.specs.Stretches.{HasTaken}
+use Rattle.epoch_replay.specs.Stretches.{IsAtEndOf}
 use Rattle.epoch_replay.proofs.Going.{so_far_moments}
 use Rattle.epoch_replay.proofs.Links.{linked_rest, next_reached}
 use Rattle.epoch_replay.proofs.Stretches.{other_results}
@@ -24,7 +24,7 @@ results-preserved g c =
       results = other_results c.args.file.now l.results.items rest i.results items;
       linked = linked_rest l.results.items rest i.linked items;
       known = λ so.
-          let taken : HasTaken c.take_part.new.progress true part = subst (λ (o : Option Bool). IfSome o (λ meets. HasTaken c.take_part.new.progress meets part)) (c.is_met-known.ensures so) e.next in
+          let taken : IsAtEndOf c.take_part.new.progress true part = subst (λ (o : Option Bool). IfSome o (λ meets. IsAtEndOf c.take_part.new.progress meets part)) (c.is_met-known.ensures so) e.next in
           next_reached part l.results.items rest c.take_part.new.progress c.remove-part.ensures.value items i.linked taken;
       bounded = e.bounded;
       taken = λ reading first so_far. e.taken reading first (i.taken reading first so_far);
