@@ -6,9 +6,10 @@
 # journals by one and by four workers; inspections; and self-tests, of which only memory fails. Each has to end with a
 # status that its command has for that. What is sent has to be a prefix of the output, and what is left of a journal
 # has to replay to what was sent, or to more. Prints how many runs of each command ended so, or what went wrong, and
-# ends with 1 then. The gate doesn't run this. It takes some minutes, and needs a C compiler, cc, for the calls that
-# fail.   tests/failing_calls.sh [memory|device]  one of them, or both; of the program crates/dpcli/out/dpcli
-# DPCLI=PROGRAM tests/failing_calls.sh    of another program
+# ends with 1 then.
+# The gate doesn't run this. It takes some minutes, and needs a C compiler, cc, for the calls that fail.
+#   tests/failing_calls.sh [memory|device]  one of them, or both; of the program crates/dpcli/out/dpcli
+#   DPCLI=PROGRAM tests/failing_calls.sh    of another program
 set -u
 here=$(cd "$(dirname "$(readlink -f "${BASH_SOURCE[0]}")")" && pwd)
 guests=$here/../guests
