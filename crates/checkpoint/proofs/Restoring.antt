@@ -1,28 +1,23 @@
 -- Pages that are read one after another, and taken from the base where they have no bytes.
-use Rattle.std.proofs.Common.{◌≡◌, ℕ, suc, ◌+◌, ◌-◌, ◌<◌, ◌≤◌, true, leb, ◌&&◌, List, [], ◌∷◌, ◌++◌, length, Option, Some, None, refl, sym, ap, subst, ◌∙◌, append_assoc, arith}
-use Rattle.std.specs.Prelude.{IfSome}
+use Rattle.std.proofs.Common.{◌≡◌, ℕ, suc, ◌+◌, ◌-◌, ◌<◌, ◌≤◌, true, false, leb, ◌&&◌, List, [], ◌∷◌, ◌++◌, length, Option, Some, None, refl, sym, ap, subst, ◌∙◌, append_assoc, arith}
+use Rattle.std.specs.Prelude.{is_some}
 use Rattle.std.specs.List.{All}
-use Rattle.std.specs.Option.{option_map}
 use Rattle.std.proofs.lemmas.Bool.{and_parts, leb-true}
 use Rattle.std.proofs.lemmas.List.{append-nil, length_push}
 use Rattle.std.proofs.lemmas.List.Elements.{All-push}
 use Rattle.std.proofs.lemmas.Option.{same_Some}
-use Rattle.dp_base.specs.declared.limits.TheConstants.{MAX_PAGES, PAGE_BYTES}
+use Rattle.dp_base.specs.declared.limits.TheConstants.{MAX_PAGES}
 use Rattle.dp_base.specs.declared.page.Page.{Page}
-use Rattle.dp_base.specs.declared.page.PageView.{PageView}
 use Rattle.dp_base.specs.Field.{◌>>=◌}
 use Rattle.dp_base.specs.Journal.{many_at}
-use Rattle.dp_base.specs.Memory.{IsPage, page_at}
-use Rattle.dp_base.specs.View.{page_of}
+use Rattle.dp_base.specs.Memory.{page_at}
 use Rattle.dp_base.proofs.Fields.{bind_some}
 use Rattle.guest_state.specs.Checkpoint.{rising_from}
-use Rattle.cow_pages.specs.Mapping.{page_with}
 use Rattle.partial_mark.specs.Base.{bytes_over, page_over, pages_over}
 use Rattle.partial_mark.specs.Partial.{PartialPage, partial_page_from}
 use Rattle.partial_mark.specs.View.{outlines}
-use Rattle.checkpoint.specs.Against.{HoldPages, IsPast, pages_restored}
+use Rattle.checkpoint.specs.Against.{HoldPages, IsPast, pages_restored, with_last}
 use Rattle.checkpoint.proofs.BasePages.{from_start, past_more}
-use Rattle.checkpoint.proofs.Mapping.{whole_page}
 
 abbrev after : List Page → List Page → Option (List Page)
 after xs ys = Some (xs ++ ys)
@@ -108,32 +103,43 @@ module _ (count counter : ℕ) (bytes : List ℕ) (base pages : List Page) (plac
     unfolding pages_over
     from_next = so_far.joined ∙ ap (λ (l : List PartialPage). pages_over base l >>= after pages) next.left_is
 
-    pub lacking : bytes_over (page_at base p.number) p.content ≡ None → pages_restored base count bytes ≡ None
-    lacking none =
-        from_next ∙ ap (λ (o : Option (List ℕ)). ((o >>= λ content. Some (record { number = p.number; flags = p.flags; bytes = content })) >>= λ first. pages_over base next.others >>= λ others. Some (first ∷ others)) >>= after pages) none
+    abbrev joined_to : Option Page → Option (List Page)
+    joined_to found = (found >>= λ first. pages_over base next.others >>= λ others. Some (first ∷ others)) >>= after pages
+
+    pub lacking : page_over base p ≡ None → pages_restored base count bytes ≡ None
+    lacking none = from_next ∙ ap joined_to none
 
     joined_more : (q : Page) (r : Option (List Page)) → ((r >>= λ others. Some (q ∷ others)) >>= after pages) ≡ (r >>= after (pages ++ q ∷ []))
     joined_more q None = refl
     joined_more q (Some others) = ap (λ (l : List Page). Some l) (sym (append_assoc pages (q ∷ []) others))
 
-    pub restoring_more : (content : List ℕ) (next_place : ℕ) → bytes_over (page_at base p.number) p.content ≡ Some content → length content ≡ PAGE_BYTES → IsPast base next_place p.number
-        → Restoring count (counter + 1) bytes base (pages ++ page_with p.number p.flags content ∷ []) next_place behind
-    restoring_more content next_place is size past =
-        let q : Page = record { number = p.number; flags = p.flags; bytes = content } in
-        let made : page_with p.number p.flags content ≡ q = whole_page q size in
+    number_is : (q : Page) → page_over base p ≡ Some q → q.number ≡ p.number
+    number_is q is =
+        let a = bind_some (bytes_over (page_at base p.number) p.content) (λ bytes. Some (record { number = p.number; flags = p.flags; bytes = bytes })) q is in
+        sym (ap (λ (x : Page). x.number) (same_Some _ _ a.2))
+
+    pub restoring_more : (q : Page) (next_place : ℕ) → page_over base p ≡ Some q → IsPast base next_place p.number
+        → Restoring count (counter + 1) bytes base (pages ++ q ∷ []) next_place behind
+    restoring_more q next_place is past =
         let length_is : length so_far.left ≡ suc (length next.others) = ap length next.left_is in
-        subst (λ (x : Page). Restoring count (counter + 1) bytes base (pages ++ x ∷ []) next_place behind) (sym made) (record {
+        let number : q.number ≡ p.number = number_is q is in
+        record {
           left = next.others;
           least = p.number + 1;
           read = next.read;
-          joined = from_next
-              ∙ ap (λ (o : Option (List ℕ)). ((o >>= λ bytes. Some (record { number = p.number; flags = p.flags; bytes = bytes })) >>= λ first. pages_over base next.others >>= λ others. Some (first ∷ others)) >>= after pages) is
-              ∙ joined_more q (pages_over base next.others);
-          below = All-push (λ (x : Page). x.number < p.number + 1) pages q (λ k d lt. let one = all_below k d lt in omega (arith, one)) (omega arith);
+          joined = from_next ∙ ap joined_to is ∙ joined_more q (pages_over base next.others);
+          below = All-push (λ (x : Page). x.number < p.number + 1) pages q (λ k d lt. let one = all_below k d lt in omega (arith, one)) (omega (arith, number));
           rise = (and_parts (leb so_far.least p.number) (rising_from (p.number + 1) (outlines next.others)) rises).1;
           past = past_more base next_place p.number (p.number + 1) (omega arith) past;
           few = omega (arith, length_is, so_far.few, length_push pages q);
-        })
+        }
+
+    -- a page that was there is the last of those that are restored
+    pub mapped_more : (found : Option Page) (now : List Page) (next_place : ℕ) → found ≡ page_over base p → is_some found ≡ true → now ≡ with_last pages found → IsPast base next_place p.number
+        → Restoring count (counter + 1) bytes base now next_place behind
+    mapped_more None now next_place is there now_is past = absurd cc
+    mapped_more (Some q) now next_place is there now_is past =
+        subst (λ (xs : List Page). Restoring count (counter + 1) bytes base xs next_place behind) (sym now_is) (restoring_more q next_place (sym is) past)
 
   pub restored_all : count ≤ counter → pages_restored base count bytes ≡ Some pages
   unfolding many_at pages_over
@@ -143,12 +149,6 @@ module _ (count counter : ℕ) (bytes : List ℕ) (base pages : List Page) (plac
       let none : so_far.left ≡ [] = sym (ap (λ (x : List PartialPage × List ℕ). x.0) (same_Some _ _ found)) in
       so_far.joined ∙ ap (λ (l : List PartialPage). pages_over base l >>= after pages) none ∙ ap (λ (l : List Page). Some l) (append-nil pages)
 
--- the bytes of a page are as many as a page has
-pub content_size : (same_number : Option Page) (own : Option (List ℕ)) (content : List ℕ) → IfSome same_number IsPage → IfSome own (λ bytes. length bytes ≡ PAGE_BYTES) → bytes_over same_number own ≡ Some content → length content ≡ PAGE_BYTES
-content_size same_number (Some bytes) content is sized e = subst (λ (b : List ℕ). length b ≡ PAGE_BYTES) (same_Some _ _ e) sized
-content_size None None content is sized e = absurd cc
-content_size (Some p) None content is sized e = subst (λ (b : List ℕ). length b ≡ PAGE_BYTES) (same_Some _ _ e) is.bytes
-
-pub kept_page : (o : Option PageView) → IfSome o (λ v. IsPage (page_of v)) → IfSome (option_map page_of o) IsPage
-kept_page None is = tt
-kept_page (Some v) is = is
+pub is_none : (x : Option Page) → is_some x ≡ false → x ≡ None
+is_none None e = refl
+is_none (Some p) e = absurd cc

@@ -1,6 +1,6 @@
 -- A partial mark's parts, read one after another, and the pages of its base, looked up one after another. These serve
 -- the contracts of the crate's own steps. This project's own.
-use Rattle.std.specs.Prelude.{◌≡◌, ◌≤◌, ℕ, List, [], length, drop, Option, Some, true}
+use Rattle.std.specs.Prelude.{◌≡◌, ◌≤◌, ℕ, List, [], ◌∷◌, ◌++◌, length, drop, Option, Some, None, true}
 use Rattle.dp_base.specs.declared.limits.TheConstants.{MAX_PAGES}
 use Rattle.dp_base.specs.declared.page.Page.{Page}
 use Rattle.dp_base.specs.Field.{◌>>=◌, number_at}
@@ -43,6 +43,11 @@ pub record HoldPages (count : ℕ) (bytes : List ℕ) : Type 0 where
 -- `count` pages, with the base's bytes if they have none
 abbrev pub pages_restored : (base : List Page) → (count : ℕ) → List ℕ → Option (List Page)
 pages_restored base count bytes = many_at partial_page_from count bytes >>= λ pages. pages_over base pages.0
+
+-- one more page, if there is one
+abbrev pub with_last : List Page → Option Page → List Page
+with_last pages None = pages
+with_last pages (Some p) = pages ++ p ∷ []
 
 -- no page before this place has one of the numbers from the least on
 abbrev pub IsPast : (pages : List Page) → (place least : ℕ) → Type 0

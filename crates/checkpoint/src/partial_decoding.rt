@@ -1,17 +1,19 @@
 // A state from its partial mark and the mark's base.
-ghost use Rattle.std.specs.Prelude.{◌≡◌, IfOk, IfSome, option_map};
-ghost use Rattle.dp_base.specs.View.{page_of};
-ghost use Rattle.partial_mark.specs.Base.{bytes_over, restored};
-ghost use Rattle.checkpoint.specs.Against.{HoldPages, before, before_pages, pages_restored};
+ghost use Rattle.std.specs.Prelude.{◌≡◌, ◌<◌, All, IfOk, IfSome, OnOk, is_some, length, option_map};
+ghost use Rattle.dp_base.specs.declared.limits.TheConstants.{MAX_PAGES};
+ghost use Rattle.dp_base.specs.Memory.{page_at};
+ghost use Rattle.partial_mark.specs.Base.{page_over, restored};
+ghost use Rattle.partial_mark.specs.View.{IsPageRead, partial_page_of};
+ghost use Rattle.checkpoint.specs.Against.{HoldPages, before, before_pages, pages_restored, with_last};
 ghost use Rattle.checkpoint.specs.State.{IsEncodable, checkpoint_of};
 
 use crate::base_page::look_up;
 use crate::decoding::read_threads;
+use dp_base::OutOfMemory;
 use dp_base::little_endian::{read_u8, read_u16};
-use dp_base::{OutOfMemory, PageView};
 use guest_kernel::{Pages, State, Threads};
 use guest_state::Thread;
-use partial_mark::{Fields, is_partial, read_fields, read_partial_page};
+use partial_mark::{Fields, PartialPageView, is_partial, read_fields, read_partial_page};
 use std::alloc::Global;
 
 /// Returns the state whose partial mark against this base these bytes are. Returns `None` exactly if they are no
@@ -91,25 +93,41 @@ fn restore_pages(
             return Ok(None);
         };
         let (next_place, same_number) = look_up(base, base_place, page.number);
-        let Some(content) = bytes_over(same_number, page.content) else {
+        if !map_over(&mut pages, base, same_number.is_some(), page)? {
             return Ok(None);
-        };
-        pages.map_above(page.number, page.flags, content)?;
+        }
         base_place = next_place;
         rest = behind;
     }
     Ok(Some(pages))
 }
 
-// The bytes of a page: its own, or those of the base's page with its number.
-fn bytes_over<'a>(same_number: Option<PageView<'a>>, content: Option<&'a [u8]>) -> Option<&'a [u8]>
-    ensures { option_map (λ b. b.now) result ≡ bytes_over (option_map page_of same_number.entry) (option_map (λ b. b.now) content.entry) }
+// Maps a page after all others: with its own bytes, or with those of the base, which both then share. Returns whether
+// there are such bytes.
+fn map_over(
+    pages: &mut Pages,
+    base: &Pages,
+    is_in_base: bool,
+    page: PartialPageView<'_>,
+) -> Result<bool, OutOfMemory>
+    requires above { All (λ p. p.number < page.number) pages.old }
+    requires room { length pages.old < MAX_PAGES }
+    requires read { IsPageRead (partial_page_of page) }
+    requires in_base { is_in_base ≡ is_some (page_at base.now page.number) }
+    ensures answer { IfOk result (λ mapped. mapped ≡ is_some (page_over base.now (partial_page_of page.entry))) }
+    ensures ok { OnOk result (pages.new ≡ with_last pages.old (page_over base.now (partial_page_of page.entry))) }
 {
-    match content {
-        Some(bytes) => Some(bytes),
-        None => match same_number {
-            Some(page) => Some(page.bytes),
-            None => None,
-        },
+    match page.content {
+        Some(bytes) => {
+            pages.map_above(page.number, page.flags, bytes)?;
+            Ok(true)
+        }
+        None => {
+            if !is_in_base {
+                return Ok(false);
+            }
+            pages.map_above_shared(page.number, page.flags, base)?;
+            Ok(true)
+        }
     }
 }

@@ -1,6 +1,6 @@
 -- A table of pages as a list in rising order.
-use Rattle.std.proofs.Common.{◌≡◌, ◌⊎◌, inl, inr, ◌<◌, ℕ, Bool, true, false, cond, Option, Some, None, List, [], ◌∷◌, ◌++◌, All, arith, length, get_or, sym, subst, Bor, ◌∙◌, ap, refl}
-use Rattle.std.specs.Prelude.{Result, Ok, Err, OnOk, OnErr, IfSome, filter_map, slice_get, ◌==◌, if◌then◌else◌}
+use Rattle.std.proofs.Common.{◌≡◌, ◌⊎◌, inl, inr, ◌<◌, ℕ, zero, suc, Bool, true, false, cond, Option, Some, None, List, [], ◌∷◌, ◌++◌, All, arith, length, get_or, sym, subst, Bor, ◌∙◌, ap, refl}
+use Rattle.std.specs.Prelude.{Result, Ok, Err, OnOk, OnErr, IfSome, filter_map, replicate, slice_get, ◌==◌, if◌then◌else◌}
 use Rattle.std.specs.List.{cons_option}
 use Rattle.std.specs.Option.{option_copied, option_map, option_or}
 use Rattle.std.proofs.lemmas.Bool.{cases_eq, eq-eqb, ne_eqb}
@@ -13,8 +13,9 @@ use Rattle.cow_pages.proofs.Places.{IsPage_by_number, page_some, place_rising}
 use Rattle.cow_pages.proofs.Stores.{page_at-change, page_at-other}
 use Rattle.cow_pages.proofs.Writes.{ArePages-change, Rewritten, numbers_change}
 use Rattle.cow_pages.specs.InPage.{AreRising, has_number}
-use Rattle.cow_pages.specs.Table.{IsTable, found, found_changed, held, pages_numbered}
-use Rattle.cow_pages.specs.Tree.{Nodes, Slots, leaf, leaf_put}
+use Rattle.cow_pages.specs.Mapping.{page_with_bytes}
+use Rattle.cow_pages.specs.Table.{IsTable, found, found_changed, hand_entry, held, if_numbered, pages_numbered}
+use Rattle.cow_pages.specs.Tree.{Nodes, Slots, entry_at, leaf, leaf_put}
 use Rattle.dp_base.specs.Memory.{ArePages, IsPage, Memory, change_page, page_at}
 use Rattle.dp_base.specs.declared.limits.TheConstants.{MAX_PAGES}
 use Rattle.dp_base.specs.declared.page.Page.{Page}
@@ -52,6 +53,23 @@ table_is hand nodes order memory are is finds =
       whole = λ n. ap (λ (m : Memory). page_at m n) same ∙ finds n;
       order = is ∙ ap (λ (m : Memory). numbers m) (sym same);
     }
+
+-- ---- a table of no pages
+
+entry_none : (count entry : ℕ) → entry_at (replicate {A = Option Page} count None) entry ≡ None
+entry_none zero entry = refl
+entry_none (suc count) zero = refl
+entry_none (suc count) (suc entry) = entry_none count entry
+
+held_none : (count number : ℕ) → held (replicate count None) number ≡ None
+held_none count number = ap (λ (x : Option Page). if_numbered number x) (entry_none count (hand_entry number))
+
+no_pages : ArePages []
+no_pages = record { each = λ k d within. absurd (omega (arith, within)); rising = λ k within. absurd (omega (arith, within)); few = omega arith }
+
+pub empty_table : (count : ℕ) (hand : Slots) (nodes : Nodes) (order : List ℕ) → hand ≡ replicate count None → nodes ≡ [] → order ≡ [] → IsTable hand nodes order
+empty_table count hand nodes order held_is nodes_are order_is =
+    table_is hand nodes order [] no_pages order_is (λ n. sym (ap (λ (m : Nodes). found hand m n) nodes_are ∙ ap (λ (h : Slots). found h [] n) held_is ∙ ap (λ (x : Option Page). option_or x None) (held_none count n)))
 
 -- ---- what is found
 
@@ -201,3 +219,15 @@ above_on (Ok x) hand nodes new order new_order p memory are page below room view
     (ok_order ∙ above_order hand nodes order p are) (finds_above hand nodes order p are below)
     ∙ ap (λ (m : Memory). m ++ p ∷ []) view
 above_on (Err e) hand nodes new order new_order p memory are page below room view ok_order ok_nodes = tt
+
+-- ---- a page that is shared
+
+pub shared_number : (memory : Memory) (number flags : ℕ) (p q : Page) → page_at memory number ≡ Some p → q ≡ page_with_bytes p.number flags p.bytes → q.number ≡ number
+shared_number memory number flags p q at is = ap (λ (x : Page). x.number) is ∙ numbered_by memory number (Some p) at
+
+pub shared_on : {X E : Type 0} (r : Result X E) (memory pages new : Memory) (number flags : ℕ) (p q : Page) → page_at memory number ≡ Some p → q ≡ page_with_bytes p.number flags p.bytes
+    → OnOk r (new ≡ pages ++ q ∷ []) → OnOk r (IfSome (page_at memory number) (λ p. new ≡ pages ++ page_with_bytes number flags p.bytes ∷ []))
+shared_on (Ok x) memory pages new number flags p q at is ok =
+    let same : q ≡ page_with_bytes number flags p.bytes = is ∙ ap (λ (n : ℕ). page_with_bytes n flags p.bytes) (numbered_by memory number (Some p) at) in
+    subst (λ (x : Option Page). IfSome x (λ p. new ≡ pages ++ page_with_bytes number flags p.bytes ∷ [])) (sym at) (ok ∙ ap (λ (x : Page). pages ++ x ∷ []) same)
+shared_on (Err e) memory pages new number flags p q at is ok = tt

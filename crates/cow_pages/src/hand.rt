@@ -18,7 +18,7 @@ use std::alloc::Global;
 use std::marker::Model;
 
 // How many pages may be in hand.
-const ENTRIES: usize = 16;
+const ENTRIES: usize = 128;
 
 #[derive(Drop)]
 pub(crate) struct Hand {

@@ -36,7 +36,7 @@ impl From<OutOfMemory> for ReadFault {
 }
 
 // Bytes that one read asks for at most.
-const CHUNK_BYTES: usize = 4096;
+const CHUNK_BYTES: usize = 65_536;
 
 /// Returns the disk's first 2^30 bytes, or all that it has.
 pub fn read_whole<W: World>(alloc: Global, world: &mut W) -> Result<Vec<u8>, ReadFault>
