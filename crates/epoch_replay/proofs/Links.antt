@@ -1,14 +1,13 @@
 -- Jobs that are linked, and their results.
-use Rattle.std.proofs.Common.{◌≡◌, Bool, true, ℕ, suc, ◌<◌, List, [], ◌∷◌, ◌++◌, length, drop, Option, Some, None, Result, Ok, Err, refl, sym, ap, subst, ◌∙◌, arith}
+use Rattle.std.proofs.Common.{◌≡◌, true, ℕ, suc, ◌<◌, List, [], ◌∷◌, ◌++◌, length, drop, Option, Some, None, Ok, Err, refl, sym, ap, subst, ◌∙◌, arith}
 use Rattle.std.specs.Prelude.{slice_index_or}
 use Rattle.std.proofs.lemmas.Option.{same_Some}
-use Rattle.dp_base.specs.declared.out_of_memory.OutOfMemory.{OutOfMemory}
-use Rattle.guest_kernel.specs.declared.state.State.{State}
 use Rattle.epoch_replay.specs.declared.journal_stretch.PartJob.{PartJob}
 use Rattle.epoch_replay.specs.declared.journal_stretch.PartRun.{PartRun}
 use Rattle.epoch_replay.specs.declared.journal_stretch.Stretch.{Stretch}
+use Rattle.epoch_replay.specs.declared.journal_stretch.StretchStart.{StretchStart}
 use Rattle.epoch_replay.specs.declared.progress.Progress.{Progress}
-use Rattle.epoch_replay.specs.Stretches.{AreBefore, AreLinkedResults, AreLinkedJobs, ArePartJobs, IsAtEndOf, IsAfterResult, IsFirstReachedBy, IsNext, IsOfJob, IsOneMore, IsReachedBy, IsStretch, PartResult}
+use Rattle.epoch_replay.specs.Stretches.{AreBefore, AreLinkedResults, AreLinkedJobs, ArePartJobs, IsAtEndOf, IsAfterResult, IsFirstReachedBy, IsNext, IsOfJob, IsOneMore, IsReachedBy, IsStretch, PartResult, end_of, start_of}
 use Rattle.epoch_replay.proofs.Stretches.{one_job_more}
 
 -- ---- one more job
@@ -23,24 +22,25 @@ linked_more [] job before = tt
 linked_more (first ∷ []) job before = (before, tt)
 linked_more (first ∷ other ∷ jobs) job before = (before.0, linked_more (other ∷ jobs) job before.1)
 
-module _ (jobs all : List PartJob) (x : Stretch) (next : Option State) (more : IsOneMore jobs x next all) where
+module _ (jobs all : List PartJob) (x : Stretch) (next : Option StretchStart) (more : IsOneMore jobs x next all) where
   pub parts_more : (file : List ℕ) → ArePartJobs file jobs → IsStretch file x → ArePartJobs file all
   parts_more file are is = one_job_more file jobs all more.0 more.1 are (subst (IsStretch file) (sym more.2) is)
 
-  pub before_one_more : (y : Stretch) → AreBefore jobs x → y.base ≡ x.start → next ≡ Some y.start → AreBefore all y
-  before_one_more y before base start = subst (λ l. AreBefore l y) (sym more.1)
-      (before_more jobs more.0 y (subst (AreBefore jobs) (sym more.2) before) (base ∙ ap (λ (z : Stretch). z.start) (sym more.2), more.3 ∙ start))
+  pub before_one_more : (y : Stretch) → AreBefore jobs x → next ≡ Some (start_of y) → AreBefore all y
+  before_one_more y before start = subst (λ l. AreBefore l y) (sym more.1)
+      (before_more jobs more.0 y (subst (AreBefore jobs) (sym more.2) before) (more.3 ∙ start))
 
   pub linked_one_more : AreBefore jobs x → AreLinkedJobs all
   linked_one_more before = subst AreLinkedJobs (sym more.1) (linked_more jobs more.0 (subst (AreBefore jobs) (sym more.2) before))
 
 -- ---- results
 
+same_start : (x y : Stretch) → x.base ≡ y.base → x.start ≡ y.start → start_of x ≡ start_of y
+same_start x y base start = rw (base, start) refl
+
 after_result : (job other : PartJob) (r s : PartResult) → IsOfJob job r → IsOfJob other s → IsNext job other.stretch → IsAfterResult r s
-after_result job other (Ok (Some before)) (Ok (Some run)) of_job of_other is = (
-  of_other.0 ∙ is.0 ∙ sym of_job.1,
-  λ meets. of_other.1 ∙ same_Some other.stretch.start before.stretch.state (sym is.1 ∙ of_job.2 meets),
-)
+after_result job other (Ok (Some before)) (Ok (Some run)) of_job of_other is = λ meets.
+    same_start run.stretch other.stretch of_other.0 of_other.1 ∙ same_Some (start_of other.stretch) (end_of before.stretch) (sym is ∙ of_job.2 meets)
 after_result job other (Ok (Some before)) (Ok None) of_job of_other is = tt
 after_result job other (Ok (Some before)) (Err fault) of_job of_other is = tt
 after_result job other (Ok None) s of_job of_other is = tt
@@ -66,8 +66,11 @@ linked_rest [] rest are is = subst AreLinkedResults (sym is) tt
 linked_rest (r ∷ []) rest are is = subst AreLinkedResults (sym is) tt
 linked_rest (r ∷ s ∷ results) rest are is = subst AreLinkedResults (sym is) are.1
 
-by_run : (before : PartRun) (s : PartResult) (p : Progress) → IsAfterResult (Ok (Some before)) s → p.state ≡ before.stretch.state → p.base ≡ before.stretch.start → before.meets ≡ true → IsReachedBy p s
-by_run before (Ok (Some run)) p after state base meets = (after.1 meets ∙ sym state, after.0 ∙ sym base)
+by_run : (before : PartRun) (s : PartResult) (p : Progress) → IsAfterResult (Ok (Some before)) s → p.state ≡ before.stretch.state → p.base ≡ before.stretch.last → before.meets ≡ true → IsReachedBy p s
+by_run before (Ok (Some run)) p after state base meets = (
+  ap (λ (x : StretchStart). x.state) (after meets) ∙ sym state,
+  ap (λ (x : StretchStart). x.base) (after meets) ∙ sym base,
+)
 by_run before (Ok None) p after state base meets = tt
 by_run before (Err fault) p after state base meets = tt
 

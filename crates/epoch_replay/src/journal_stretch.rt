@@ -1,11 +1,11 @@
 // A stretch of a journal, run on its own.
-ghost use Rattle.std.specs.Prelude.{◌≡◌, ◌≤◌, ◌<◌, ℕ, List, IfOk, IfSome, IsTrue, Some, length, true};
+ghost use Rattle.std.specs.Prelude.{◌≡◌, ◌≤◌, ◌<◌, ◌-◌, ◌^◌, ℕ, List, IfOk, IfSome, IsTrue, Some, length, true};
 ghost use Rattle.dp_base.specs.declared.limits.TheConstants.{MAX_JOURNAL_BYTES};
 ghost use Rattle.checkpoint.specs.State.{IsEncodable};
-ghost use Rattle.epoch_replay.specs.Stretches.{IsAtMark, IsBegun, IsOfJob, IsPartResult, IsStretch};
+ghost use Rattle.epoch_replay.specs.Stretches.{IsAtMark, IsBegun, IsOfJob, IsPartResult, IsStretch, at_next_mark, end_of, start_of};
 
 use crate::epoch::play_epoch;
-use crate::mark::{open_mark, open_partial};
+use crate::mark::{is_right_mark, is_right_partial, open_mark, open_partial};
 use disk_model::Gate;
 use dp_base::OutOfMemory;
 use guest_kernel::State;
@@ -25,16 +25,24 @@ pub(crate) struct PartJob {
     /// Its number among those that run side by side, from 1.
     pub index: u32,
     pub stretch: Stretch,
-    /// The state in which the next of them begins. `None` for the last.
-    pub next: Option<State>,
+    /// How many marks it may pass.
+    pub marks: u32,
+    /// Where the next of them begins. `None` for the last.
+    pub next: Option<StretchStart>,
+}
+
+/// Where a stretch begins: at a mark's state, over the mark's base.
+#[derive(Drop)]
+pub(crate) struct StretchStart {
+    pub base: State,
+    pub state: State,
 }
 
 /// A job that was run.
 #[derive(Drop)]
 pub(crate) struct PartRun {
     pub stretch: Stretch,
-    /// Whether the stretch ends in the state in which the next one begins. The worker compares them, so that the replay
-    /// needn't.
+    /// Whether the stretch ends where the next one begins. The worker compares them, so that the replay needn't.
     pub meets: bool,
 }
 
@@ -45,10 +53,12 @@ pub(crate) struct Stretch {
     pub first: u64,
     /// The base of the mark with which it begins. If it begins with an epoch, this is the same as its start.
     pub base: State,
-    /// The state in which it begins, and the base of the mark after it.
+    /// The state in which it begins.
     pub start: State,
     /// The gate after its last record.
     pub at: u64,
+    /// The state at the last mark that it passed, or else its start: the base of the mark after it.
+    pub last: State,
     /// The state in which it ends.
     pub state: State,
     /// The output of its epochs, joined.
@@ -59,8 +69,9 @@ pub(crate) struct Stretch {
     pub epochs: u32,
 }
 
-/// Runs a stretch of the file: its epochs up to the next mark, or up to a limit of this file. Returns `None` if an
-/// epoch can't be run. `None` says nothing of the journal: the replay runs these records itself.
+/// Runs a stretch of the file: its epochs, and as many marks between them as the job may pass, up to the first that is
+/// wrong or to a limit of this file. Returns `None` if an epoch can't be run. `None` says nothing of the journal: the
+/// replay runs these records itself.
 pub(crate) fn run_job<G: Gate>(
     alloc: Global,
     file: &[u8],
@@ -76,25 +87,45 @@ pub(crate) fn run_job<G: Gate>(
     let PartJob {
         index: _,
         mut stretch,
+        marks,
         next,
     } = job;
-    let mut more = true;
-    'epochs: while more {
-        let Some(again) = grow(alloc, file, &mut stretch)? else {
-            return Ok(None);
-        };
-        more = again;
+    if !run_parts(alloc, file, marks, &mut stretch)? {
+        return Ok(None);
     }
-    let meets = is_same(&next, &stretch.state);
+    let meets = begins_at_end(&next, &stretch);
     Ok(Some(PartRun { stretch, meets }))
 }
 
-// Whether there is a next state and it is this one.
-fn is_same(next: &Option<State>, state: &State) -> bool
-    ensures { result ≡ true → next.now ≡ Some state.now }
+// Runs the epochs at the end of a stretch, and those after so many marks, up to a record that is none of these or to a
+// limit of this file. Returns whether each epoch can be run.
+fn run_parts(
+    alloc: Global,
+    file: &[u8],
+    marks: u32,
+    stretch: &mut Stretch,
+) -> Result<bool, OutOfMemory>
+    requires few { length file.now ≤ MAX_JOURNAL_BYTES }
+    requires is { IsStretch file.now stretch.old }
+    ensures is { IfOk result (λ ran. IsTrue ran → IsStretch file.now stretch.new) }
+    ensures same { (stretch.new.base ≡ stretch.old.base) × (stretch.new.start ≡ stretch.old.start) }
+{
+    let mut ran = run_epochs(alloc, file, stretch)?;
+    'marks: for _ in 0..marks {
+        if !ran || !pass_mark(alloc, file, stretch)? {
+            return Ok(ran);
+        }
+        ran = run_epochs(alloc, file, stretch)?;
+    }
+    Ok(ran)
+}
+
+// Whether there is a next start and it is where this stretch ends.
+fn begins_at_end(next: &Option<StretchStart>, stretch: &Stretch) -> bool
+    ensures { result ≡ true → next.now ≡ Some (end_of stretch.now) }
 {
     match next {
-        Some(next) => equal(next, state),
+        Some(next) => equal(&next.state, &stretch.state) && equal(&next.base, &stretch.last),
         None => false,
     }
 }
@@ -107,17 +138,20 @@ pub(crate) fn begin_at(
     state: &State,
 ) -> Result<Stretch, OutOfMemory>
     requires within { at ≤ length file.now }
+    requires encodable { IsEncodable state.now }
     ensures is { IfOk result (IsStretch file.now) }
     ensures start { IfOk result (λ stretch. stretch.start ≡ state.now) }
 {
     let base = state.share(alloc)?;
     let start = state.share(alloc)?;
+    let last = state.share(alloc)?;
     let state = state.share(alloc)?;
     Ok(Stretch {
         first: at,
         base,
         start,
         at,
+        last,
         state,
         output: Vec::new(alloc),
         records: 0,
@@ -165,11 +199,13 @@ fn begin_after(
     };
     let base = base.share(alloc)?;
     let start = state.share(alloc)?;
+    let last = state.share(alloc)?;
     Ok(Some(Stretch {
         first: at,
         base,
         start,
         at: next,
+        last,
         state,
         output: Vec::new(alloc),
         records: 1,
@@ -177,12 +213,39 @@ fn begin_after(
     }))
 }
 
+/// Returns where a stretch begins.
+pub(crate) fn start_at(alloc: Global, stretch: &Stretch) -> Result<StretchStart, OutOfMemory>
+    ensures { IfOk result (λ start. start ≡ start_of stretch.now) }
+{
+    let base = stretch.base.share(alloc)?;
+    let state = stretch.start.share(alloc)?;
+    Ok(StretchStart { base, state })
+}
+
+// Runs the epochs at the end of a stretch, up to the next record that is none or to a limit of this file. Returns
+// whether each can be run.
+fn run_epochs(alloc: Global, file: &[u8], stretch: &mut Stretch) -> Result<bool, OutOfMemory>
+    requires few { length file.now ≤ MAX_JOURNAL_BYTES }
+    requires is { IsStretch file.now stretch.old }
+    ensures is { IfOk result (λ ran. IsTrue ran → IsStretch file.now stretch.new) }
+    ensures same { (stretch.new.base ≡ stretch.old.base) × (stretch.new.start ≡ stretch.old.start) }
+{
+    let mut more = true;
+    'epochs: while more {
+        let Some(again) = grow(alloc, file, stretch)? else {
+            return Ok(false);
+        };
+        more = again;
+    }
+    Ok(true)
+}
+
 // Runs the epoch at the end of a stretch. Returns whether there was one, or `None` if it can't be run.
 fn grow(alloc: Global, file: &[u8], stretch: &mut Stretch) -> Result<Option<bool>, OutOfMemory>
     requires few { length file.now ≤ MAX_JOURNAL_BYTES }
     requires is { IsStretch file.now stretch.old }
     ensures is { IfOk result (λ found. IfSome found (λ more. IsStretch file.now stretch.new)) }
-    ensures same { IfOk result (λ found. (stretch.new.base ≡ stretch.old.base) × (stretch.new.start ≡ stretch.old.start)) }
+    ensures same { (stretch.new.base ≡ stretch.old.base) × (stretch.new.start ≡ stretch.old.start) }
     ensures goes_on { IfOk result (λ found. IfSome found (λ more. IsTrue more → stretch.old.at < stretch.new.at)) }
     ensures stays { IfOk result (λ found. IfSome found (λ more. stretch.old.at ≤ stretch.new.at)) }
 {
@@ -208,4 +271,44 @@ fn grow(alloc: Global, file: &[u8], stretch: &mut Stretch) -> Result<Option<bool
     stretch.records += 1;
     stretch.epochs += 1;
     Ok(Some(true))
+}
+
+// Passes the mark at the end of a stretch, if there is one and it is right. Returns whether it did.
+fn pass_mark(alloc: Global, file: &[u8], stretch: &mut Stretch) -> Result<bool, OutOfMemory>
+    requires few { length file.now ≤ MAX_JOURNAL_BYTES }
+    requires is { IsStretch file.now stretch.old }
+    ensures is { IfOk result (λ passed. IsStretch file.now stretch.new) }
+    ensures same { (stretch.new.base ≡ stretch.old.base) × (stretch.new.start ≡ stretch.old.start) }
+{
+    journal_text::laws::reading_goes_on();
+    journal_text::laws::a_record_stands_at_its_gate();
+    match next_record(file, stretch.at) {
+        Rec::Mark { body, next } => {
+            if !is_right_mark(alloc, &stretch.state, body)? {
+                return Ok(false);
+            }
+            go_past(alloc, next, stretch)?;
+            Ok(true)
+        }
+        Rec::Partial { body, next } => {
+            if !is_right_partial(alloc, &stretch.last, &stretch.state, body)? {
+                return Ok(false);
+            }
+            go_past(alloc, next, stretch)?;
+            Ok(true)
+        }
+        _ => Ok(false),
+    }
+}
+
+// Goes on to the gate after a right mark. The state here is the base of the next mark.
+fn go_past(alloc: Global, next: u64, stretch: &mut Stretch) -> Result<(), OutOfMemory>
+    requires few { stretch.old.records < 2 ^ 32 - 1 }
+    ensures past { IfOk result (λ done. stretch.new ≡ at_next_mark next stretch.old) }
+    ensures same { (stretch.new.base ≡ stretch.old.base) × (stretch.new.start ≡ stretch.old.start) }
+{
+    stretch.last = stretch.state.share(alloc)?;
+    stretch.at = next;
+    stretch.records += 1;
+    Ok(())
 }

@@ -1,8 +1,9 @@
-// Stretches of a journal, run side by side.
+// Parts of a journal, run side by side: each is a stretch from a mark up to a later one.
 ghost use Rattle.std.specs.Prelude.{◌≡◌, ◌<◌, ◌≤◌, ◌+◌, ℕ, Err, IfOk, IfSome, IsErrOf, IsTrue, length, Option, Some, slice_index_or, true};
 ghost use Rattle.dp_base.specs.declared.limits.TheConstants.{MAX_JOURNAL_BYTES};
 ghost use Rattle.dp_base.specs.Counts.{Rose};
 ghost use Rattle.disk_model.specs.History.{History};
+ghost use Rattle.checkpoint.specs.State.{IsEncodable};
 ghost use Rattle.journal_text.specs.Reading.{Reading};
 ghost use Rattle.epoch_replay.specs.declared.replay_fault.ReplayFault.TheVariants as faults;
 ghost use Rattle.epoch_replay.specs.Playing.{IsBounded, PlayedSoFar};
@@ -10,7 +11,9 @@ ghost use Rattle.epoch_replay.specs.Faults.{ReplayMetNoOther};
 ghost use Rattle.epoch_replay.specs.Replaying.{EachReplayMoment};
 ghost use Rattle.epoch_replay.specs.Stretches.{AreLinkedResults, AreLinkedJobs, ArePartJobs, ArePartResults, IsAtEndOf, IsBegun, IsFirstReachedBy, IsHere, IsOfJob, IsOneMore, IsPartResult, IsReachedBy, IsStretch, WasPartTaken};
 
-use crate::journal_stretch::{PartJob, PartRun, Stretch, begin_at, begin_at_mark, run_job};
+use crate::journal_stretch::{
+    PartJob, PartRun, Stretch, StretchStart, begin_at, begin_at_mark, run_job, start_at,
+};
 use crate::progress::Progress;
 use crate::replay_fault::ReplayFault;
 use device::send_all;
@@ -19,7 +22,6 @@ use dp_base::OutOfMemory;
 use dp_base::journal_writer::OPEN_GATE;
 use dp_base::limits::MAX_WORKERS;
 use dp_base::little_endian::{read_u32, read_u64};
-use guest_kernel::State;
 use journal_text::MARK_KIND;
 use partial_mark::PARTIAL_KIND;
 use state_compare::equal;
@@ -27,13 +29,29 @@ use std::alloc::{AllocError, Global};
 use std::thread;
 use std::thread::Threads;
 
-// A stretch is worth a thread if its work is this much on average: about a tenth of a millisecond. Starting a thread
-// and joining it takes 3 to 15 microseconds.
+// A part is worth a thread if its work is this much on average: about a tenth of a millisecond. Starting a thread and
+// joining it takes 3 to 15 microseconds.
 const WORTH_A_THREAD: u64 = 16_384;
 
-/// Runs stretches side by side from the replay's offset, if it is at the first record or at a mark, and takes the
-/// results in order, up to the first whose start the play doesn't reach. Returns whether the replay went on. With one
-/// worker it returns `false` at once.
+// A part goes on over marks up to about this much work, some twenty milliseconds. All threads of a window wait for its
+// last, so longer parts lose less.
+const PART_WORK: u64 = 1 << 21;
+
+// The most stretches between two marks that a part has.
+const MAX_STRETCHES: u64 = 64;
+
+// The parts of a window, which run side by side.
+#[derive(Clone, Copy)]
+struct Window {
+    // How many follow the first part.
+    more_parts: u32,
+    // How many marks a part passes.
+    inner_marks: u32,
+}
+
+/// Runs parts side by side from the replay's offset, if it is at the first record or at a mark, and takes the results in
+/// order, up to the first whose start the play doesn't reach. Returns whether the replay went on. With one worker it
+/// returns `false` at once, and also before the gate `alone`, up to which no parts are worth their threads.
 pub(crate) fn play_window<R: Threads + Sync, W: World, G: Gate + Sync>(
     rt: &R,
     alloc: Global,
@@ -41,6 +59,7 @@ pub(crate) fn play_window<R: Threads + Sync, W: World, G: Gate + Sync>(
     file: &[u8],
     workers: u32,
     gate: &G,
+    alone: &mut u64,
     progress: &mut Progress,
 ) -> Result<bool, ReplayFault>
     requires few { length file.now ≤ MAX_JOURNAL_BYTES }
@@ -63,12 +82,14 @@ pub(crate) fn play_window<R: Threads + Sync, W: World, G: Gate + Sync>(
     ensures sink_count { W.sink_faults world.old ≤ W.sink_faults world.new }
 {
     let first = progress.number == 1;
-    if workers < 2 || !(first || is_mark_at(file, progress.at)) {
+    if workers < 2 || progress.at < *alone || !(first || is_mark_at(file, progress.at)) {
         return Ok(false);
     }
-    let ahead = workers.min(MAX_WORKERS) - 1;
+    let Some(window) = window_at(file, workers.min(MAX_WORKERS), alone, progress) else {
+        return Ok(false);
+    };
     // If memory runs out for the jobs or their threads, the replay goes on record by record.
-    let Ok(jobs) = jobs_from(alloc, file, ahead, progress) else {
+    let Ok(jobs) = jobs_from(alloc, file, window, progress) else {
         return Ok(false);
     };
     if jobs.len() < 2 {
@@ -82,12 +103,12 @@ pub(crate) fn play_window<R: Threads + Sync, W: World, G: Gate + Sync>(
     Ok(progress.at > before)
 }
 
-// The jobs of a window: one from the replay's offset, and one from each of the next marks, at most `ahead` of them. The
-// marks are opened in their order, each over the one before. Empty if their stretches aren't worth their threads.
+// The jobs of a window, one for each part. The marks are opened in their order, each over the one before. Empty if there
+// is no state to begin in.
 fn jobs_from(
     alloc: Global,
     file: &[u8],
-    ahead: u32,
+    window: Window,
     progress: &Progress,
 ) -> Result<Vec<PartJob>, OutOfMemory>
     requires few { length file.now ≤ MAX_JOURNAL_BYTES }
@@ -95,36 +116,91 @@ fn jobs_from(
     ensures jobs { IfOk result (λ jobs. ArePartJobs file.now jobs.items) }
     ensures linked { IfOk result (λ jobs. AreLinkedJobs jobs.items) }
 {
+    let Window {
+        more_parts,
+        inner_marks,
+    } = window;
     let mut jobs = Vec::new(alloc);
-    let (marks, last) = last_mark(file, progress.at, ahead);
-    if marks == 0 || work_up_to(file, progress, last) < u64::from(marks) * WORTH_A_THREAD {
-        return Ok(jobs);
-    }
     let Some(mut stretch) = begin_here(alloc, file, progress)? else {
         return Ok(jobs);
     };
-    let mut gate = progress.at;
-    'jobs: for _ in 0..marks {
-        let Some(mark) = next_mark(file, gate) else {
+    'jobs: for _ in 0..more_parts {
+        let Some(after) = begin_later(alloc, file, &stretch, inner_marks)? else {
             break;
         };
-        let Some(after) = begin_at_mark(alloc, file, mark, &stretch.start)? else {
-            break;
-        };
-        let next = Some(after.start.share(alloc)?);
-        push_job(&mut jobs, stretch, next)?;
+        let next = Some(start_at(alloc, &after)?);
+        push_job(&mut jobs, stretch, inner_marks, next)?;
         stretch = after;
-        gate = mark;
     }
-    push_job(&mut jobs, stretch, None)?;
+    push_job(&mut jobs, stretch, inner_marks, None)?;
     Ok(jobs)
+}
+
+// The window at the replay's offset. Each part has as many stretches between two marks, but the last, which may have
+// fewer. `None` if the parts aren't worth their threads: then `alone` is the gate of the last mark that was looked at, so
+// that none is looked at again.
+fn window_at(file: &[u8], workers: u32, alone: &mut u64, progress: &Progress) -> Option<Window> {
+    let workers = workers.max(1);
+    let first = next_mark(file, progress.at)?;
+    let work = work_up_to(file, progress, first).max(1);
+    let longest = (PART_WORK / work).max(1).min(MAX_STRETCHES) as u32;
+    let ahead = workers.saturating_mul(longest).saturating_sub(1);
+    let (marks, last) = last_mark(file, progress.at, ahead);
+    let inner_marks = marks / workers;
+    let more_parts = marks / inner_marks.saturating_add(1);
+    let worth = u64::from(more_parts) * WORTH_A_THREAD;
+    if more_parts == 0 || work_up_to(file, progress, last) < worth {
+        *alone = last;
+        return None;
+    }
+    Some(Window {
+        more_parts,
+        inner_marks,
+    })
+}
+
+// Begins a stretch at a mark after this one's first record, with this many marks between them. Returns `None` if there
+// are fewer marks, or if one has no state.
+fn begin_later(
+    alloc: Global,
+    file: &[u8],
+    stretch: &Stretch,
+    inner_marks: u32,
+) -> Result<Option<Stretch>, OutOfMemory>
+    requires few { length file.now ≤ MAX_JOURNAL_BYTES }
+    requires start { IsEncodable stretch.now.start }
+    ensures { IfOk result (IsBegun file.now) }
+{
+    let Some(mut later) = begin_next(alloc, file, stretch)? else {
+        return Ok(None);
+    };
+    'marks: for _ in 0..inner_marks {
+        let Some(next) = begin_next(alloc, file, &later)? else {
+            return Ok(None);
+        };
+        later = next;
+    }
+    Ok(Some(later))
+}
+
+// Begins a stretch at the first mark after this one's first record, over this one's start.
+fn begin_next(alloc: Global, file: &[u8], stretch: &Stretch) -> Result<Option<Stretch>, OutOfMemory>
+    requires few { length file.now ≤ MAX_JOURNAL_BYTES }
+    requires start { IsEncodable stretch.now.start }
+    ensures { IfOk result (IsBegun file.now) }
+{
+    match next_mark(file, stretch.first) {
+        Some(mark) => begin_at_mark(alloc, file, mark, &stretch.start),
+        None => Ok(None),
+    }
 }
 
 // Adds a job, numbered from 1 on.
 fn push_job(
     jobs: &mut Vec<PartJob>,
     stretch: Stretch,
-    next: Option<State>,
+    marks: u32,
+    next: Option<StretchStart>,
 ) -> Result<(), OutOfMemory>
     ensures { IfOk result (λ done. IsOneMore jobs.old.items stretch next jobs.new.items) }
 {
@@ -132,6 +208,7 @@ fn push_job(
     jobs.push(PartJob {
         index,
         stretch,
+        marks,
         next,
     })?;
     Ok(())
@@ -371,7 +448,7 @@ fn take<W: World>(
     ensures disk_count { W.disk_faults world.new ≡ W.disk_faults world.old }
     ensures sink_count { W.sink_faults world.old ≤ W.sink_faults world.new }
     ensures state { IfOk result (λ done. progress.new.state ≡ stretch.state) }
-    ensures base { IfOk result (λ done. progress.new.base ≡ stretch.start) }
+    ensures base { IfOk result (λ done. progress.new.base ≡ stretch.last) }
 {
     if send_all(world, Stream::Out, &stretch.output).is_err() {
         return Err(ReplayFault::OutputFault);
@@ -380,7 +457,7 @@ fn take<W: World>(
     progress.number += stretch.records;
     progress.epochs += stretch.epochs;
     progress.sent += stretch.output.len() as u64;
-    progress.base = stretch.start;
+    progress.base = stretch.last;
     progress.state = stretch.state;
     Ok(())
 }

@@ -28,10 +28,10 @@ use std::thread::Threads;
 
 /// Replays the journal on the attached disk: sends the output of its epochs on Out, in order, and then the report's
 /// line on Note. The world is returned whatever happens. The disk is read once, from its start, and isn't written. With
-/// one worker the epochs run one after another. With more, the stretches between marks run side by side, at most
-/// `workers` of them, and at most 64. If the answer is `DiskFault`, `OutputFault` or `OutOfMemory`, another number of
-/// workers may have gone further, or less far. All other answers are the same for every number, and so is all that is
-/// sent then.
+/// one worker the epochs run one after another. With more, parts of the journal run side by side, each from a mark up to
+/// a later one, at most `workers` of them, and at most 64. If the answer is `DiskFault`, `OutputFault` or `OutOfMemory`,
+/// another number of workers may have gone further, or less far. All other answers are the same for every number, and so
+/// is all that is sent then.
 ///
 /// At every moment of the call the disk is as it was, so a crash leaves the journal, and what was sent is a prefix of
 /// the output that the journal plays to.
@@ -62,8 +62,8 @@ pub fn replay<R: Threads + Sync, W: World>(
     replay_through(rt, alloc, world, workers, &OpenGate)
 }
 
-/// Replays as [`replay`] does, and passes a gate before each stretch that runs beside others: as worker and as job the
-/// stretch's number among those, from 1.
+/// Replays as [`replay`] does, and passes a gate before each part that runs beside others: as worker and as job the
+/// part's number among those, from 1.
 ///
 /// # Errors
 ///
@@ -185,9 +185,19 @@ fn play<R: Threads + Sync, W: World, G: Gate + Sync>(
         epochs: 0,
         sent: 0,
     };
+    let mut alone = 0;
     let mut more = true;
     'records: while more {
-        more = play_on(rt, alloc, world, workers, gate, file, &mut progress)?;
+        more = play_on(
+            rt,
+            alloc,
+            world,
+            workers,
+            gate,
+            file,
+            &mut alone,
+            &mut progress,
+        )?;
     }
     let report = Report {
         epochs: progress.epochs,
@@ -212,6 +222,7 @@ fn play_on<R: Threads + Sync, W: World, G: Gate + Sync>(
     workers: u32,
     gate: &G,
     file: &[u8],
+    alone: &mut u64,
     progress: &mut Progress,
 ) -> Result<bool, ReplayFault>
     requires few { length file.now ≤ MAX_JOURNAL_BYTES }
@@ -233,7 +244,7 @@ fn play_on<R: Threads + Sync, W: World, G: Gate + Sync>(
     ensures disk_count { W.disk_faults world.new ≡ W.disk_faults world.old }
     ensures sink_count { W.sink_faults world.old ≤ W.sink_faults world.new }
 {
-    if play_window(rt, alloc, world, file, workers, gate, progress)? {
+    if play_window(rt, alloc, world, file, workers, gate, alone, progress)? {
         return Ok(true);
     }
     play_record(alloc, world, file, progress)

@@ -1,4 +1,4 @@
-// Stretches that run side by side.
+// Parts that run side by side.
 use crate::journals::journal;
 use disk_mem::HoldGate;
 use disk_model::{Gate, World};
@@ -7,7 +7,7 @@ use std::sync::atomic::{AtomicU32, Ordering};
 use std::test::Fail;
 use test_worlds::{Failing, world_of};
 
-// Holds stretch 1 until stretch 2 has passed, and counts the passes.
+// Holds part 1 until part 2 has passed, and counts the passes.
 #[derive(Drop)]
 struct CountGate {
     hold: HoldGate,
@@ -21,12 +21,12 @@ impl Gate for CountGate {
     }
 }
 
-// The journal has six stretches that are worth a thread: with two workers the first of each two is held until the
-// second has begun. One worker runs no stretch beside another.
+// The journal has six stretches that are worth a thread. With fewer workers a part has several of them: the first part
+// is held until the second has begun. One worker runs no part beside another.
 #[test]
-fn two_stretches_run_at_once(rt: HostRuntime) -> Result<(), Fail> {
+fn two_parts_run_at_once(rt: HostRuntime) -> Result<(), Fail> {
     let alloc = rt.alloc();
-    for (workers, passes) in [(1u32, 0u32), (2, 6), (64, 6)] {
+    for (workers, passes) in [(1u32, 0u32), (2, 2), (4, 3), (64, 6)] {
         let bytes = journal(alloc, b"emememememe")?;
         let mut world = world_of(alloc, Failing::Never, Failing::Never, 4096)?.of_disk(
             alloc, &bytes,

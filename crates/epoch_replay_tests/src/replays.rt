@@ -97,6 +97,23 @@ pub(crate) fn of_journal<R: Threads + Sync>(
     Ok((answer, sent.len()))
 }
 
+/// What a replay by this many workers of the journal with these letters answers, and how many bytes of the guest's file
+/// it sends.
+pub(crate) fn by_workers<R: Threads + Sync>(
+    rt: &R,
+    alloc: Global,
+    letters: &[u8],
+    workers: u32,
+    sink: Failing,
+) -> Result<(Result<u32, ReplayFault>, usize), Fail> {
+    let journal = journal(alloc, letters)?;
+    let seen = replayed_by(rt, alloc, &journal, workers, sink, 4096)?;
+    if !guest(alloc)?.starts_with(&seen.sent) {
+        return Err("the bytes of the file are sent in order".into());
+    }
+    Ok((seen.answer, seen.sent.len()))
+}
+
 /// What replays of a journal by 1, 2, 3 and 64 workers answer and send, if they all do the same.
 pub(crate) fn agreed<R: Threads + Sync>(
     rt: &R,

@@ -6,5 +6,5 @@ use Rattle.epoch_replay.proofs.journal_stretch.begin_after.Goals as goal
 
 pub returns-clause-begun : goal.returns-clause-begun
 returns-clause-begun c = λ file has.
-    rw (c.in_ok-base.ensures, c.in_ok-start.ensures, c.new.ensures.items)
+    rw (c.in_ok-base.ensures, c.in_ok-start.ensures, c.in_ok-last.ensures, c.new.ensures.items)
     (subst (λ (o : Option State). IfSome o (λ s. IsAtMark file c.args.at c.args.base.now c.args.next s)) c.in-Some.is has)

@@ -19,7 +19,7 @@ returns-clause-is c =
     let counts = law.counts x.state e.slices e.answers there r.1 in
     let reads = law.reads x.state e.slices e.answers there r.1 in
     rw (c.in_ok-extend_from_slice.ensures.items, c.deref.ensures.value)
-    (grown file x.first x.base x.start x.at x.state x.output.items x.records x.epochs c.requires.is c.in-Epoch.next e one f.1.further f.1.within
+    (grown file x.first x.base x.start x.at x.last x.state x.output.items x.records x.epochs c.requires.is c.in-Epoch.next e one f.1.further f.1.within
     c.play_epoch.new.state c.in-Some.out.items r.0 r.1 f.1.record_is.0.steps counts reads (law.writes x.state e.slices e.answers there r.1)
-    (λ begins. c.a_run_keeps_a_state_encodable.ensures x.state e.slices e.answers there begins f.1.record_is.0.answers r.1
+    (c.a_run_keeps_a_state_encodable.ensures x.state e.slices e.answers there c.requires.is.encodable f.1.record_is.0.answers r.1
     (omega (arith, counts, f.1.record_is.0.steps, c.if-stretch-ge-TOO_MANY.false)) (omega (arith, reads, f.1.record_is.0.steps, c.if-stretch-ge-TOO_MANY-2.false))))

@@ -1,5 +1,4 @@
-use Rattle.std.proofs.Common.{sym, ◌∙◌}
 use Rattle.epoch_replay.proofs.journal_stretch.run_job.Goals as goal
 
 pub returns-clause-of_job : goal.returns-clause-of_job
-returns-clause-of_job g c = (c.epochs.invariant.base, c.epochs.invariant.start, λ meets. sym c.epochs.invariant.next ∙ c.is_same-meets.ensures meets)
+returns-clause-of_job g c = (c.in_ok-run_parts.ensures.same.0, c.in_ok-run_parts.ensures.same.1, λ meets. c.begins_at_end-meets.ensures meets)

@@ -32,3 +32,6 @@ pub take_all-requires-clause-linked : goal.take_all-requires-clause-linked
 take_all-requires-clause-linked g c =
     let e = c.in-Ok-run_jobs.ensures in
     linked c.in-Ok.jobs.items c.in-Ok-run_jobs.results.items e.len e.of_jobs c.in-Ok.ensures.linked
+
+pub returns-in_default-jobs_from-clause-moments : goal.returns-in_default-jobs_from-clause-moments
+returns-in_default-jobs_from-clause-moments g c = λ reading first so_far. so_far_moments reading c.args.file.now first _ c.args.progress.now so_far

@@ -1,4 +1,4 @@
-use Rattle.std.proofs.Common.{◌≡◌, Bool, Err, Option, Some, true, ap, subst, ◌∙◌, arith}
+use Rattle.std.proofs.Common.{Bool, Err, Option, true, ap, subst, ◌∙◌, arith}
 use Rattle.std.specs.Prelude.{IfSome}
 use Rattle.std.proofs.lemmas.Result.{err_from_is_err_and}
 use Rattle.epoch_replay.specs.Stretches.{IsAtEndOf}
