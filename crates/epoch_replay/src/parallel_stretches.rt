@@ -33,11 +33,12 @@ use std::thread::Threads;
 // joining it takes 3 to 15 microseconds.
 const WORTH_A_THREAD: u64 = 16_384;
 
-// A part goes on over marks up to about this much work, some twenty milliseconds. All threads of a window wait for its
-// last, so longer parts lose less.
-const PART_WORK: u64 = 1 << 21;
+// A part goes on over marks up to about this much work, some two hundred milliseconds. All threads of a window wait for
+// its last, and between two windows one thread runs alone, so longer parts lose less.
+const PART_WORK: u64 = 1 << 25;
 
-// The most stretches between two marks that a part has.
+// The most stretches between two marks that a part has. With a mark after every 16 epochs so many have no more output
+// than a stretch may hold.
 const MAX_STRETCHES: u64 = 64;
 
 // The parts of a window, which run side by side.

@@ -18,11 +18,22 @@ pub(crate) fn cost_of_pass(pages: u32, blocks: u32) -> u64 {
     PASS_STEPS + PAGE_STEPS * u64::from(pages) + BLOCK_STEPS * u64::from(blocks)
 }
 
-// Which stretches race. The first one does. After a stretch that didn't pay the next ones don't race: 2, then 4, and so
-// on up to 32. So it is after a round of which a job was squashed: what racing gained there was lost.
+// An epoch with fewer steps is short. Who asks for such epochs wants to see a race, and not speed.
+const SHORT_EPOCH: u64 = 4096;
+
+// How many stretches go by before the first that races, if their epochs are neither short nor worth a pass. Making the
+// words costs as much as many thousand steps, so a guest that ends soon never waits for it.
+const FIRST_LOOK: u32 = 16;
+
+// Which stretches race. The first one does, if its epoch is short or worth a pass, and else the seventeenth. After a
+// stretch that didn't pay the next ones don't race: 2, then 4, and so on up to 32. So it is after a round of which a job
+// was squashed: what racing gained there was lost.
 #[derive(Clone, Copy)]
 pub(crate) struct Pace {
+    // Whether no stretch has raced.
     is_new: bool,
+    // How many stretches didn't race before the first that does.
+    passed: u32,
     rest: u32,
     next_rest: u32,
     // Whether a stretch of this round has raced.
@@ -36,6 +47,7 @@ impl Pace {
     pub(crate) fn new() -> Pace {
         Pace {
             is_new: true,
+            passed: 0,
             rest: 0,
             next_rest: LEAST_REST,
             has_raced: false,
@@ -57,6 +69,10 @@ impl Pace {
     // Whether a stretch races that may have `steps` steps, if a pass costs `cost`.
     pub(crate) fn races(&mut self, steps: u64, cost: u64) -> bool {
         if self.is_new {
+            if steps >= SHORT_EPOCH && steps < cost && self.passed < FIRST_LOOK {
+                self.passed += 1;
+                return false;
+            }
             self.is_new = false;
             return true;
         }

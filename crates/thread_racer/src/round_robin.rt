@@ -3,7 +3,7 @@ ghost use Rattle.std.specs.Prelude.{◌≤◌};
 
 use crate::noted_pages::NotedPages;
 use crate::pass_part::run_hart;
-use crate::stopped_turns::take_turn;
+use crate::stopped_turns::{Taken, take_turn};
 use crate::stretch_course::Course;
 use crate::thread_run::{Share, ThreadRun, add_threads, grant, put_hart, running};
 use dp_base::OutOfMemory;
@@ -22,16 +22,28 @@ pub(crate) fn use_quotas(
     course: &mut Course,
 ) -> Result<(), OutOfMemory> {
     let mut memory = NotedPages::new(alloc)?;
+    use_quotas_in(alloc, state, supply, threads, course, &mut memory)
+}
+
+// The same, with a memory that has no pages and no entries.
+fn use_quotas_in(
+    alloc: Global,
+    state: &mut State,
+    supply: &Supply,
+    threads: &mut [ThreadRun],
+    course: &mut Course,
+    memory: &mut NotedPages,
+) -> Result<(), OutOfMemory> {
     for _ in 0..u32::MAX {
-        if !run_each(alloc, state, supply, threads, course, &mut memory)? {
+        if !run_each(alloc, state, supply, threads, course, memory)? {
             return Ok(());
         }
     }
     Ok(())
 }
 
-// Lets the threads go on, one after another, until the stretch is over or none can go on. Threads that wait leave their
-// steps to others.
+// Lets the threads go on, one after another, until the stretch is over or none can go on. Threads that wait or yield
+// leave their steps to others.
 pub(crate) fn run_to_end(
     alloc: Global,
     state: &mut State,
@@ -39,14 +51,15 @@ pub(crate) fn run_to_end(
     threads: &mut Vec<ThreadRun>,
     course: &mut Course,
 ) -> Result<(), OutOfMemory> {
-    use_quotas(alloc, state, supply, threads, course)?;
+    let mut memory = NotedPages::new(alloc)?;
+    use_quotas_in(alloc, state, supply, threads, course, &mut memory)?;
     for _ in 0..u32::MAX {
         add_threads(alloc, state, threads)?;
         if !grant(state, threads, course.left(state), Share::All) {
             return Ok(());
         }
         let before = state.steps;
-        use_quotas(alloc, state, supply, threads, course)?;
+        use_quotas_in(alloc, state, supply, threads, course, &mut memory)?;
         if state.steps == before {
             return Ok(());
         }
@@ -54,7 +67,7 @@ pub(crate) fn run_to_end(
     Ok(())
 }
 
-// Lets each thread go on, and take the turn of the call or trap at which it stops. Returns whether a step was taken.
+// Lets each thread go on. Returns whether a step was taken.
 fn run_each(
     alloc: Global,
     state: &mut State,
@@ -65,15 +78,43 @@ fn run_each(
 ) -> Result<bool, OutOfMemory> {
     let mut moved = false;
     for index in 0..threads.len() {
+        if run_through_calls(alloc, state, supply, threads, index, course, memory)? {
+            moved = true;
+        }
+    }
+    Ok(moved)
+}
+
+// Lets a thread go on, and take the turns of the calls at which it stops, until its quota is used or it waits, yields or
+// ends. A thread that yields loses its quota: it may look for what another one does. Returns whether a step was taken.
+fn run_through_calls(
+    alloc: Global,
+    state: &mut State,
+    supply: &Supply,
+    threads: &mut [ThreadRun],
+    index: usize,
+    course: &mut Course,
+    memory: &mut NotedPages,
+) -> Result<bool, OutOfMemory> {
+    let mut moved = false;
+    for _ in 0..u32::MAX {
         let went = match threads.get_mut(index) {
             Some(thread) => run_thread(state, thread, course, memory)?,
             None => Went::Nowhere,
         };
-        if went.has_stopped() && take_turn(alloc, state, supply, threads, index, course)? {
-            moved = true;
+        moved = moved || went.has_moved();
+        if !went.has_stopped() {
+            return Ok(moved);
         }
-        if went.has_moved() {
-            moved = true;
+        let taken = take_turn(alloc, state, supply, threads, index, course)?;
+        if taken == Taken::Nothing {
+            return Ok(moved);
+        }
+        moved = true;
+        if taken == Taken::AYield
+            && let Some(thread) = threads.get_mut(index)
+        {
+            thread.quota = 0;
         }
     }
     Ok(moved)

@@ -66,23 +66,36 @@ pub(crate) fn is_step_possible(state: &State, supply: &Supply) -> bool {
     false
 }
 
-// Takes a thread's turn if its answer is known. Returns whether it was taken.
+// What came of a turn.
+#[derive(Clone, Copy, PartialEq, Eq)]
+pub(crate) enum Taken {
+    Nothing,
+    AStep,
+    // A step after which other threads come first, as after a yield.
+    AYield,
+}
+
+// Takes a thread's turn if its answer is known.
 fn turn(
     alloc: Global,
     state: &mut State,
     supply: &Supply,
     tid: Tid,
     out: &mut Vec<u8>,
-) -> Result<bool, OutOfMemory> {
+) -> Result<Taken, OutOfMemory> {
     if state.steps >= MOST || state.input >= MOST {
-        return Ok(false);
+        return Ok(Taken::Nothing);
     }
     let turned = match answer_to(alloc, state, supply, tid)? {
         TurnAnswer::None => state.turn(alloc, tid, None, out)?,
         TurnAnswer::Known(answer) => state.turn(alloc, tid, Some(&answer), out)?,
-        TurnAnswer::Unknown => return Ok(false),
+        TurnAnswer::Unknown => return Ok(Taken::Nothing),
     };
-    Ok(matches!(turned, Turn::Stepped { .. }))
+    match turned {
+        Turn::Stepped { yielded: true, .. } => Ok(Taken::AYield),
+        Turn::Stepped { .. } => Ok(Taken::AStep),
+        _ => Ok(Taken::Nothing),
+    }
 }
 
 // Whether a thread that stopped at a call exits by it.
@@ -127,7 +140,7 @@ fn go_before_exit(
 }
 
 // Takes a thread's turn at a call or a trap, if the thread may take a step and the answer is known. The turn gets the
-// next ticket. Returns whether it was taken.
+// next ticket.
 pub(crate) fn take_turn(
     alloc: Global,
     state: &mut State,
@@ -135,25 +148,26 @@ pub(crate) fn take_turn(
     threads: &mut [ThreadRun],
     index: usize,
     course: &mut Course,
-) -> Result<bool, OutOfMemory> {
+) -> Result<Taken, OutOfMemory> {
     let (tid, quota) = match threads.get(index) {
         Some(thread) => (thread.tid, thread.quota),
-        None => return Ok(false),
+        None => return Ok(Taken::Nothing),
     };
     if quota == 0 || course.left(state) == 0 {
-        return Ok(false);
+        return Ok(Taken::Nothing);
     }
     if exits(state, tid) {
         go_before_exit(state, threads, index, course)?;
     }
-    if !turn(alloc, state, supply, tid, &mut course.out)? {
-        return Ok(false);
+    let taken = turn(alloc, state, supply, tid, &mut course.out)?;
+    if taken == Taken::Nothing {
+        return Ok(Taken::Nothing);
     }
     if let Some(thread) = threads.get_mut(index) {
         thread.note(1, course.tickets, 1, &[(0, Sc::NotSc)])?;
     }
     course.tickets = course.tickets.saturating_add(1);
-    Ok(true)
+    Ok(taken)
 }
 
 // Takes the turns of the threads that stopped at a call or a trap, lowest number first.

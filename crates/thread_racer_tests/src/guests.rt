@@ -51,6 +51,20 @@ pub(crate) const SPINS: [u32; 18] = [
     0x0000_0073,
 ];
 
+// Thread 1 takes five steps, which spawn thread 2, and then jumps to itself. Thread 2 yields with its second step and
+// with each second one after it.
+pub(crate) const YIELDS: [u32; 9] = [
+    0x0000_0517,
+    0x0185_0513,
+    0xf001_0593,
+    0x0040_0893,
+    0x0000_0073,
+    0x0000_006f,
+    0x0070_0893,
+    0x0000_0073,
+    0xffdf_f06f,
+];
+
 // Thread 1 takes 506 steps, which spawn 63 threads. Then all count, each in its own word.
 pub(crate) const MANY: [u32; 13] = [
     0x03f0_0493,

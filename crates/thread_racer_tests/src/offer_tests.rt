@@ -191,6 +191,23 @@ fn spins_for_a_flag(rt: HostRuntime) -> Result<(), Fail> {
     Ok(())
 }
 
+// A thread that yields leaves its steps to the other: of 600, 298, 147, 72, 34, 15 and 6 that are left, the other gets
+// half, and it takes two itself. Of a quota of 300 it would yield 150 times.
+#[test]
+fn yields(rt: HostRuntime) -> Result<(), Fail> {
+    let alloc = rt.alloc();
+    let supply = no_input(alloc)?;
+    let start = start(alloc, &YIELDS, 5)?;
+    let case = Case {
+        workers: 1,
+        ..Case::of_two(5, 600, 2)
+    };
+    let offers = offers_from(&rt, alloc, &start, &supply, case)?;
+    assert_eq!(rt; offers.len(), 1);
+    assert_eq!(rt; offers[0].hints.order.as_slice().len(), 7);
+    Ok(())
+}
+
 // How many states `ChaosRacer` offers, and how many of them are offered with as many hints. It runs by round robin.
 fn same_as_round_robin<R: Threads + Sync>(
     rt: &R,

@@ -138,3 +138,31 @@ fn input_is_no_squash(rt: HostRuntime) -> Result<(), Fail> {
     assert_eq!(rt; waits_and_races(&rt, rt.alloc())?, (81_935, true));
     Ok(())
 }
+
+// The first of so many rounds in which two threads race, each of an epoch of so many steps, or 0 if none is.
+fn first_race<R: Threads + Sync>(rt: &R, alloc: Global, epoch: u32) -> Result<u32, Fail> {
+    let supply = no_input(alloc)?;
+    let gate = NotingGate {
+        passed: AtomicBool::new(false),
+    };
+    let mut racer = ThreadRacer::gated(2, &gate);
+    let mut last = start(alloc, &PRIVATE, 5)?;
+    for number in 1..=20 {
+        run(alloc, &mut last, 1, 10)?;
+        let (offered, raced) = round(rt, alloc, &mut racer, &gate, &last, &supply, epoch)?;
+        if raced {
+            return Ok(number);
+        }
+        last = offered;
+    }
+    Ok(0)
+}
+
+// With epochs that aren't worth a pass the first sixteen stretches don't race, unless the epochs are short.
+#[test]
+fn looks_late(rt: HostRuntime) -> Result<(), Fail> {
+    for (epoch, first) in [(4095, 1), (4096, 17), (20_000, 17), (32_000, 1)] {
+        assert_eq!(rt; first_race(&rt, rt.alloc(), epoch)?, first, "epoch {epoch}");
+    }
+    Ok(())
+}
