@@ -49,16 +49,22 @@ pub fn read_whole<W: World>(alloc: Global, world: &mut W) -> Result<Vec<u8>, Rea
     ensures count { W.disk_faults world.old ≤ W.disk_faults world.new }
     ensures sink { W.sink_faults world.new ≡ W.sink_faults world.old }
 {
+    let zeros = [0; CHUNK_BYTES];
     let mut bytes = Vec::new(alloc);
     let mut more = true;
     'chunks: while more && bytes.len() < MAX_JOURNAL_BYTES as usize {
-        more = read_chunk(world, &mut bytes)?;
+        more = read_chunk(world, &zeros, &mut bytes)?;
     }
     Ok(bytes)
 }
 
-// Reads on after these bytes, up to 2^30 in all. Returns whether there was something.
-fn read_chunk<W: World>(world: &mut W, bytes: &mut Vec<u8>) -> Result<bool, ReadFault>
+// Reads on after these bytes, up to 2^30 in all. Returns whether there was something. The zeros make the room into which
+// it reads, so that each byte is copied once.
+fn read_chunk<W: World>(
+    world: &mut W,
+    zeros: &[u8; CHUNK_BYTES],
+    bytes: &mut Vec<u8>,
+) -> Result<bool, ReadFault>
     requires { length bytes.old.items < MAX_JOURNAL_BYTES }
     ensures bytes { IfOk result (λ more. IsReadSoFar (known_disk (W.history world.old)) bytes.old.items →
         IsReadOn (known_disk (W.history world.old)) bytes.new.items more) }
@@ -72,9 +78,10 @@ fn read_chunk<W: World>(world: &mut W, bytes: &mut Vec<u8>) -> Result<bool, Read
     ensures count { W.disk_faults world.old ≤ W.disk_faults world.new }
     ensures sink { W.sink_faults world.new ≡ W.sink_faults world.old }
 {
-    let mut chunk = [0; CHUNK_BYTES];
-    let most = (MAX_JOURNAL_BYTES as usize - bytes.len()).min(CHUNK_BYTES);
-    let count = world.read_at(bytes.len() as u64, &mut chunk[..most])?;
-    write_bytes(bytes, &chunk[..count])?;
+    let at = bytes.len();
+    let most = (MAX_JOURNAL_BYTES as usize - at).min(CHUNK_BYTES);
+    write_bytes(bytes, &zeros[..most])?;
+    let count = world.read_at(at as u64, &mut bytes[at..])?;
+    bytes.truncate(at + count);
     Ok(count > 0)
 }

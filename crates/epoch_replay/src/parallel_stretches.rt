@@ -37,8 +37,8 @@ const WORTH_A_THREAD: u64 = 16_384;
 // its last, and between two windows one thread runs alone, so longer parts lose less.
 const PART_WORK: u64 = 1 << 25;
 
-// The most stretches between two marks that a part has. With a mark after every 16 epochs so many have no more output
-// than a stretch may hold.
+// The most stretches between two marks that a part has. With a mark after every 16 epochs so many have about as much
+// output as a stretch may hold.
 const MAX_STRETCHES: u64 = 64;
 
 // The parts of a window, which run side by side.
