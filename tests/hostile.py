@@ -20,6 +20,8 @@ import time
 HERE = os.path.dirname(os.path.realpath(__file__))
 DPCLI = os.path.realpath(os.environ.get("DPCLI", os.path.join(HERE, "../crates/dpcli/out/dpcli")))
 MOST_SECONDS = 10
+# Large guests take a second or two, on a host that serves others too ten.
+MOST_SECONDS_OF_LARGE = 60
 MIB = 1 << 20
 
 # What each command may end with. Memory and the system's devices are there, so no case may end with 13, and 3, 5, 6 and 7 come only where a
@@ -68,8 +70,8 @@ def read(path):
         return b""
 
 
-def run(folder, words, given=b""):
-    """Runs the program in a folder."""
+def run(folder, words, given=b"", most_seconds=MOST_SECONDS):
+    """Runs the program in a folder, for so many seconds at most."""
     out, note, given_path = (os.path.join(folder, name) for name in ("out", "note", "given"))
     with open(given_path, "wb") as file:
         file.write(given)
@@ -79,14 +81,14 @@ def run(folder, words, given=b""):
         waiting = select.poll()
         ends = os.pidfd_open(child.pid)
         waiting.register(ends, select.POLLIN)
-        is_late = not waiting.poll(MOST_SECONDS * 1000)
+        is_late = not waiting.poll(most_seconds * 1000)
         if is_late:
             child.kill()
         _, wait_status, usage = os.wait4(child.pid, 0)
         os.close(ends)
         child.returncode = os.waitstatus_to_exitcode(wait_status)
     if is_late:
-        raise Wrong(f"ran longer than {MOST_SECONDS} seconds: {words}")
+        raise Wrong(f"ran longer than {most_seconds} seconds: {words}")
     if child.returncode < 0:
         raise Wrong(f"ended by signal {-child.returncode}: {words}")
     return Ran(child.returncode, time.monotonic() - start, usage.ru_maxrss * 1024, read(out), read(note))
@@ -423,10 +425,12 @@ def large_runs(folder, tally):
             os.remove(journal)
         options = ["--ahead", str(ahead), "--workers", str(workers), "--epoch", "20000", "--mark", "4", "--limit", str(20000 * epochs)]
         bound = memory_bound("record", ahead=ahead)
-        recorded = judged(tally, "record", run(folder, ["record", path, journal, *options]), {11}, bound)
+        ran = run(folder, ["record", path, journal, *options], most_seconds=MOST_SECONDS_OF_LARGE)
+        recorded = judged(tally, "record", ran, {11}, bound)
         length = os.path.getsize(journal)
         bound_of_replay = memory_bound("replay", length, workers)
-        replayed = judged(tally, "replay", run(folder, ["replay", journal, "--workers", str(workers)]), {0}, bound_of_replay)
+        ran = run(folder, ["replay", journal, "--workers", str(workers)], most_seconds=MOST_SECONDS_OF_LARGE)
+        replayed = judged(tally, "replay", ran, {0}, bound_of_replay)
         print(
             f"{pages + 16} pages, --ahead {ahead}, --workers {workers}, a journal of {epochs} epochs and {length:,} bytes: "
             f"record {recorded.memory / MIB:.0f} MiB of {bound / MIB:.0f}, replay {replayed.memory / MIB:.0f} MiB of {bound_of_replay / MIB:.0f}",
