@@ -20,7 +20,7 @@ import time
 HERE = os.path.dirname(os.path.realpath(__file__))
 DPCLI = os.path.realpath(os.environ.get("DPCLI", os.path.join(HERE, "../crates/dpcli/out/dpcli")))
 MOST_SECONDS = 10
-# Large guests take a second or two, on a host that serves others too ten.
+# Large guests take a second or two. One took more than ten once, on a busy host.
 MOST_SECONDS_OF_LARGE = 60
 MIB = 1 << 20
 
