@@ -97,3 +97,59 @@ padding_more {A} count before now after is less pushed =
       so_far = padded_more count now less ∙ is.so_far;
     } in
     subst (λ (l : List (Option A)). IsPadding count before l) (sym pushed) one
+
+-- ---- entries with empty ones before them
+
+pub at_before : {A : Type 0} (n : ℕ) (entries : List (Option A)) (i : ℕ) → i < n → entry_at (replicate n None ++ entries) i ≡ None
+at_before zero entries i less = absurd (omega (arith, less))
+at_before (suc n) entries zero less = refl
+at_before (suc n) entries (suc i) less = at_before n entries i (omega (arith, less))
+
+pub at_after : {A : Type 0} (n : ℕ) (entries : List (Option A)) (i : ℕ) → n ≤ i → entry_at (replicate n None ++ entries) i ≡ entry_at entries (i - n)
+at_after zero entries i within =
+    let none : i ≡ i - 0 = omega arith in
+    ap (λ k. entry_at entries k) none
+at_after (suc n) entries zero within = absurd (omega (arith, within))
+at_after (suc n) entries (suc i) within =
+    let less : i - n ≡ suc i - suc n = omega arith in
+    at_after n entries i (omega (arith, within)) ∙ ap (λ k. entry_at entries k) less
+
+pub put_first : {A : Type 0} (i : ℕ) (a : A) → replicate i None ++ Some a ∷ [] ≡ entry_put i a []
+put_first zero a = refl
+put_first {A} (suc i) a = ap (λ (es : List (Option A)). None ∷ es) (put_first i a)
+
+pub put_before : {A : Type 0} (n : ℕ) (entries : List (Option A)) (i : ℕ) (a : A) → i < n → replicate i None ++ (padded (n - i) (Some a ∷ []) ++ entries) ≡ entry_put i a (replicate n None ++ entries)
+put_before zero entries i a less = absurd (omega (arith, less))
+put_before {A} (suc n) entries zero a less =
+    let left : suc n - 0 - 1 ≡ n = omega arith in
+    ap (λ k. Some a ∷ (replicate {A = Option A} k None ++ entries)) left
+put_before {A} (suc n) entries (suc i) a less =
+    let left : suc n - suc i ≡ n - i = omega arith in
+    ap (λ (es : List (Option A)). None ∷ es) (ap (λ k. replicate i None ++ (padded k (Some a ∷ []) ++ entries)) left ∙ put_before n entries i a (omega (arith, less)))
+
+put_after : {A : Type 0} (n : ℕ) (entries : List (Option A)) (i : ℕ) (a : A) → n ≤ i → replicate n None ++ entry_put (i - n) a entries ≡ entry_put i a (replicate n None ++ entries)
+put_after zero entries i a within =
+    let none : i - 0 ≡ i = omega arith in
+    ap (λ k. entry_put k a entries) none
+put_after (suc n) entries zero a within = absurd (omega (arith, within))
+put_after {A} (suc n) entries (suc i) a within =
+    let less : suc i - suc n ≡ i - n = omega arith in
+    ap (λ (es : List (Option A)). None ∷ es) (ap (λ k. replicate n None ++ entry_put k a entries) less ∙ put_after n entries i a (omega (arith, within)))
+
+pub slots_put : {X E A : Type 0} (r : Result X E) (n : ℕ) (entries new before : List (Option A)) (i : ℕ) (a : A) → n ≤ i → replicate n None ++ entries ≡ before → OnOk r (new ≡ entry_put (i - n) a entries) → OnOk r (replicate n None ++ new ≡ entry_put i a before)
+slots_put (Ok x) n entries new before i a within was is = ap (λ l. replicate n None ++ l) is ∙ put_after n entries i a within ∙ ap (λ l. entry_put i a l) was
+slots_put (Err e) n entries new before i a within was is = tt
+
+pub set_before : {A : Type 0} (n : ℕ) (entries : List (Option A)) (i : ℕ) → i < n → replicate n None ++ entries ≡ slice_set (replicate n None ++ entries) i None
+set_before zero entries i less = absurd (omega (arith, less))
+set_before (suc n) entries zero less = refl
+set_before {A} (suc n) entries (suc i) less = ap (λ (es : List (Option A)). None ∷ es) (set_before n entries i (omega (arith, less)))
+
+pub set_after : {A : Type 0} (n : ℕ) (entries : List (Option A)) (i : ℕ) → n ≤ i → replicate n None ++ slice_set entries (i - n) None ≡ slice_set (replicate n None ++ entries) i None
+set_after zero entries i within =
+    let none : i - 0 ≡ i = omega arith in
+    ap (λ k. slice_set entries k None) none
+set_after (suc n) entries zero within = absurd (omega (arith, within))
+set_after {A} (suc n) entries (suc i) within =
+    let less : suc i - suc n ≡ i - n = omega arith in
+    ap (λ (es : List (Option A)). None ∷ es) (ap (λ k. replicate n None ++ slice_set entries k None) less ∙ set_after n entries i (omega (arith, within)))

@@ -1,4 +1,4 @@
-use Rattle.std.proofs.Common.{◌≡◌, IfSome, List, Option, None, sym, subst}
+use Rattle.std.proofs.Common.{IfSome, Option, sym, subst}
 use Rattle.dp_base.specs.declared.page.Page.{Page}
 use Rattle.cow_pages.specs.Table.{IsAside}
 use Rattle.cow_pages.specs.declared.hand.TheConstants.{ENTRIES}
