@@ -237,3 +237,14 @@ aside_after r hand new nodes new_nodes number f before (Some p) kept was unheld 
       unheld = none;
       leaf = sym (ap (λ (x : Option Page). option_or x (leaf new_nodes p.number)) none) ∙ found_elsewhere r hand new nodes new_nodes number f ok err p.number kept.0 ∙ aside_found hand nodes p aside;
     }
+
+pub aside_same : (hand new : Slots) (nodes new_nodes : Nodes) (number : ℕ) (before x : Option Page) → IfSome x (λ p. (number ≡ p.number → ⊥) × (before ≡ Some p)) → IfSome before (IsAside hand nodes)
+    → ((n : ℕ) → (number ≡ n → ⊥) → held hand n ≡ None → held new n ≡ None) → ((n : ℕ) → found new new_nodes n ≡ found hand nodes n) → IfSome x (IsAside new new_nodes)
+aside_same hand new nodes new_nodes number before None kept was unheld same = tt
+aside_same hand new nodes new_nodes number before (Some p) kept was unheld same =
+    let aside : IsAside hand nodes p = subst (λ (x : Option Page). IfSome x (IsAside hand nodes)) kept.1 was in
+    let none : held new p.number ≡ None = unheld p.number kept.0 aside.unheld in
+    record {
+      unheld = none;
+      leaf = sym (ap (λ (x : Option Page). option_or x (leaf new_nodes p.number)) none) ∙ same p.number ∙ aside_found hand nodes p aside;
+    }

@@ -135,13 +135,19 @@ finds_after hand new_hand nodes new_nodes order number f are keeps finds n =
 changed_order : (hand : Slots) (nodes : Nodes) (order : List ℕ) (number : ℕ) (f : Page → Page) → IsTable hand nodes order → ((p : Page) → Rewritten p (f p)) → order ≡ numbers (change_page number f (pages_numbered hand nodes order))
 changed_order hand nodes order number f are keeps = are.order ∙ sym (numbers_change number f (pages_numbered hand nodes order) (λ p. (keeps p).number))
 
+pub same_table : (hand new_hand : Slots) (nodes new_nodes : Nodes) (order : List ℕ) → IsTable hand nodes order → ((n : ℕ) → found new_hand new_nodes n ≡ found hand nodes n) → IsTable new_hand new_nodes order
+same_table hand new_hand nodes new_nodes order are same = table_is new_hand new_nodes order (pages_numbered hand nodes order) are.pages are.order (λ n. are.whole n ∙ sym (same n))
+
+pub same_pages : (hand new_hand : Slots) (nodes new_nodes : Nodes) (order : List ℕ) → IsTable hand nodes order → ((n : ℕ) → found new_hand new_nodes n ≡ found hand nodes n) → pages_numbered new_hand new_nodes order ≡ pages_numbered hand nodes order
+same_pages hand new_hand nodes new_nodes order are same = listed_is new_hand new_nodes order (pages_numbered hand nodes order) are.pages are.order (λ n. are.whole n ∙ sym (same n))
+
 pub table_changed : {X E : Type 0} (r : Result X E) (hand new_hand : Slots) (nodes new_nodes : Nodes) (order : List ℕ) (number : ℕ) (f : Page → Page) → IsTable hand nodes order → ((p : Page) → Rewritten p (f p))
     → OnOk r ((n : ℕ) → found new_hand new_nodes n ≡ found_changed number f (found hand nodes) n) → OnErr r ((n : ℕ) → found new_hand new_nodes n ≡ found hand nodes n) → IsTable new_hand new_nodes order
 table_changed (Ok x) hand new_hand nodes new_nodes order number f are keeps ok err =
     table_is new_hand new_nodes order (change_page number f (pages_numbered hand nodes order)) (ArePages-change number f (pages_numbered hand nodes order) are.pages keeps)
     (changed_order hand nodes order number f are keeps) (finds_after hand new_hand nodes new_nodes order number f are keeps ok)
 table_changed (Err e) hand new_hand nodes new_nodes order number f are keeps ok err =
-    table_is new_hand new_nodes order (pages_numbered hand nodes order) are.pages are.order (λ n. are.whole n ∙ sym (err n))
+    same_table hand new_hand nodes new_nodes order are err
 
 pub changed_on : {X E : Type 0} (r : Result X E) (hand new_hand : Slots) (nodes new_nodes : Nodes) (order : List ℕ) (number : ℕ) (f : Page → Page) (memory after : Memory) → IsTable hand nodes order → ((p : Page) → Rewritten p (f p))
     → pages_numbered hand nodes order ≡ memory → after ≡ change_page number f memory → OnOk r ((n : ℕ) → found new_hand new_nodes n ≡ found_changed number f (found hand nodes) n) → OnOk r (pages_numbered new_hand new_nodes order ≡ after)
@@ -155,7 +161,7 @@ pub same_on : {X E : Type 0} (r : Result X E) (hand new_hand : Slots) (nodes new
     → OnErr r ((n : ℕ) → found new_hand new_nodes n ≡ found hand nodes n) → OnErr r (pages_numbered new_hand new_nodes order ≡ memory)
 same_on (Ok x) hand new_hand nodes new_nodes order memory are view err = tt
 same_on (Err e) hand new_hand nodes new_nodes order memory are view err =
-    listed_is new_hand new_nodes order (pages_numbered hand nodes order) are.pages are.order (λ n. are.whole n ∙ sym (err n)) ∙ view
+    same_pages hand new_hand nodes new_nodes order are err ∙ view
 
 -- ---- a page put after all others
 

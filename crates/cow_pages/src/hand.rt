@@ -227,7 +227,12 @@ impl Hand {
     }
 
     // Takes the page with this number in hand, unless it is there. No page changes, also on an `Err`.
-    fn hold(&mut self, root: &mut Root, alloc: Global, number: u32) -> Result<(), OutOfMemory>
+    pub(crate) fn hold(
+        &mut self,
+        root: &mut Root,
+        alloc: Global,
+        number: u32,
+    ) -> Result<(), OutOfMemory>
         requires { IfSome (found self.old root.old number) (λ p. p.number ≡ number) }
         ensures same { (n : ℕ) → found self.new root.new n ≡ found self.old root.old n }
         ensures held { OnOk result (held self.new number ≡ found self.old root.old number) }

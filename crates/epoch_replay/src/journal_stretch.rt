@@ -90,6 +90,8 @@ pub(crate) fn run_job<G: Gate>(
         marks,
         next,
     } = job;
+    // The state is a mark's, or a share.
+    stretch.state.take_in_hand()?;
     if !run_parts(alloc, file, marks, &mut stretch)? {
         return Ok(None);
     }
