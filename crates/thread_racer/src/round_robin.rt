@@ -102,7 +102,9 @@ fn run_through_calls(
             Some(thread) => run_thread(state, thread, course, memory)?,
             None => Went::Nowhere,
         };
-        moved = moved || went.has_moved();
+        if went.has_moved() {
+            moved = true;
+        }
         if !went.has_stopped() {
             return Ok(moved);
         }
