@@ -1,5 +1,5 @@
 -- A play so far, and how it goes on and stops.
-use Rattle.std.proofs.Common.{◌≡◌, inl, inr, ℕ, ◌+◌, ◌-◌, ◌*◌, ◌<◌, ◌≤◌, ◌^◌, Bool, true, false, cond, List, [], ◌∷◌, ◌++◌, length, take, drop, Option, Some, Result, Ok, Err, refl, sym, ap, subst, ◌∙◌, append_assoc, arith}
+use Rattle.std.proofs.Common.{◌≡◌, inl, inr, ℕ, ◌+◌, ◌-◌, ◌*◌, ◌<◌, ◌≤◌, ◌^◌, Bool, true, false, cond, List, [], ◌∷◌, ◌++◌, length, take, drop, Option, Some, None, Result, Ok, Err, refl, sym, ap, subst, ◌∙◌, append_assoc, arith}
 use Rattle.std.proofs.lemmas.List.{append-nil, length-append, take_all, take-append-drop}
 use Rattle.dp_base.specs.declared.answer.Answer.{Answer}
 use Rattle.dp_base.specs.declared.limits.TheConstants.{MAX_CALL_BYTES, MAX_EPOCH_STEPS, MAX_JOURNAL_BYTES}
@@ -234,7 +234,7 @@ module _ (reading : Reading) (file : List ℕ) (first now : Option History) (p :
           ∙ behind_twice so_far.output output (play_from p.base s (p.number + 1) (left_at file next) reading.tail)
 
       pub epoch_sent : (later : Option History) (count : ℕ) → count ≡ length output → IfKnown (Sent Out output true) now later
-          → PlayedSoFar reading file first later (record { base = p.base; state = s; at = next; number = p.number + 1; epochs = p.epochs + 1; sent = p.sent + count })
+          → PlayedSoFar reading file first later (record { base = p.base; state = s; at = next; number = p.number + 1; epochs = p.epochs + 1; sent = p.sent + count; digest = None })
       epoch_sent later count counted known = record {
         accepted = so_far.accepted;
         output = so_far.output ++ output;
@@ -329,7 +329,7 @@ play_moments reading file first now p false is = all_moments reading first now p
 
 pub epoch_bounded : (file : List ℕ) (p : Progress) (s : State) (sent next : ℕ) (e : Epoch) → length file ≤ MAX_JOURNAL_BYTES → IsBounded file p → p.at < next → next ≤ length file
     → steps_of e.slices ≤ MAX_EPOCH_STEPS → s.steps ≡ p.state.steps + steps_of e.slices → s.input ≤ p.state.input + MAX_CALL_BYTES * steps_of e.slices → sent ≤ MAX_CALL_BYTES * steps_of e.slices
-    → (s.steps < 2 ^ 64 → s.input < 2 ^ 64 → IsEncodable s) → IsBounded file (record { base = p.base; state = s; at = next; number = p.number + 1; epochs = p.epochs + 1; sent = p.sent + sent })
+    → (s.steps < 2 ^ 64 → s.input < 2 ^ 64 → IsEncodable s) → IsBounded file (record { base = p.base; state = s; at = next; number = p.number + 1; epochs = p.epochs + 1; sent = p.sent + sent; digest = None })
 epoch_bounded file p s sent next e read is further within few counts reads writes encodable = record {
   base = is.base;
   encodable = encodable (omega (arith, is.few_steps, is.few_epochs, is.few, is.within, read, counts, few)) (omega (arith, is.little_input, is.few_epochs, is.few, is.within, read, reads, few));
@@ -339,6 +339,7 @@ epoch_bounded file p s sent next e read is further within few counts reads write
   few_epochs = omega (arith, is.few_epochs);
   few = omega (arith, is.few, further);
   within = within;
+  digest = tt;
 }
 
 -- after a mark
@@ -352,6 +353,7 @@ mark_bounded file p next is further within = record {
   few_epochs = omega (arith, is.few_epochs);
   few = omega (arith, is.few, further);
   within = within;
+  digest = is.digest;
 }
 
 -- ---- the reading of a file
@@ -368,7 +370,7 @@ abbrev pub Header : Type 0
 Header = (bytes guest list : List ℕ) → header_at (first_bytes bytes) ≡ Some (guest, list) → reads bytes ≡ Some (reading_of guest (length (first_bytes bytes)) (list_from list))
 
 abbrev pub at_start : (first : ℕ) → State → Progress
-at_start first start = record { base = start; state = start; at = first; number = 1; epochs = 0; sent = 0 }
+at_start first start = record { base = start; state = start; at = first; number = 1; epochs = 0; sent = 0; digest = None }
 
 -- a play of this file, whose list goes on or was played
 abbrev pub IsPlay : (file : List ℕ) → (first now : Option History) → Progress → (more : Bool) → Type 0
@@ -404,4 +406,5 @@ module _ (file : List ℕ) (first : ℕ) (start : State) (is : IsStart file firs
     few_epochs = omega arith;
     few = omega (arith, is.behind_header);
     within = is.within;
+    digest = tt;
   }

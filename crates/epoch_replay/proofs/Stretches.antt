@@ -160,9 +160,9 @@ module _ (reading : Reading) (file : List ℕ) (before now : Option History) (p 
       ∙ ap (λ (l : List ℕ). tail_at (next_at l) so_far.place (p.number + length (left_at file first))) is.rest
       ∙ ap (λ (n : ℕ). tail_at (next_at (list_from (drop place file)).1) so_far.place n) (omega (arith, is.count))
 
-  pub taken : (later : Option History) (count : ℕ) → count ≡ length output → IfKnown (Sent Out output true) now later
-      → PlayedSoFar reading file before later (record { base = last; state = state; at = place; number = p.number + records; epochs = p.epochs + epochs; sent = p.sent + count })
-  taken later count counted known = record {
+  pub taken : (later : Option History) (count : ℕ) (digest : Option (List ℕ)) → count ≡ length output → IfKnown (Sent Out output true) now later
+      → PlayedSoFar reading file before later (record { base = last; state = state; at = place; number = p.number + records; epochs = p.epochs + epochs; sent = p.sent + count; digest = digest })
+  taken later count digest counted known = record {
     accepted = so_far.accepted;
     output = so_far.output ++ output;
     plays = plays_behind;

@@ -2,10 +2,12 @@
 ghost use Rattle.std.specs.Prelude.{◌≡◌, ◌≤◌, ◌<◌, ◌-◌, ◌^◌, ℕ, List, IfOk, IfSome, IsTrue, Some, length, true};
 ghost use Rattle.dp_base.specs.declared.limits.TheConstants.{MAX_JOURNAL_BYTES};
 ghost use Rattle.checkpoint.specs.State.{IsEncodable};
+ghost use Rattle.epoch_replay.specs.Playing.{IsDigestOf};
 ghost use Rattle.epoch_replay.specs.Stretches.{IsAtMark, IsBegun, IsOfJob, IsPartResult, IsStretch, at_next_mark, end_of, start_of};
 
 use crate::epoch::play_epoch;
 use crate::mark::{is_right_mark, is_right_partial, open_mark, open_partial};
+use checkpoint::digest;
 use disk_model::Gate;
 use dp_base::OutOfMemory;
 use guest_kernel::State;
@@ -44,6 +46,8 @@ pub(crate) struct PartRun {
     pub stretch: Stretch,
     /// Whether the stretch ends where the next one begins. The worker compares them, so that the replay needn't.
     pub meets: bool,
+    /// The digest of the state in which the stretch ends, if the journal ends there.
+    pub digest: Option<[u8; 32]>,
 }
 
 /// A stretch that was run, and its results. It says nothing of what precedes it.
@@ -96,7 +100,12 @@ pub(crate) fn run_job<G: Gate>(
         return Ok(None);
     }
     let meets = begins_at_end(&next, &stretch);
-    Ok(Some(PartRun { stretch, meets }))
+    let digest = last_digest(file, &stretch);
+    Ok(Some(PartRun {
+        stretch,
+        meets,
+        digest,
+    }))
 }
 
 // Runs the epochs at the end of a stretch, and those after so many marks, up to a record that is none of these or to a
@@ -132,6 +141,17 @@ fn begins_at_end(next: &Option<StretchStart>, stretch: &Stretch) -> bool
     }
 }
 
+// The digest of the state in which a stretch ends, if the journal ends there. The other parts run meanwhile.
+fn last_digest(file: &[u8], stretch: &Stretch) -> Option<[u8; 32]>
+    requires { IsEncodable stretch.now.state }
+    ensures { IsDigestOf stretch.now.state result }
+{
+    match next_record(file, stretch.at) {
+        Rec::End { .. } => Some(digest(&stretch.state)),
+        _ => None,
+    }
+}
+
 /// Begins a stretch at this gate in this state, which is also the base.
 pub(crate) fn begin_at(
     alloc: Global,
@@ -161,6 +181,37 @@ pub(crate) fn begin_at(
     })
 }
 
+/// Returns the state of the mark at this gate, over this base, and the gate after the mark. Returns `None` if there is no
+/// mark, or if it has no state.
+pub(crate) fn mark_at(
+    alloc: Global,
+    file: &[u8],
+    at: u64,
+    base: &State,
+) -> Result<Option<(State, u64)>, OutOfMemory>
+    requires few { length file.now ≤ MAX_JOURNAL_BYTES }
+    requires base { IsEncodable base.now }
+    ensures { IfOk result (λ found. IfSome found (λ mark. IsAtMark file.now at base.now mark.1 mark.0)) }
+{
+    journal_text::laws::reading_goes_on();
+    journal_text::laws::a_record_stands_at_its_gate();
+    match next_record(file, at) {
+        Rec::Mark { body, next } => Ok(with_gate(open_mark(alloc, body)?, next)),
+        Rec::Partial { body, next } => Ok(with_gate(open_partial(alloc, body, base)?, next)),
+        _ => Ok(None),
+    }
+}
+
+// A mark's state, if it has one, and the gate after the mark.
+fn with_gate(state: Option<State>, next: u64) -> Option<(State, u64)>
+    ensures { (file : List ℕ) (at : ℕ) (base : State) → IfSome state (IsAtMark file at base next) → IfSome result (λ mark. IsAtMark file at base mark.1 mark.0) }
+{
+    match state {
+        Some(state) => Some((state, next)),
+        None => None,
+    }
+}
+
 /// Begins a stretch with the mark at this gate, over this base. Returns `None` if there is no mark, or if it has no
 /// state.
 pub(crate) fn begin_at_mark(
@@ -171,38 +222,28 @@ pub(crate) fn begin_at_mark(
 ) -> Result<Option<Stretch>, OutOfMemory>
     requires few { length file.now ≤ MAX_JOURNAL_BYTES }
     requires base { IsEncodable base.now }
-    ensures begun { IfOk result (IsBegun file.now) }
-    ensures base { IfOk result (λ begun. IfSome begun (λ stretch. stretch.base ≡ base.now)) }
+    ensures { IfOk result (IsBegun file.now) }
 {
-    journal_text::laws::reading_goes_on();
-    journal_text::laws::a_record_stands_at_its_gate();
-    match next_record(file, at) {
-        Rec::Mark { body, next } => begin_after(alloc, at, open_mark(alloc, body)?, base, next),
-        Rec::Partial { body, next } => {
-            begin_after(alloc, at, open_partial(alloc, body, base)?, base, next)
-        }
-        _ => Ok(None),
-    }
+    let Some((state, next)) = mark_at(alloc, file, at, base)? else {
+        return Ok(None);
+    };
+    Ok(Some(begin_after(alloc, at, state, base, next)?))
 }
 
 // Begins a stretch of one record, a mark of this state, up to the next gate.
 fn begin_after(
     alloc: Global,
     at: u64,
-    state: Option<State>,
+    state: State,
     base: &State,
     next: u64,
-) -> Result<Option<Stretch>, OutOfMemory>
-    ensures begun { (file : List ℕ) → IfSome state (λ s. IsAtMark file at base.now next s) → IfOk result (IsBegun file) }
-    ensures base { IfOk result (λ begun. IfSome begun (λ stretch. stretch.base ≡ base.now)) }
+) -> Result<Stretch, OutOfMemory>
+    ensures { (file : List ℕ) → IsAtMark file at base.now next state → IfOk result (λ stretch. IsBegun file (Some stretch)) }
 {
-    let Some(state) = state else {
-        return Ok(None);
-    };
     let base = base.share(alloc)?;
     let start = state.share(alloc)?;
     let last = state.share(alloc)?;
-    Ok(Some(Stretch {
+    Ok(Stretch {
         first: at,
         base,
         start,
@@ -212,7 +253,7 @@ fn begin_after(
         output: Vec::new(alloc),
         records: 1,
         epochs: 0,
-    }))
+    })
 }
 
 /// Returns where a stretch begins.

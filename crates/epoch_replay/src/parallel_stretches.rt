@@ -6,13 +6,13 @@ ghost use Rattle.disk_model.specs.History.{History};
 ghost use Rattle.checkpoint.specs.State.{IsEncodable};
 ghost use Rattle.journal_text.specs.Reading.{Reading};
 ghost use Rattle.epoch_replay.specs.declared.replay_fault.ReplayFault.TheVariants as faults;
-ghost use Rattle.epoch_replay.specs.Playing.{IsBounded, PlayedSoFar};
+ghost use Rattle.epoch_replay.specs.Playing.{IsBounded, IsDigestOf, PlayedSoFar};
 ghost use Rattle.epoch_replay.specs.Faults.{ReplayMetNoOther};
 ghost use Rattle.epoch_replay.specs.Replaying.{EachReplayMoment};
 ghost use Rattle.epoch_replay.specs.Stretches.{AreLinkedResults, AreLinkedJobs, ArePartJobs, ArePartResults, IsAtEndOf, IsBegun, IsFirstReachedBy, IsHere, IsOfJob, IsOneMore, IsPartResult, IsReachedBy, IsStretch, WasPartTaken};
 
 use crate::journal_stretch::{
-    PartJob, PartRun, Stretch, StretchStart, begin_at, begin_at_mark, run_job, start_at,
+    PartJob, PartRun, Stretch, StretchStart, begin_at, begin_at_mark, mark_at, run_job, start_at,
 };
 use crate::progress::Progress;
 use crate::replay_fault::ReplayFault;
@@ -40,6 +40,12 @@ const PART_WORK: u64 = 1 << 25;
 // The most stretches between two marks that a part has. With a mark after every 16 epochs so many have about as much
 // output as a stretch may hold.
 const MAX_STRETCHES: u64 = 64;
+
+// Of a digest, a page takes about as long as so many steps.
+const DIGEST_STEPS: u64 = 4_096;
+
+// At most one in so many stretches is spared for a digest.
+const MOST_SPARED: u32 = 8;
 
 // The parts of a window, which run side by side.
 #[derive(Clone, Copy)]
@@ -147,7 +153,13 @@ fn window_at(file: &[u8], workers: u32, alone: &mut u64, progress: &Progress) ->
     let longest = (PART_WORK / work).max(1).min(MAX_STRETCHES) as u32;
     let ahead = workers.saturating_mul(longest).saturating_sub(1);
     let (marks, last) = last_mark(file, progress.at, ahead);
-    let inner_marks = marks / workers;
+    let spared = if marks < ahead {
+        spared_stretches(progress, work).min(marks / MOST_SPARED)
+    } else {
+        0
+    };
+    let even = marks.saturating_add(1).saturating_add(spared) / workers;
+    let inner_marks = (marks / workers).max(even.saturating_sub(1));
     let more_parts = marks / inner_marks.saturating_add(1);
     let worth = u64::from(more_parts) * WORTH_A_THREAD;
     if more_parts == 0 || work_up_to(file, progress, last) < worth {
@@ -158,6 +170,13 @@ fn window_at(file: &[u8], workers: u32, alone: &mut u64, progress: &Progress) ->
         more_parts,
         inner_marks,
     })
+}
+
+// How many stretches of this much work take about as long as a digest of the replay's state. The last part of a journal
+// computes one, so it has fewer stretches than the others.
+fn spared_stretches(progress: &Progress, work: u64) -> u32 {
+    let steps = u64::from(progress.state.pages.pages()) * DIGEST_STEPS;
+    (steps / work.max(1)).min(u64::from(u32::MAX)) as u32
 }
 
 // Begins a stretch at a mark after this one's first record, with this many marks between them. Returns `None` if there
@@ -172,26 +191,20 @@ fn begin_later(
     requires start { IsEncodable stretch.now.start }
     ensures { IfOk result (IsBegun file.now) }
 {
-    let Some(mut later) = begin_next(alloc, file, stretch)? else {
-        return Ok(None);
-    };
+    let mut at = stretch.first;
+    let mut base = stretch.start.share(alloc)?;
     'marks: for _ in 0..inner_marks {
-        let Some(next) = begin_next(alloc, file, &later)? else {
+        let Some(mark) = next_mark(file, at) else {
             return Ok(None);
         };
-        later = next;
+        let Some((state, _)) = mark_at(alloc, file, mark, &base)? else {
+            return Ok(None);
+        };
+        at = mark;
+        base = state;
     }
-    Ok(Some(later))
-}
-
-// Begins a stretch at the first mark after this one's first record, over this one's start.
-fn begin_next(alloc: Global, file: &[u8], stretch: &Stretch) -> Result<Option<Stretch>, OutOfMemory>
-    requires few { length file.now ≤ MAX_JOURNAL_BYTES }
-    requires start { IsEncodable stretch.now.start }
-    ensures { IfOk result (IsBegun file.now) }
-{
-    match next_mark(file, stretch.first) {
-        Some(mark) => begin_at_mark(alloc, file, mark, &stretch.start),
+    match next_mark(file, at) {
+        Some(mark) => begin_at_mark(alloc, file, mark, &base),
         None => Ok(None),
     }
 }
@@ -402,13 +415,18 @@ fn take_part<W: World>(
     ensures sink_count { W.sink_faults world.old ≤ W.sink_faults world.new }
     ensures next { IfOk result (λ taken. IfSome taken (λ meets. IsAtEndOf progress.new meets part)) }
 {
-    let Ok(Some(PartRun { stretch, meets })) = part else {
+    let Ok(Some(run)) = part else {
         return Ok(None);
     };
+    let PartRun {
+        stretch,
+        meets,
+        digest,
+    } = run;
     if !is_reached(&stretch, known, progress) {
         return Ok(None);
     }
-    take(world, file, stretch, progress)?;
+    take(world, file, stretch, digest, progress)?;
     Ok(Some(meets))
 }
 
@@ -422,16 +440,18 @@ fn is_reached(stretch: &Stretch, known: bool, progress: &Progress) -> bool
         && (known || equal(&stretch.start, &progress.state) && equal(&stretch.base, &progress.base))
 }
 
-// Takes a stretch that begins where the replay is: sends its output, and goes on to its end.
+// Takes a stretch that begins where the replay is: sends its output, and goes on to its end, whose digest may be known.
 fn take<W: World>(
     world: &mut W,
     file: &[u8],
     stretch: Stretch,
+    digest: Option<[u8; 32]>,
     progress: &mut Progress,
 ) -> Result<(), ReplayFault>
     requires few { length file.now ≤ MAX_JOURNAL_BYTES }
     requires bounded { IsBounded file.now progress.old }
     requires is { IsStretch file.now stretch }
+    requires digest { IsDigestOf stretch.state digest }
     requires here { IsHere progress.old stretch }
     ensures taken { (reading : Reading) (first : Option History) →
         PlayedSoFar reading file.now first (W.history world.old) progress.old →
@@ -460,5 +480,6 @@ fn take<W: World>(
     progress.sent += stretch.output.len() as u64;
     progress.base = stretch.last;
     progress.state = stretch.state;
+    progress.digest = digest;
     Ok(())
 }

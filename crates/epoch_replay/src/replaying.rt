@@ -4,9 +4,10 @@ ghost use Rattle.dp_base.specs.declared.limits.TheConstants.{MAX_JOURNAL_BYTES};
 ghost use Rattle.dp_base.specs.Counts.{Rose};
 ghost use Rattle.disk_model.specs.History.{History};
 ghost use Rattle.disk_model.specs.Known.{known_disk};
+ghost use Rattle.checkpoint.specs.State.{IsEncodable, digest_of};
 ghost use Rattle.journal_text.specs.Reading.{Reading, reads};
 ghost use Rattle.epoch_replay.specs.declared.replay_fault.ReplayFault.TheVariants as faults;
-ghost use Rattle.epoch_replay.specs.Playing.{IsBounded, IsStart, PlayedOn, PlayedSoFar, past_mark};
+ghost use Rattle.epoch_replay.specs.Playing.{IsBounded, IsDigestOf, IsStart, PlayedOn, PlayedSoFar, past_mark};
 ghost use Rattle.epoch_replay.specs.Faults.{ReplayMetNoOther};
 ghost use Rattle.epoch_replay.specs.Replaying.{EachReplayMoment, IsKnownToEnd, IsNoReplayFault, OnDisk, Replayed};
 
@@ -184,6 +185,7 @@ fn play<R: Threads + Sync, W: World, G: Gate + Sync>(
         number: 1,
         epochs: 0,
         sent: 0,
+        digest: None,
     };
     let mut alone = 0;
     let mut more = true;
@@ -205,12 +207,24 @@ fn play<R: Threads + Sync, W: World, G: Gate + Sync>(
         steps: progress.state.steps,
         sent: progress.sent,
         end: progress.state.end,
-        state: digest(&progress.state),
+        state: state_digest(&progress),
     };
     let text = line(alloc, &report)?;
     match send_all(world, Stream::Note, &text) {
         Ok(()) => Ok(report),
         Err(_) => Err(ReplayFault::OutputFault),
+    }
+}
+
+// The digest of the replay's state.
+fn state_digest(progress: &Progress) -> [u8; 32]
+    requires encodable { IsEncodable progress.now.state }
+    requires known { IsDigestOf progress.now.state progress.now.digest }
+    ensures { result ≡ digest_of progress.now.state }
+{
+    match progress.digest {
+        Some(known) => known,
+        None => digest(&progress.state),
     }
 }
 
@@ -293,6 +307,7 @@ fn play_record<W: World>(
             progress.number += 1;
             progress.epochs += 1;
             progress.sent += out.len() as u64;
+            progress.digest = None;
             Ok(true)
         }
         Rec::Mark { body, next } => {

@@ -1,9 +1,5 @@
 use Rattle.checkpoint.specs.State.{IsEncodable}
-use Rattle.epoch_replay.specs.Stretches.{IsStretch}
 use Rattle.epoch_replay.proofs.parallel_stretches.begin_later.Given as goal
 
 abbrev pub invariant-marks : goal.invariant-marks
-invariant-marks l = record {
-  is : IsStretch l.file l.later;
-  start : IsEncodable l.later.start;
-}
+invariant-marks l = record { base : IsEncodable l.base }

@@ -15,7 +15,7 @@ pub returns-clause-taken : goal.returns-clause-taken
 returns-clause-taken g c = λ reading first so_far.
     let x = c.args.stretch in
     taken reading c.args.file.now first _ c.args.progress.now so_far x.first x.base x.start x.at x.last x.state x.output.items x.records x.epochs c.requires.is
-    c.requires.here.0 c.requires.here.1 c.requires.here.2 _ c.len.result (omega (arith, c.len.ensures))
+    c.requires.here.0 c.requires.here.1 c.requires.here.2 _ c.len.result c.args.digest (omega (arith, c.len.ensures))
     (sent_as Out _ _ _ true _ _ c.deref.ensures.value (not_failed c.send_all.result (sym c.is_err.ensures.value ∙ c.if-is_err.false)) c.send_all.ensures.history)
 
 pub returns-then-is_err-clause-moments : goal.returns-then-is_err-clause-moments

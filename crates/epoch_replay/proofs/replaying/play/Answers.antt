@@ -59,7 +59,7 @@ returns-in_err-text-clause-replayed g c =
     let made : List ℕ → Report = λ d. record { epochs = l.progress.epochs; squashes = 0; steps = l.progress.state.steps; sent = l.progress.sent; end = l.progress.state.end; state = d } in
     let play = subst (IsPlay c.args.file.now _ _ l.progress) c.records-test.false l.invariant.play in
     let p = err_from_is_err_and c.from_residual-in_err-text.result c.from_residual-in_err-text.ensures.1 in
-    rw (p.1 ∙ ap (λ e. Err e) p.2) (at_reading (reads c.args.file.now) play.0 (g.W.World.history c.args.world.now) (g.W.World.history l.world) (Err faults.OutOfMemory) play.1 (no_line play.0 _ _ l.progress play.2 (made c.digest.result) (ap made c.digest.ensures)))
+    rw (p.1 ∙ ap (λ e. Err e) p.2) (at_reading (reads c.args.file.now) play.0 (g.W.World.history c.args.world.now) (g.W.World.history l.world) (Err faults.OutOfMemory) play.1 (no_line play.0 _ _ l.progress play.2 (made c.state_digest.result) (ap made c.state_digest.ensures)))
 
 pub returns-in-Ok-clause-replayed : goal.returns-in-Ok-clause-replayed
 returns-in-Ok-clause-replayed g c =
@@ -67,7 +67,7 @@ returns-in-Ok-clause-replayed g c =
     let made : List ℕ → Report = λ d. record { epochs = l.progress.epochs; squashes = 0; steps = l.progress.state.steps; sent = l.progress.sent; end = l.progress.state.end; state = d } in
     let play = subst (IsPlay c.args.file.now _ _ l.progress) c.records-test.false l.invariant.play in
     let text = c.deref.ensures.value ∙ c.in_ok-text.ensures in
-    at_reading (reads c.args.file.now) play.0 (g.W.World.history c.args.world.now) (g.W.World.history c.send_all.new.world) (Ok (made c.digest.result)) play.1 (told play.0 _ _ l.progress play.2 (made c.digest.result) (ap made c.digest.ensures) _ (sent_as Note _ _ true true _ _ text refl c.in-Ok.ensures.history))
+    at_reading (reads c.args.file.now) play.0 (g.W.World.history c.args.world.now) (g.W.World.history c.send_all.new.world) (Ok (made c.state_digest.result)) play.1 (told play.0 _ _ l.progress play.2 (made c.state_digest.result) (ap made c.state_digest.ensures) _ (sent_as Note _ _ true true _ _ text refl c.in-Ok.ensures.history))
 
 pub returns-clause-replayed : goal.returns-clause-replayed
 returns-clause-replayed g c =
@@ -75,7 +75,7 @@ returns-clause-replayed g c =
     let made : List ℕ → Report = λ d. record { epochs = l.progress.epochs; squashes = 0; steps = l.progress.state.steps; sent = l.progress.sent; end = l.progress.state.end; state = d } in
     let play = subst (IsPlay c.args.file.now _ _ l.progress) c.records-test.false l.invariant.play in
     let text = c.deref.ensures.value ∙ c.in_ok-text.ensures in
-    at_reading (reads c.args.file.now) play.0 (g.W.World.history c.args.world.now) (g.W.World.history c.send_all.new.world) (Err faults.OutputFault) play.1 (not_told play.0 _ _ l.progress play.2 (made c.digest.result) (ap made c.digest.ensures) _ (sent_as Note _ _ false false _ _ text refl c.in-Err.ensures.history))
+    at_reading (reads c.args.file.now) play.0 (g.W.World.history c.args.world.now) (g.W.World.history c.send_all.new.world) (Err faults.OutputFault) play.1 (not_told play.0 _ _ l.progress play.2 (made c.state_digest.result) (ap made c.state_digest.ensures) _ (sent_as Note _ _ false false _ _ text refl c.in-Err.ensures.history))
 
 pub returns-in_err-more-clause-moments : goal.returns-in_err-more-clause-moments
 returns-in_err-more-clause-moments g c =
