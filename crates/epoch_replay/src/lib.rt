@@ -37,6 +37,7 @@ mod inspecting;
 mod journal_stretch;
 pub mod laws;
 mod mark;
+mod marks_ahead;
 mod parallel_stretches;
 mod progress;
 mod replay_fault;

@@ -14,16 +14,13 @@ ghost use Rattle.epoch_replay.specs.Stretches.{AreLinkedResults, AreLinkedJobs, 
 use crate::journal_stretch::{
     PartJob, PartRun, Stretch, StretchStart, begin_at, begin_at_mark, mark_at, run_job, start_at,
 };
+use crate::marks_ahead::{is_mark_at, last_mark, marks_to_open, next_mark, steps_of_mark};
 use crate::progress::Progress;
 use crate::replay_fault::ReplayFault;
 use device::send_all;
 use disk_model::{Gate, Stream, World};
 use dp_base::OutOfMemory;
-use dp_base::journal_writer::OPEN_GATE;
 use dp_base::limits::MAX_WORKERS;
-use dp_base::little_endian::{read_u32, read_u64};
-use journal_text::MARK_KIND;
-use partial_mark::PARTIAL_KIND;
 use state_compare::equal;
 use std::alloc::{AllocError, Global};
 use std::thread;
@@ -42,7 +39,7 @@ const PART_WORK: u64 = 1 << 25;
 const MAX_STRETCHES: u64 = 64;
 
 // Of a digest, a page takes about as long as so many steps.
-const DIGEST_STEPS: u64 = 4_096;
+const DIGEST_STEPS: u64 = 2_048;
 
 // At most one in so many stretches is spared for a digest.
 const MOST_SPARED: u32 = 8;
@@ -110,8 +107,8 @@ pub(crate) fn play_window<R: Threads + Sync, W: World, G: Gate + Sync>(
     Ok(progress.at > before)
 }
 
-// The jobs of a window, one for each part. The marks are opened in their order, each over the one before. Empty if there
-// is no state to begin in.
+// The jobs of a window, one for each part. The marks are opened in their order, each over the one opened before it. Empty
+// if there is no state to begin in.
 fn jobs_from(
     alloc: Global,
     file: &[u8],
@@ -179,8 +176,8 @@ fn spared_stretches(progress: &Progress, work: u64) -> u32 {
     (steps / work.max(1)).min(u64::from(u32::MAX)) as u32
 }
 
-// Begins a stretch at a mark after this one's first record, with this many marks between them. Returns `None` if there
-// are fewer marks, or if one has no state.
+// Begins a stretch at a mark after this one's first record, with this many marks between them. Of these only those are
+// opened that the last of them needs. Returns `None` if there are fewer marks, or if one that is opened has no state.
 fn begin_later(
     alloc: Global,
     file: &[u8],
@@ -191,16 +188,16 @@ fn begin_later(
     requires start { IsEncodable stretch.now.start }
     ensures { IfOk result (IsBegun file.now) }
 {
+    let Some(marks) = marks_to_open(alloc, file, stretch.first, inner_marks)? else {
+        return Ok(None);
+    };
     let mut at = stretch.first;
     let mut base = stretch.start.share(alloc)?;
-    'marks: for _ in 0..inner_marks {
-        let Some(mark) = next_mark(file, at) else {
+    'marks: for mark in marks.iter() {
+        let Some((state, _)) = mark_at(alloc, file, *mark, &base)? else {
             return Ok(None);
         };
-        let Some((state, _)) = mark_at(alloc, file, mark, &base)? else {
-            return Ok(None);
-        };
-        at = mark;
+        at = *mark;
         base = state;
     }
     match next_mark(file, at) {
@@ -245,77 +242,11 @@ fn begin_here(
     }
 }
 
-// How many marks follow the record at this gate, at most `ahead`, and the gate of the last of them.
-fn last_mark(file: &[u8], gate: u64, ahead: u32) -> (u32, u64) {
-    let mut last = gate;
-    'marks: for count in 0..ahead {
-        let Some(mark) = next_mark(file, last) else {
-            return (count, last);
-        };
-        last = mark;
-    }
-    (ahead, last)
-}
-
 // An estimate of the work from the replay's offset up to the mark at this gate: the steps, and a sixteenth of the
 // bytes. The mark's own count of steps is believed, since it decides only whether threads are started.
 fn work_up_to(file: &[u8], progress: &Progress, gate: u64) -> u64 {
     let steps = steps_of_mark(file, gate).saturating_sub(progress.state.steps);
     steps.saturating_add(gate.saturating_sub(progress.at) / 16)
-}
-
-// The count of steps in the mark at this gate: the first field after the gate, the length and the kind. 0 if it is cut
-// off.
-fn steps_of_mark(file: &[u8], gate: u64) -> u64 {
-    if gate >= file.len() as u64 {
-        return 0;
-    }
-    let rest = &file[gate as usize..];
-    if rest.len() < 6 {
-        return 0;
-    }
-    match read_u64(&rest[6..]) {
-        Some((steps, _)) => steps,
-        None => 0,
-    }
-}
-
-// The gate of the first mark after the record at this gate. `None` if the records end before it.
-fn next_mark(file: &[u8], gate: u64) -> Option<u64> {
-    let mut mark = next_gate(file, gate)?;
-    'gates: while !is_mark_at(file, mark) {
-        let next = next_gate(file, mark)?;
-        if next <= mark {
-            return None;
-        }
-        mark = next;
-    }
-    Some(mark)
-}
-
-// Whether the record at this gate has the kind of a mark, full or partial. Nothing else of the record is tested.
-fn is_mark_at(file: &[u8], gate: u64) -> bool {
-    if gate >= 1 << 40 {
-        return false;
-    }
-    match file.get(gate as usize + 5) {
-        Some(kind) => *kind == MARK_KIND || *kind == PARTIAL_KIND,
-        None => false,
-    }
-}
-
-// The gate after the record at this gate, by its length alone. `None` if this gate is closed.
-fn next_gate(file: &[u8], gate: u64) -> Option<u64> {
-    if gate >= file.len() as u64 {
-        return None;
-    }
-    let rest = &file[gate as usize..];
-    let (byte, rest) = rest.split_first()?;
-    if *byte != OPEN_GATE {
-        return None;
-    }
-    let (size, _) = read_u32(rest)?;
-    Some(gate.saturating_add(5 + u64::from(size)))
 }
 
 // Runs each job in a thread of its own.
