@@ -1,5 +1,6 @@
 // Parts of a journal, run side by side: each is a stretch from a mark up to a later one.
 ghost use Rattle.std.specs.Prelude.{◌≡◌, ◌<◌, ◌≤◌, ◌+◌, ℕ, Err, IfOk, IfSome, IsErrOf, IsTrue, length, Option, Some, slice_index_or, true};
+ghost use denote.Param.Send.{IsSync};
 ghost use Rattle.dp_base.specs.declared.limits.TheConstants.{MAX_JOURNAL_BYTES};
 ghost use Rattle.dp_base.specs.Counts.{Rose};
 ghost use Rattle.disk_model.specs.History.{History};
@@ -264,7 +265,33 @@ fn run_jobs<R: Threads + Sync, G: Gate + Sync>(
     ensures of_jobs { IfOk result (λ all. (i : ℕ) (e : _) (d : _) → i < length jobs.items →
         IsOfJob (slice_index_or jobs.items i e) (slice_index_or all.items i d)) }
 {
-    thread::map_vec(rt, jobs, &|job| run_job(alloc, file, job, gate))
+    let run = |job: PartJob| -> Result<Option<PartRun>, OutOfMemory>
+        requires { (length file.now ≤ MAX_JOURNAL_BYTES) × IsStretch file.now job.stretch }
+        ensures { IsPartResult file.entry.now result × IsOfJob job result }
+    { run_in_thread(rt, alloc, file, job, gate) };
+    thread::map_vec(rt, jobs, &run)
+}
+
+// Runs a job in a new thread, and waits for it. Whoever starts other threads runs no job: the system may start a thread
+// on the processor of the one that makes it, and there it waits as long as that one runs.
+fn run_in_thread<R: Threads + Sync, G: Gate + Sync>(
+    rt: &R,
+    alloc: Global,
+    file: &[u8],
+    job: PartJob,
+    gate: &G,
+) -> Result<Option<PartRun>, OutOfMemory>
+    requires few { length file.now ≤ MAX_JOURNAL_BYTES }
+    requires is { IsStretch file.now job.stretch }
+    ensures is { IsPartResult file.now result }
+    ensures of_job { IsOfJob job result }
+{
+    let work = move || -> Result<Option<PartRun>, OutOfMemory>
+        requires { IsSync G.row × (length file.now ≤ MAX_JOURNAL_BYTES) × IsStretch file.now job.stretch }
+        ensures { IsPartResult file.entry.now result × IsOfJob job result }
+    { run_job(alloc, file, job, gate) };
+    let (result, ()) = thread::join(rt, work, || {});
+    result
 }
 
 // Takes results in order, up to the first whose start the play doesn't reach.

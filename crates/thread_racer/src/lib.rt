@@ -29,6 +29,7 @@ mod pace;
 mod pass;
 mod pass_part;
 mod round_robin;
+mod side_by_side;
 mod stopped_turns;
 mod stretch;
 mod stretch_course;

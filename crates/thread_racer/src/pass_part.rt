@@ -2,12 +2,13 @@
 ghost use Rattle.std.specs.Prelude.{◌<◌, ◌≤◌};
 
 use crate::noted_words::NotedWords;
+use crate::side_by_side::side_by_side;
 use disk_model::Gate;
 use dp_base::{Mem, OutOfMemory, Tid};
 use guest_kernel::Hart;
 use rv_step::{Stepped, exec};
 use shared_words::{Naming, RacingMem};
-use std::thread::{self, Threads};
+use std::thread::Threads;
 
 // What a thread does in a pass: steps up to its quota, until it stops at a call or a trap, or others are in its way.
 #[derive(Drop)]
@@ -65,7 +66,18 @@ pub(crate) fn race_parts<R: Threads + Sync, G: Gate + Sync, J: Naming + Send + S
     requires { 0 < workers }
 {
     set_workers(parts, workers);
-    thread::for_each_mut(rt, parts, workers as usize, &|_, part| part.run(gate));
+    let each = parts.len().div_ceil(workers as usize).max(1);
+    if parts.len() <= each {
+        run_in_turn(gate, parts);
+    } else {
+        side_by_side(rt, &|some| run_in_turn(gate, some), each, parts);
+    }
+}
+
+fn run_in_turn<G: Gate, J: Naming>(gate: &G, parts: &mut [Part<'_, J>]) {
+    for index in 0..parts.len() {
+        parts[index].run(gate);
+    }
 }
 
 // Each worker has as many parts, the last one fewer.
