@@ -22,6 +22,8 @@ const RACING_WORKERS: u32 = 4;
 fn main(rt: HostRuntime) -> ExitCode {
     let alloc = rt.alloc();
     let mut world = RealWorld::new(rt);
+    let mut files = RealFiles::new(rt);
+    let mut inlet = RealInlet::new(rt);
     let (words, are_text) = match program_words(&rt) {
         Ok(words) => (words, true),
         Err(error) if error.kind() == ErrorKind::OutOfMemory => {
@@ -32,8 +34,6 @@ fn main(rt: HostRuntime) -> ExitCode {
         // No words are no command either.
         Err(_) => (Vec::new(alloc), false),
     };
-    let mut files = RealFiles::new(rt);
-    let mut inlet = RealInlet::new(rt);
     let racer = ThreadRacer::new(RACING_WORKERS);
     let (mut world, status) = run(
         &rt, alloc, &words, &mut files, &mut inlet, world, racer, &OpenGate,
