@@ -71,7 +71,7 @@ fn each_part_is_taken(rt: HostRuntime) -> Result<(), Fail> {
         ("epeeseeseeseeseeseese", 2),
         // The first mark is full.
         ("emeeseeseeseeseeseese", 2),
-        // The page changes twice between the starts, and not before the last mark there.
+        // The first three marks have it, and the fourth is the last between the starts.
         ("epepepeeseeseeseeseeseese", 2),
     ] {
         let journal = partial_journal(alloc, letters.as_bytes())?;
